@@ -1,0 +1,5 @@
+pub mod Re
+pub mod Parts
+pub mod Scan
+pub mod Order
+pub mod Mark

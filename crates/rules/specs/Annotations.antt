@@ -1,0 +1,70 @@
+-- Document 01, "Shape of a line": an annotation is, in this order: `&` optional; analyte number and `@` optional; ion; losses;
+-- isotopes; adduct optional; charge optional; deviation optional; confidence optional. Assumes nothing.
+use Prim.Native.Nat.{ℕ}
+use mathlib.Core.Bool.{Bool, true, false}
+use mathlib.Core.List.{List, [], _++_, map}
+use Rattle.lang.specs.Parts.{Opt, optText, flat}
+use Rattle.rules.specs.Bytes.{bytes}
+use Rattle.rules.specs.Numbers.{digits, From, numberText}
+use Rattle.rules.specs.Decimals.{Decimal, decimalText}
+use Rattle.rules.specs.Formulas.{Written}
+use Rattle.rules.specs.Ions.{Ion, ionText, ionMap}
+use Rattle.rules.specs.Losses.{Loss, lossText, lossMap}
+use Rattle.rules.specs.Isotopes.{Isotopes, isotopesText, isotopesMap}
+use Rattle.rules.specs.Adducts.{Item, adductText, itemMap}
+
+-- 4.3: `/`, optional `-`, decimal, optional `ppm`
+pub record Deviation : Type 0 where
+  pub minus : Bool
+  pub size : Decimal
+  pub ppm : Bool
+
+pub record Annotation (Free : Type 0) : Type 0 where
+  pub marked : Bool
+  pub analyte : Opt ℕ
+  pub ion : Ion Free
+  pub losses : List (Loss Free)
+  pub isotopes : Isotopes Free
+  pub adduct : List (Item Free)
+  pub charge : Opt (From 2)
+  pub deviation : Opt Deviation
+  pub confidence : Opt Decimal
+
+-- there, or not
+abbrev pub flagText : List ℕ → Bool → List ℕ
+flagText w true = w
+flagText w false = []
+
+abbrev pub analyteText : ℕ → List ℕ
+analyteText n = digits n ++ bytes "@"
+
+-- 4.8: `^` and a number of 2 or more
+abbrev pub chargeText : From 2 → List ℕ
+chargeText n = bytes "^" ++ numberText n
+
+abbrev pub deviationText : Deviation → List ℕ
+deviationText d = bytes "/" ++ (flagText (bytes "-") (d .minus) ++ (decimalText (d .size) ++ flagText (bytes "ppm") (d .ppm)))
+
+-- 4.10: `*`, decimal
+abbrev pub confidenceText : Decimal → List ℕ
+confidenceText d = bytes "*" ++ decimalText d
+
+abbrev pub annotationText : Annotation Written → List ℕ
+annotationText a =
+    flagText (bytes "&") (a .marked) ++ (optText analyteText (a .analyte) ++ (ionText (a .ion)
+    ++ (flat lossText (a .losses) ++ (isotopesText (a .isotopes) ++ (adductText (a .adduct)
+    ++ (optText chargeText (a .charge) ++ (optText deviationText (a .deviation) ++ optText confidenceText (a .confidence))))))))
+
+abbrev pub annotationMap : {A B : Type 0} → (A → B) → Annotation A → Annotation B
+annotationMap f a =
+    record {
+      marked = a .marked;
+      analyte = a .analyte;
+      ion = ionMap f (a .ion);
+      losses = map (lossMap f) (a .losses);
+      isotopes = isotopesMap f (a .isotopes);
+      adduct = map (itemMap f) (a .adduct);
+      charge = a .charge;
+      deviation = a .deviation;
+      confidence = a .confidence;
+    }

@@ -1,0 +1,76 @@
+-- Document 01, "Numbers of refusal": what reading and writing answer, and every byte of the output. Assumes nothing.
+use Prim.Native.Nat.{ℕ, _-_, _<_, _≤_}
+use mathlib.Core.Path.{_≡_}
+use mathlib.Core.List.{List, _++_}
+use lib.ListN.{length, replicate}
+use Rattle.lang.specs.Parts.{Opt, silent, written}
+use Rattle.lang.specs.Order.{Each}
+use Rattle.lang.specs.Mark.{Mark, Kept, Wins}
+use Rattle.rules.specs.Lines.{Spelling, lineText, Misshapen}
+use Rattle.rules.specs.Fields.{Table, Says}
+use Rattle.rules.specs.Limits.{maxLine, lineMarks}
+use Rattle.rules.specs.House.{firstBreach, firstExcess}
+use Rattle.rules.specs.Preferred.{preferred}
+use Rattle.rules.specs.Stored.{stored}
+
+-- an answer, with all bytes of the output
+pub record Answer : Type 0 where
+  pub number : ℕ
+  pub place : ℕ
+  pub length : ℕ
+  pub out : List ℕ
+
+-- a refusal: the output holds zeros throughout
+abbrev pub refuses : ℕ → ℕ → ℕ → Answer
+refuses room number place = record { number = number; place = place; length = 0; out = replicate room 0 }
+
+-- 0, done: the result, and zeros after it
+abbrev pub gives : ℕ → List ℕ → Answer
+gives room result = record { number = 0; place = 0; length = length result; out = result ++ replicate (room - length result) 0 }
+
+-- a result, in an output of room bytes: 8, or done
+pub data Delivers (room : ℕ) (result : List ℕ) : Answer → Type 0 where
+  no-room : room < length result → Delivers room result (refuses room 8 (length result))
+  done : length result ≤ room → Delivers room result (gives room result)
+
+-- ---- reading: 1; then 2 or 3; then 4 and 5; then 6; 7; 8
+
+-- of a spelling within the limits and rules for one annotation
+pub data ReadsSum (s : Spelling) (room : ℕ) : Answer → Type 0 where
+  excess : (place : ℕ) → firstExcess 0 0 s ≡ written place → ReadsSum s room (refuses room 7 place)
+  kept : firstExcess 0 0 s ≡ silent → (t : Table) → Each Says s t → {a : Answer} → Delivers room (stored t) a → ReadsSum s room a
+
+-- of a spelling within the limits
+pub data ReadsRules (s : Spelling) (room : ℕ) : Answer → Type 0 where
+  breach : (place : ℕ) → firstBreach 0 s ≡ written place → ReadsRules s room (refuses room 6 place)
+  kept : firstBreach 0 s ≡ silent → {a : Answer} → ReadsSum s room a → ReadsRules s room a
+
+-- of a line with a shape
+pub data ReadsSpelling (s : Spelling) (room : ℕ) : Answer → Type 0 where
+  limit : (m : Mark) → Wins (lineMarks s) m → ReadsSpelling s room (refuses room (m .number) (m .place))
+  kept : Kept (lineMarks s) → {a : Answer} → ReadsRules s room a → ReadsSpelling s room a
+
+pub data Reads (line : List ℕ) (room : ℕ) : Answer → Type 0 where
+  long : maxLine < length line → Reads line room (refuses room 1 maxLine)
+  misshapen : length line ≤ maxLine → {number place : ℕ} → Misshapen line number place → Reads line room (refuses room number place)
+  spelled : length line ≤ maxLine → (s : Spelling) → lineText s ≡ line → {a : Answer} → ReadsSpelling s room a → Reads line room a
+
+-- ---- writing: 9, 1, 8
+
+-- some line, of any length, spells the table within limits and house rules
+pub record Sound (t : Table) : Type 0 where
+  pub spelling : Spelling
+  pub says : Each Says spelling t
+  pub limits : Kept (lineMarks spelling)
+  pub rules : firstBreach 0 spelling ≡ silent
+  pub sum : firstExcess 0 0 spelling ≡ silent
+
+-- stored bytes are a table
+pub record Holds (bytes : List ℕ) (t : Table) : Type 0 where
+  pub sound : Sound t
+  pub is : stored t ≡ bytes
+
+pub data Writes (bytes : List ℕ) (room : ℕ) : Answer → Type 0 where
+  no-table : ((t : Table) → Holds bytes t → ⊥) → Writes bytes room (refuses room 9 0)
+  long : (t : Table) → Holds bytes t → maxLine < length (preferred t) → Writes bytes room (refuses room 1 maxLine)
+  fits : (t : Table) → Holds bytes t → length (preferred t) ≤ maxLine → {a : Answer} → Delivers room (preferred t) a → Writes bytes room a
