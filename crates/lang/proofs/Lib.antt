@@ -12,3 +12,4 @@ pub mod Prefix
 pub mod Names
 pub mod Whole
 pub mod Loop
+pub mod Sort
