@@ -1,13 +1,15 @@
 -- A type X with its text, and a grammar: each x has a tree, and each tree an x, with the same text. Assumes nothing.
-use Prim.Native.Nat.{ℕ}
+use Prim.Native.Nat.{ℕ, _<_}
 use mathlib.Core.Path.{_≡_, refl, sym, ap, ap₂, _∙_, subst}
 use mathlib.Core.Bool.{Bool}
 use mathlib.Core.List.{List, [], _∷_, _++_, append-assoc, append-nil}
 use mathlib.Core.HLevel.{isProp→PathP}
-use lib.Dec.{T, T-prop}
+use lib.Dec.{T, T-prop, ltb, ltb→lt, lt→ltb}
+use lib.ListN.{length}
 use mathlib.Core.Logic.{_⊎_, inl, inr}
 use Rattle.lang.specs.Re.{Rng, rng, inC, Re, eps, cls, seq, alt, star, Byte, Tree, texts, text, either}
-use Rattle.lang.specs.Parts.{Opt, silent, written, optText, flat, Such}
+use Rattle.lang.proofs.Lits.{litRe, lit-tree, lit-text, litsRe, lits-tree, lits-text, lits-back}
+use Rattle.lang.specs.Parts.{Opt, silent, written, optText, flat, Such, Listed, wordOf}
 
 pub record Means (X : Type 0) (tx : X → List ℕ) (r : Re) : Type 0 where
   pub enc : X → Tree r
@@ -95,22 +97,27 @@ module _ {X Y : Type 0} {tx : X → List ℕ} {ty : Y → List ℕ} {r s : Re} (
   abbrev pub means-alt : Means (X ⊎ Y) (either tx ty) (alt r s)
   means-alt = record { enc = alt-enc; enc-text = alt-enc-text; dec = alt-dec; dec-text = alt-dec-text; back = alt-back }
 
--- the lists that pass a test: each has a tree with its text, and each tree's text is one
+-- where no two have the same text, it is enough that each has a tree with its text, and each tree the text of one
+pub means-one : {X : Type 0} {tx : X → List ℕ} {r : Re} → ((x y : X) → tx x ≡ tx y → x ≡ y)
+    → ((x : X) → (t : Tree r) × ((k : List ℕ) → text r t k ≡ tx x ++ k)) → ((t : Tree r) → (x : X) × ((k : List ℕ) → text r t k ≡ tx x ++ k)) → Means X tx r
+means-one {tx = tx} one e d =
+    record {
+      enc = λ x. e x .0;
+      enc-text = λ x. e x .1;
+      dec = λ t. d t .0;
+      dec-text = λ t. d t .1;
+      back = λ x.
+        let t = e x in
+        let y = d (t .0) in
+        one (y .0) x (sym (append-nil (tx (y .0))) ∙ sym (y .1 []) ∙ t .1 [] ∙ append-nil (tx x));
+    }
+
+-- the lists that pass a test
 such-path : {f : List ℕ → Bool} (x y : Such f) → x .bytes ≡ y .bytes → x ≡ y
 such-path {f} x y p = λ i. record { bytes = p i; good = isProp→PathP (λ j. T (f (p j))) (λ j. T-prop (f (p j))) (x .good) (y .good) i }
 
 pub means-such : (f : List ℕ → Bool) (r : Re) → ((l : List ℕ) → T (f l) → (t : Tree r) × ((k : List ℕ) → text r t k ≡ l ++ k)) → ((t : Tree r) → (l : List ℕ) × T (f l) × ((k : List ℕ) → text r t k ≡ l ++ k)) → Means (Such f) (λ x. x .bytes) r
-means-such f r e d =
-    record {
-      enc = λ x. e (x .bytes) (x .good) .0;
-      enc-text = λ x. e (x .bytes) (x .good) .1;
-      dec = λ t. record { bytes = d t .0; good = d t .1 };
-      dec-text = λ t. d t .2;
-      back = λ x.
-          let t = e (x .bytes) (x .good) in
-          such-path (record { bytes = d (t .0) .0; good = d (t .0) .1 }) x
-          (sym (append-nil (d (t .0) .0)) ∙ sym (d (t .0) .2 []) ∙ t .1 [] ∙ append-nil (x .bytes));
-    }
+means-such f r e d = means-one such-path (λ x. e (x .bytes) (x .good)) (λ t. (record { bytes = d t .0; good = d t .1 }, d t .2))
 
 -- two in a row
 module _ {X Y : Type 0} {tx : X → List ℕ} {ty : Y → List ℕ} {r s : Re} (m : Means X tx r) (n : Means Y ty s) where
@@ -135,3 +142,28 @@ module _ {X Y : Type 0} {tx : X → List ℕ} {ty : Y → List ℕ} {r : Re} (m 
         dec-text = λ t k. m .dec-text t k ∙ ap (λ (l : List ℕ). l ++ k) (tg (m .dec t));
         back = λ y. ap g (m .back (f y)) ∙ gf y;
       }
+
+-- a word, which says nothing
+abbrev pub means-word : (w : List ℕ) → Means (Unit {0}) (λ u. w) (litRe w)
+means-word w =
+    record { enc = λ u. lit-tree w .0; enc-text = λ u. lit-tree w .1; dec = λ t. tt; dec-text = λ t. lit-text w t; back = λ u. refl }
+
+-- one of the words of a list
+listed-path : {ws : List (List ℕ)} (x y : Listed ws) → x .which ≡ y .which → x ≡ y
+listed-path {ws} x y p =
+    λ i. record { which = p i; known = isProp→PathP (λ j. T (ltb (p j) (length ws))) (λ j. T-prop (ltb (p j) (length ws))) (x .known) (y .known) i }
+
+pub means-listed : (ws : List (List ℕ)) → Means (Listed ws) wordOf (litsRe ws)
+means-listed ws =
+    record {
+      enc = λ x. lits-tree ws (x .which) (small x) .0;
+      enc-text = λ x. lits-tree ws (x .which) (small x) .1;
+      dec = λ t. found t;
+      dec-text = λ t. lits-text ws t .2;
+      back = λ x. listed-path (found (lits-tree ws (x .which) (small x) .0)) x (lits-back ws (x .which) (small x));
+    }
+  where
+    small : (x : Listed ws) → x .which < length ws
+    small x = ltb→lt (x .which) (length ws) (x .known)
+    found : Tree (litsRe ws) → Listed ws
+    found t = record { which = lits-text ws t .0; known = lt→ltb (lits-text ws t .0) (length ws) (lits-text ws t .1) }

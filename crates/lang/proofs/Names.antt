@@ -22,13 +22,13 @@ cover c f l t b h = by (decLe 256 b)
     by (no g) = either (λ n. absurd (T-not (inC c b) n h)) (λ x. x) (or-e (not (inC c b)) (f b) (all→ (λ b. not (inC c b) || f b) 256 t b (omega arith)))
 
 module _ (p : List Rng) where
-  rest-enc : (w : List ℕ) → T (all p w) → (t : List (Byte p)) × ((k : List ℕ) → texts (text (cls p)) t k ≡ w ++ k)
+  pub rest-enc : (w : List ℕ) → T (all p w) → (t : List (Byte p)) × ((k : List ℕ) → texts (text (cls p)) t k ≡ w ++ k)
   rest-enc [] h = ([], λ k. refl)
   rest-enc (b ∷ w) h =
       let x = rest-enc w (and-1 (inC p b) (all p w) h) in
       (record { val = b; isIn = and-0 (inC p b) (all p w) h } ∷ x .0, λ k. ap (λ (l : List ℕ). b ∷ l) (x .1 k))
 
-  rest-dec : (t : List (Byte p)) → (w : List ℕ) × T (all p w) × ((k : List ℕ) → texts (text (cls p)) t k ≡ w ++ k)
+  pub rest-dec : (t : List (Byte p)) → (w : List ℕ) × T (all p w) × ((k : List ℕ) → texts (text (cls p)) t k ≡ w ++ k)
   rest-dec [] = ([], tt, λ k. refl)
   rest-dec (y ∷ t) = let x = rest-dec t in (y .val ∷ x .0, and-i (inC p (y .val)) (all p (x .0)) (y .isIn) (x .1), λ k. ap (λ (l : List ℕ). y .val ∷ l) (x .2 k))
 

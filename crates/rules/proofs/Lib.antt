@@ -1,1 +1,3 @@
 pub mod TableOf
+pub mod Digits
+pub mod Fractions

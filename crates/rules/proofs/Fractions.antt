@@ -1,0 +1,52 @@
+-- Laws of decimals: the digits after the point, and the number without it. Assumes nothing.
+use Prim.Native.Nat.{ℕ, zero, suc, _+_, _-_, _*_, _/_, _%_, _≤_, _<_}
+use mathlib.Core.Path.{_≡_, refl, sym, ap, ap₂, _∙_}
+use mathlib.Core.Bool.{Bool, true, false}
+use mathlib.Core.List.{List, [], _∷_}
+use native.Mathlib.Omega.{arith}
+use lib.Dec.{T}
+use lib.ListN.{length}
+use Rattle.lang.specs.Re.{inC}
+use Rattle.lang.specs.Parts.{all}
+use Rattle.lang.proofs.Deriv.{and-0, and-1, and-i}
+use Rattle.lang.proofs.Lits.{in→, →in}
+use Rattle.rules.specs.Bytes.{digit}
+use Rattle.rules.specs.Decimals.{whole, lastDigits}
+use Rattle.rules.proofs.Digits.{valueFrom}
+
+-- a number and then digits, without those digits
+pub whole-from : (w : ℕ) (ds : List ℕ) → T (all digit ds) → whole (length ds) (valueFrom w ds) ≡ w
+unfolding whole valueFrom
+whole-from w [] t = refl
+whole-from w (b ∷ ds) t =
+    let g = in→ 48 57 b (and-0 (inC digit b) (all digit ds) t) in
+    ap (λ (x : ℕ). x / 10) (whole-from (w * 10 + (b - 48)) ds (and-1 (inC digit b) (all digit ds) t)) ∙ omega arith
+
+-- and those digits alone
+pub last-from : (w : ℕ) (ds : List ℕ) → T (all digit ds) → lastDigits (length ds) (valueFrom w ds) ≡ ds
+unfolding lastDigits valueFrom
+last-from w [] t = refl
+last-from w (b ∷ ds) t =
+    let g = in→ 48 57 b (and-0 (inC digit b) (all digit ds) t) in
+    let ts = and-1 (inC digit b) (all digit ds) t in
+    let e : 48 + (w * 10 + (b - 48)) % 10 ≡ b = omega arith in
+    ap₂ _∷_ (ap (λ (x : ℕ). 48 + x % 10) (whole-from (w * 10 + (b - 48)) ds ts) ∙ e) (last-from (w * 10 + (b - 48)) ds ts)
+
+-- both together again
+pub value-back : (n v : ℕ) → valueFrom (whole n v) (lastDigits n v) ≡ v
+unfolding whole lastDigits valueFrom
+value-back zero v = refl
+value-back (suc n) v =
+    let e : whole n v / 10 * 10 + (48 + whole n v % 10 - 48) ≡ whole n v = omega arith in
+    ap (λ (x : ℕ). valueFrom x (lastDigits n v)) e ∙ value-back n v
+
+pub last-length : (n v : ℕ) → length (lastDigits n v) ≡ n
+unfolding lastDigits
+last-length zero v = refl
+last-length (suc n) v = ap suc (last-length n v)
+
+pub last-digits : (n v : ℕ) → T (all digit (lastDigits n v))
+unfolding lastDigits
+last-digits zero v = tt
+last-digits (suc n) v =
+    and-i (inC digit (48 + whole n v % 10)) (all digit (lastDigits n v)) (→in 48 57 (48 + whole n v % 10) (omega arith) (omega arith)) (last-digits n v)

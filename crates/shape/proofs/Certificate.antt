@@ -1,0 +1,31 @@
+-- The machine's certificate, computed: each row of its tables leads where the grammar's derivatives do, each class has bytes that
+-- the grammar does not tell apart, each state goes on to some line and has a line's end where the tables say so, and no line has
+-- two trees. Assumes nothing.
+use Prim.Native.Nat.{ℕ}
+use mathlib.Core.Path.{refl}
+use lib.Dec.{T}
+use Rattle.lang.proofs.Machine.{allB, all→}
+use Rattle.lang.proofs.Certify.{Certified, byteT, stateT}
+use Rattle.rules.specs.Elements.{symbols}
+use Rattle.shape.specs.Tables.{states, classes, reps, accepts, words}
+use Rattle.shape.proofs.Grammar.{symbolRe}
+use Rattle.shape.proofs.Machine.{machine}
+use Rattle.shape.proofs.Rows.{all-rows}
+
+all-bytes : T (allB (byteT machine) 256)
+unfolding machine classes reps symbolRe symbols
+all-bytes = tt
+
+all-states : T (allB (stateT machine) states)
+unfolding machine words accepts symbolRe symbols
+all-states = tt
+
+pub certified : Certified machine
+unfolding machine words
+certified =
+    record {
+      rowsOk = all-rows;
+      bytesOk = all→ (byteT machine) 256 all-bytes;
+      statesOk = all→ (stateT machine) states all-states;
+      dead = refl;
+    }

@@ -1,0 +1,9 @@
+pub mod Grammar
+pub mod Machine
+pub mod Rows
+pub mod Certificate
+pub mod MeansNumbers
+pub mod MeansNames
+pub mod MeansParts
+pub mod MeansLine
+pub mod OneSpelling

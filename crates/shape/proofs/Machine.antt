@@ -1,0 +1,9 @@
+-- The scan's tables, as a machine of the grammar. Assumes nothing.
+use mathlib.Core.List.{List, [], _∷_}
+use Rattle.lang.proofs.Certify.{Tables}
+use Rattle.shape.specs.Tables.{states, kinds, classes, reps, rows, accepts, words}
+use Rattle.shape.proofs.Grammar.{lineRe}
+
+unfoldable pub machine : Tables
+machine =
+    record { start = (lineRe ∷ []) ∷ []; words = words; rows = rows; accepts = accepts; classes = classes; reps = reps; states = states; kinds = kinds }

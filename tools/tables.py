@@ -1,0 +1,264 @@
+#!/usr/bin/env python3
+"""Makes the scan's tables from the grammar of a line. Run it at the top of the repository when crates/shape/proofs/Grammar.antt changes:
+
+    python3 tools/tables.py
+
+It writes crates/shape/specs/Tables.antt, crates/shape/proofs/Rows.antt and crates/shape/src/tables.rt. Nothing is trusted of it:
+the check proves that the tables are those of the grammar, and that the grammar is that of the rules. The grammar below has the
+form of Grammar.antt, part by part, since the states are told apart by the stacks of parts that may follow.
+"""
+import functools
+import sys
+
+sys.setrecursionlimit(100000)
+
+# ---- grammars: ('eps',), ('cls', ranges), ('seq', r, s), ('alt', r, s), ('star', r)
+
+EPS = ('eps',)
+
+
+def cls(*ranges):
+    return ('cls', tuple((ord(r[0]), ord(r[-1])) for r in ranges))
+
+
+def seq(r, *rest):
+    return ('seq', r, seq(*rest)) if rest else r
+
+
+def alt(r, *rest):
+    return ('alt', r, alt(*rest)) if rest else r
+
+
+def star(r):
+    return ('star', r)
+
+
+def opt(r):
+    return alt(EPS, r)
+
+
+def some(r):
+    return seq(r, star(r))
+
+
+def word(w):
+    if not w:
+        return EPS
+    return cls(w[0]) if len(w) == 1 else ('seq', cls(w[0]), word(w[1:]))
+
+
+def words(ws):
+    return ('alt', word(ws[0]), words(ws[1:])) if ws else ('cls', ())
+
+
+def head(first, others):
+    return seq(cls(*first), star(cls(*others)))
+
+
+def closed(opening, r, closing):
+    return seq(word(opening), seq(r, word(closing)))
+
+
+SYMBOLS = """H He Li Be B C N O F Ne Na Mg Al Si P S Cl Ar K Ca Sc Ti V Cr Mn Fe Co Ni Cu Zn Ga Ge As Se Br Kr Rb Sr Y Zr Nb Mo Tc Ru
+Rh Pd Ag Cd In Sn Sb Te I Xe Cs Ba La Ce Pr Nd Pm Sm Eu Gd Tb Dy Ho Er Tm Yb Lu Hf Ta W Re Os Ir Pt Au Hg Tl Pb Bi Po At Rn Fr Ra
+Ac Th Pa U Np Pu Am Cm Bk Cf Es Fm Md No Lr Rf Db Sg Bh Hs Mt Ds Rg Cn Nh Fl Mc Lv Ts Og""".split()
+SERIES = 'a b c d v w x y z da db wa wb'.split()
+
+
+def grammar():
+    digit = ['09']
+    number = head(['19'], digit)
+    two = alt(head(['29'], digit), seq(word('1'), head(digit, digit)))
+    nat = alt(word('0'), number)
+    decimal = seq(nat, opt(seq(word('.'), head(digit, digit))))
+    text_byte, name_byte = [' z', '|', '~'], [' Z', '\\', '^~']
+    braces = lambda r: closed('{', r, '}')
+    brackets = lambda r: closed('[', r, ']')
+    text, name = head(text_byte, text_byte), head(name_byte, name_byte)
+    loss_name = head(['AZ', 'az'], name_byte)
+    modification = alt(head([' L', 'NZ', '\\', '^~'], name_byte), seq(word('M'), opt(head([' *', ',', '.Z', '\\', '^~'], name_byte))))
+    symbol = words(SYMBOLS)
+    unit = alt(seq(symbol, opt(number)), brackets(seq(number, symbol, number)))
+    formula = some(unit)
+    ion = alt(
+        seq(words(SERIES), number, opt(braces(text))),
+        seq(word('m'), number, word(':'), number, opt(braces(text))),
+        seq(word('I'), cls('AZ'), opt(brackets(modification))),
+        word('p'),
+        seq(word('r'), brackets(name)),
+        seq(word('_'), braces(text)),
+        seq(word('f'), braces(formula)),
+        seq(word('s'), braces(text)),
+        seq(word('?'), opt(number)))
+    sign = alt(word('-'), word('+'))
+    loss = seq(sign, opt(two), alt(formula, brackets(loss_name)))
+    shift = seq(sign, opt(number), word('i'))
+    specific = seq(shift, number, symbol)
+    isotopes = alt(EPS, shift, seq(shift, word('A')), some(specific))
+    item = seq(sign, opt(number), alt(formula, word('e')))
+    adduct = alt(EPS, closed('[M', some(item), ']'))
+    analyte = seq(nat, word('@'))
+    charge = seq(word('^'), two)
+    deviation = seq(word('/'), opt(word('-')), decimal, opt(word('ppm')))
+    confidence = seq(word('*'), decimal)
+    annotation = seq(opt(word('&')), opt(analyte), ion, star(loss), isotopes, adduct, opt(charge), opt(deviation), opt(confidence))
+    return alt(EPS, seq(annotation, star(seq(word(','), annotation))))
+
+
+# ---- the machine: its states are lists of stacks of grammars
+
+@functools.lru_cache(None)
+def null(r):
+    t = r[0]
+    if t == 'seq':
+        return null(r[1]) and null(r[2])
+    if t == 'alt':
+        return null(r[1]) or null(r[2])
+    return t in ('eps', 'star')
+
+
+def number_nodes(line):
+    """Each grammar a number, so that stacks are compared fast."""
+    ids, nodes = {}, []
+
+    def make(r):
+        key = r if r[0] in ('cls', 'eps') else (r[0],) + tuple(make(x) for x in r[1:])
+        if key not in ids:
+            ids[key] = len(nodes)
+            nodes.append((key, null(r)))
+        return ids[key]
+
+    return make(line), nodes
+
+
+def machine(line):
+    start, nodes = number_nodes(line)
+
+    def edges(r, k):
+        (t, *parts), _ = nodes[r]
+        if t == 'eps':
+            return []
+        if t == 'cls':
+            return [(parts[0], k)]
+        if t == 'seq':
+            return edges(parts[0], (parts[1],) + k) + (edges(parts[1], k) if nodes[parts[0]][1] else [])
+        if t == 'alt':
+            return edges(parts[0], k) + edges(parts[1], k)
+        return edges(parts[0], (r,) + k)
+
+    @functools.lru_cache(None)
+    def stack_edges(k):
+        if not k:
+            return []
+        return edges(k[0], k[1:]) + (stack_edges(k[1:]) if nodes[k[0]][1] else [])
+
+    # bytes that no class of the grammar tells apart
+    ranges = sorted({key[1] for key, _ in nodes if key[0] == 'cls'})
+    columns, classes, reps = {}, [], []
+    for b in range(256):
+        column = tuple(any(lo <= b <= hi for lo, hi in c) for c in ranges)
+        if column not in columns:
+            columns[column] = len(reps)
+            reps.append(b)
+        classes.append(columns[column])
+
+    states, paths, index, rows, i = [((start,),)], [()], {((start,),): 0}, [], 0
+    while i < len(states):
+        out = [e for k in states[i] for e in stack_edges(k)]
+        row = []
+        for b in reps:
+            to = tuple(k for c, k in out if any(lo <= b <= hi for lo, hi in c))
+            if to and to not in index:
+                index[to] = len(states)
+                states.append(to)
+                paths.append(paths[i] + (b,))
+            row.append(index[to] if to else None)
+        rows.append(row)
+        i += 1
+    dead = len(states)
+    rows = [[dead if q is None else q for q in row] for row in rows]
+    accepts = [int(any(all(nodes[r][1] for r in k) for k in s)) for s in states]
+    return classes, reps, rows, accepts, paths
+
+
+# ---- what is written
+
+def antt_list(xs):
+    return ' ∷ '.join([str(x) for x in xs] + ['[]'])
+
+
+def antt_wrapped(xs, width=30):
+    return '\n    ∷ '.join([' ∷ '.join(map(str, xs[i:i + width])) for i in range(0, len(xs), width)] + ['[]'])
+
+
+def antt_lists(xss):
+    return '\n    ∷ '.join([f'({antt_list(xs)})' for xs in xss] + ['[]'])
+
+
+def rt_wrapped(xs, width=30):
+    return ',\n    '.join(', '.join(map(str, xs[i:i + width])) for i in range(0, len(xs), width))
+
+
+HALF = 115
+CHUNK = 24
+
+
+def tables_antt(classes, reps, rows, accepts, paths):
+    named = [
+        ('the class of each byte', 'classes', 'List ℕ', antt_wrapped(classes)),
+        ('a byte of each class', 'reps', 'List ℕ', antt_wrapped(reps)),
+        ('for each state the state that each class leads to', 'rows', 'List (List ℕ)', antt_lists(rows)),
+        ('1 for each state in which a line may end', 'accepts', 'List ℕ', antt_wrapped(accepts)),
+        ('for each state a word that leads to it', 'words', 'List (List ℕ)', antt_lists(paths)),
+    ]
+    out = ['-- The scan\'s tables. Made by tools/tables.py; nothing is trusted of it: proofs/Certificate.antt tests them. Assumes nothing.',
+           'use Prim.Native.Nat.{ℕ}', 'use mathlib.Core.List.{List, [], _∷_}', '',
+           'abbrev pub states : ℕ', f'states = {len(rows)}', '', 'abbrev pub kinds : ℕ', f'kinds = {len(reps)}', '',
+           '-- the rows of the first of two tables', 'abbrev pub half : ℕ', f'half = {HALF}']
+    for comment, name, kind, value in named:
+        out += ['', f'-- {comment}', f'unfoldable pub {name} : {kind}', f'{name} =', f'    {value}']
+    return '\n'.join(out) + '\n'
+
+
+def rows_antt(rows):
+    n = len(rows)
+    starts = range(0, n, CHUNK)
+    out = ['-- The rows of the machine, each tested: in chunks, since a test has its step limit. Made by tools/tables.py. Assumes nothing.',
+           'use Prim.Native.Nat.{ℕ, _+_}', 'use mathlib.Core.Bool.{Bool}', 'use lib.Dec.{T}',
+           'use Rattle.lang.proofs.Machine.{allB}', 'use Rattle.lang.proofs.Certify.{rowT, Below, none-yet, chunk}',
+           'use Rattle.rules.specs.Elements.{symbols}',
+           'use Rattle.shape.specs.Tables.{classes, reps, rows, words, states}',
+           'use Rattle.shape.proofs.Grammar.{symbolRe}',
+           'use Rattle.shape.proofs.Machine.{machine}', '',
+           'row : ℕ → Bool', 'unfolding machine', 'row q = rowT machine q']
+    for a in starts:
+        out += ['', f'rows{a} : T (allB (λ i. row ({a} + i)) {min(CHUNK, n - a)})', 'unfolding row machine words rows classes reps symbolRe symbols', f'rows{a} = tt']
+    term = 'none-yet row'
+    for a in starts:
+        term = f'chunk row {a} {min(CHUNK, n - a)} ({term}) rows{a}'
+    out += ['', 'pub all-rows : Below (rowT machine) states', 'unfolding row machine', f'all-rows = {term}']
+    return '\n'.join(out) + '\n'
+
+
+def tables_rt(classes, rows, accepts):
+    flat = [q for row in rows for q in row]
+    cut = HALF * len(rows[0])
+    named = [('The class of each byte.', 'CLASS', classes), ('The state that each class leads to, for the first states.', 'FIRST', flat[:cut]),
+             ('The same for the others.', 'OTHER', flat[cut:]), ('1 for each state in which a line may end.', 'ACCEPT', accepts)]
+    out = ['// The scan\'s tables. Made by tools/tables.py; nothing is trusted of it.']
+    for comment, name, xs in named:
+        out += ['', f'// {comment}', f'pub const {name}: [u8; {len(xs)}] = [', f'    {rt_wrapped(xs)},', '];']
+    return '\n'.join(out) + '\n'
+
+
+def main():
+    classes, reps, rows, accepts, paths = machine(grammar())
+    for path, text in [('crates/shape/specs/Tables.antt', tables_antt(classes, reps, rows, accepts, paths)),
+                       ('crates/shape/proofs/Rows.antt', rows_antt(rows)), ('crates/shape/src/tables.rt', tables_rt(classes, rows, accepts))]:
+        with open(path, 'w', encoding='utf-8') as f:
+            f.write(text)
+    print(f'{len(rows)} states, {len(reps)} classes')
+
+
+if __name__ == '__main__':
+    main()
