@@ -12,4 +12,8 @@ pub mod Prefix
 pub mod Names
 pub mod Whole
 pub mod Loop
+pub mod Tests
 pub mod Sort
+pub mod Lex
+pub mod Winner
+pub mod OneStray

@@ -1,3 +1,19 @@
-pub mod TableOf
+-- Laws of the rules.
 pub mod Digits
 pub mod Fractions
+pub mod Shortened
+pub mod TableOf
+pub mod Meant
+pub mod PreferredSpells
+pub mod Keys
+pub mod OneLost
+pub mod Anti
+pub mod OneTable
+pub mod OneShape
+pub mod OneAnswer
+pub mod OneWriting
+pub mod Totals
+pub mod Keeps
+pub mod Bounds
+pub mod Lengths
+pub mod Sizes

@@ -1,9 +1,7 @@
 -- The table of a spelling, as a function: its losses and adduct items sorted. Assumes nothing.
-use Prim.Native.Nat.{ℕ}
-use mathlib.Core.List.{List, map}
+use mathlib.Core.List.{map}
 use Rattle.lang.proofs.Sort.{sorted}
 use Rattle.rules.specs.Numbers.{Number}
-use Rattle.rules.specs.Formulas.{Written}
 use Rattle.rules.specs.Annotations.{Annotation, annotationMap}
 use Rattle.rules.specs.Lines.{Spelling}
 use Rattle.rules.specs.Preferred.{lossLe, itemLe}

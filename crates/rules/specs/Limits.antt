@@ -135,9 +135,11 @@ abbrev pub lostPart : Lost Written → Part
 lostPart (lost-formula f) = formulaPart f
 lostPart (lost-name n) = closedPart bracketText n
 
+abbrev pub lossParts : Loss Written → List Part
+lossParts l = bare (signText (l .sign)) ∷ optPart (numberPart maxCount) (l .count) ∷ lostPart (l .what) ∷ []
+
 abbrev pub lossMarks : ℕ → Loss Written → ℕ → List Mark
-lossMarks i l at =
-    manyMark maxLosses i at ∷ marksOf at (bare (signText (l .sign)) ∷ optPart (numberPart maxCount) (l .count) ∷ lostPart (l .what) ∷ [])
+lossMarks i l at = manyMark maxLosses i at ∷ marksOf at (lossParts l)
 
 abbrev pub shiftMarks : Shift Written → ℕ → List Mark
 shiftMarks x at = marksOf at (bare (signText (x .sign)) ∷ optPart (numberPart maxCount) (x .count) ∷ [])
@@ -156,9 +158,11 @@ abbrev pub addedPart : Added Written → Part
 addedPart (added-formula f) = formulaPart f
 addedPart electron = bare (addedText electron)
 
+abbrev pub itemParts : Item Written → List Part
+itemParts x = bare (signText (x .sign)) ∷ optPart (numberPart maxCount) (x .count) ∷ addedPart (x .what) ∷ []
+
 abbrev pub itemMarks : ℕ → Item Written → ℕ → List Mark
-itemMarks i x at =
-    manyMark maxItems i at ∷ marksOf at (bare (signText (x .sign)) ∷ optPart (numberPart maxCount) (x .count) ∷ addedPart (x .what) ∷ [])
+itemMarks i x at = manyMark maxItems i at ∷ marksOf at (itemParts x)
 
 abbrev pub adductMarks : List (Item Written) → ℕ → List Mark
 adductMarks xs at = marksOf at (bare (bytes "[M") ∷ rowPart itemText itemMarks xs ∷ [])
@@ -175,14 +179,15 @@ deviationPart d = part (deviationText d) (λ at. marksOf at (bare (bytes "/") �
 abbrev pub confidencePart : Decimal → Part
 confidencePart d = part (confidenceText d) (λ at. decimalMark d (at + 1))
 
-abbrev pub annotationMarks : ℕ → Annotation Written → ℕ → List Mark
-annotationMarks i a at =
-    manyMark maxAnnotations i at
-    ∷ marksOf at
-    (bare (flagText (bytes "&") (a .marked)) ∷ optPart analytePart (a .analyte) ∷ part (ionText (a .ion)) (λ at. marksOf at (ionParts (a .ion)))
+abbrev pub annotationParts : Annotation Written → List Part
+annotationParts a =
+    bare (flagText (bytes "&") (a .marked)) ∷ optPart analytePart (a .analyte) ∷ part (ionText (a .ion)) (λ at. marksOf at (ionParts (a .ion)))
     ∷ rowPart lossText lossMarks (a .losses) ∷ part (isotopesText (a .isotopes)) (isotopesMarks (a .isotopes))
     ∷ part (adductText (a .adduct)) (adductMarks (a .adduct)) ∷ optPart chargePart (a .charge) ∷ optPart deviationPart (a .deviation)
-    ∷ optPart confidencePart (a .confidence) ∷ [])
+    ∷ optPart confidencePart (a .confidence) ∷ []
+
+abbrev pub annotationMarks : ℕ → Annotation Written → ℕ → List Mark
+annotationMarks i a at = manyMark maxAnnotations i at ∷ marksOf at (annotationParts a)
 
 -- an annotation after the first stands behind its comma
 abbrev pub nextMarks : ℕ → Annotation Written → ℕ → List Mark

@@ -202,5 +202,8 @@ counts at (s ∷ ss) = u16 (s .count) ∷ u16 at ∷ counts (at + length (s .byt
 abbrev pub body : List (Annotation Number) → List ℕ
 body t = flat (λ s. s .bytes) (sections t)
 
+abbrev pub header : List (Annotation Number) → List Field
+header t = u16 edition ∷ u16 (headerSize + length (body t)) ∷ counts headerSize (sections t)
+
 abbrev pub stored : List (Annotation Number) → List ℕ
-stored t = stores (u16 edition ∷ u16 (headerSize + length (body t)) ∷ counts headerSize (sections t)) ++ body t
+stored t = stores (header t) ++ body t

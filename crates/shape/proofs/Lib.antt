@@ -7,3 +7,5 @@ pub mod MeansNames
 pub mod MeansParts
 pub mod MeansLine
 pub mod OneSpelling
+pub mod Cells
+pub mod Unambiguous

@@ -1,1 +1,3 @@
 pub mod Tables
+pub mod Steps
+pub mod Verdicts

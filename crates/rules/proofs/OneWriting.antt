@@ -1,0 +1,32 @@
+-- Document 01, "Numbers of refusal": writing has one answer, if stored bytes are one table. Assumes nothing.
+use Prim.Native.Nat.{ℕ, _<_, _≤_}
+use mathlib.Core.Path.{_≡_, refl, sym, ap, _∙_, subst}
+use mathlib.Core.List.{List}
+use native.Mathlib.Omega.{arith}
+use lib.ListN.{length}
+use Rattle.rules.specs.Fields.{Table}
+use Rattle.rules.specs.Limits.{maxLine}
+use Rattle.rules.specs.Preferred.{preferred}
+use Rattle.rules.specs.Stored.{stored}
+use Rattle.rules.specs.Answers.{Answer, Delivers, Sound, Holds, Writes, no-table, long, fits}
+use Rattle.rules.proofs.OneAnswer.{delivers-one}
+
+-- a line is not too long and short enough
+one-size : {t u : Table} → t ≡ u → maxLine < length (preferred t) → length (preferred u) ≤ maxLine → ⊥
+one-size e h g = let p = ap (λ (x : Table). length (preferred x)) e in omega arith
+
+module _ (one-stored : (t u : Table) → Sound t → Sound u → stored t ≡ stored u → t ≡ u) where
+  pub holds-one : {bytes : List ℕ} {t u : Table} → Holds bytes t → Holds bytes u → t ≡ u
+  holds-one {t = t} {u = u} h g = one-stored t u (h .sound) (g .sound) (h .is ∙ sym (g .is))
+
+  pub writes-one : {bytes : List ℕ} {room : ℕ} {a b : Answer} → Writes bytes room a → Writes bytes room b → a ≡ b
+  writes-one (no-table n) (no-table m) = refl
+  writes-one (no-table n) (long u g k) = absurd (n u g)
+  writes-one (no-table n) (fits u g k y) = absurd (n u g)
+  writes-one (long t h l) (no-table m) = absurd (m t h)
+  writes-one (long t h l) (long u g k) = refl
+  writes-one (long t h l) (fits u g k y) = absurd (one-size (holds-one h g) l k)
+  writes-one (fits t h l x) (no-table m) = absurd (m t h)
+  writes-one (fits t h l x) (long u g k) = absurd (one-size (holds-one g h) k l)
+  writes-one {room = room} {b = b} (fits t h l x) (fits u g k y) =
+      delivers-one x (subst (λ (z : Table). Delivers room (preferred z) b) (holds-one g h) y)
