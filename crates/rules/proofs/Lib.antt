@@ -17,3 +17,4 @@ pub mod Keeps
 pub mod Bounds
 pub mod Lengths
 pub mod Sizes
+pub mod worked

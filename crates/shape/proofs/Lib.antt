@@ -9,3 +9,5 @@ pub mod MeansLine
 pub mod OneSpelling
 pub mod Cells
 pub mod Unambiguous
+pub mod Walks
+pub mod Scans

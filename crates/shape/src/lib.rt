@@ -2,7 +2,7 @@
 ghost use mathlib.Core.Path.{_≡_};
 ghost use Prim.Native.Nat.{_<_};
 ghost use Rattle.shape.specs.Tables.{states};
-ghost use Rattle.shape.specs.Steps.{step, accepting};
+ghost use Rattle.shape.specs.Steps.{step, accepting, standing, taken, verdictOf};
 ghost use Rattle.shape.specs.Verdicts.{JudgedBy};
 
 mod tables;
@@ -40,22 +40,64 @@ fn accepts(q: usize) -> bool
     ACCEPT[q] == 1
 }
 
+// How far a scan has come, after some bytes of a line, which may come in parts: the machine's state, and how many bytes begin a shape.
+pub struct Progress {
+    pub state: usize,
+    pub at: usize,
+}
+
+impl Progress {
+    // Before the first byte of a line.
+    pub fn begin() -> Progress
+        ensures { λ r. ⌜ r ≡ standing 0 0 ⌝ }
+    {
+        Progress { state: 0, at: 0 }
+    }
+
+    // After a further part of the line.
+    pub fn over(self, part: &[u8]) -> Progress
+        ensures { λ r. ⌜ r ≡ taken self (now (part .entry)) ⌝ }
+    {
+        let start = self.at;
+        let mut q = self.state;
+        if q >= 230 {
+            return self;
+        }
+        // A place past the last usize could not be told.
+        if usize::MAX - start < part.len() {
+            return self;
+        }
+        let mut i: usize = 0;
+        while i < part.len() {
+            q = next(q, part[i]);
+            if q == 230 {
+                return Progress { state: 230, at: start + i };
+            }
+            i += 1;
+        }
+        Progress { state: q, at: start + i }
+    }
+
+    // The verdict, where the line ends here.
+    pub fn verdict(self) -> Verdict
+        ensures { λ r. ⌜ r ≡ verdictOf self ⌝ }
+    {
+        let q = self.state;
+        if q >= 230 {
+            return Verdict::Stray(self.at);
+        }
+        if accepts(q) {
+            return Verdict::Fine;
+        }
+        Verdict::Short
+    }
+}
+
 // The shape of a line of any bytes and any length.
 pub fn scan(line: &[u8]) -> Verdict
     ensures { λ r. ⌜ JudgedBy (now (line .entry)) r ⌝ }
 {
-    let mut q: usize = 0;
-    let mut i: usize = 0;
-    while i < line.len() {
-        q = next(q, line[i]);
-        if q == 230 {
-            return Verdict::Stray(i);
-        }
-        i += 1;
-    }
-    if accepts(q) {
-        Verdict::Fine
-    } else {
-        Verdict::Short
-    }
+    let begun = Progress::begin();
+    let whole = begun.over(line);
+    whole.verdict()
 }

@@ -1,0 +1,9 @@
+pub mod Spell
+pub mod Row
+pub mod Ions
+pub mod Losses
+pub mod Others
+pub mod Several
+pub mod Symbols
+pub mod Classes
+pub mod Bounds
