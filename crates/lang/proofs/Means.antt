@@ -107,9 +107,9 @@ means-one {tx = tx} one e d =
       dec = λ t. d t .0;
       dec-text = λ t. d t .1;
       back = λ x.
-        let t = e x in
-        let y = d (t .0) in
-        one (y .0) x (sym (append-nil (tx (y .0))) ∙ sym (y .1 []) ∙ t .1 [] ∙ append-nil (tx x));
+          let t = e x in
+          let y = d (t .0) in
+          one (y .0) x (sym (append-nil (tx (y .0))) ∙ sym (y .1 []) ∙ t .1 [] ∙ append-nil (tx x));
     }
 
 -- the lists that pass a test
@@ -165,5 +165,6 @@ means-listed ws =
   where
     small : (x : Listed ws) → x .which < length ws
     small x = ltb→lt (x .which) (length ws) (x .known)
+
     found : Tree (litsRe ws) → Listed ws
     found t = record { which = lits-text ws t .0; known = lt→ltb (lits-text ws t .0) (length ws) (lits-text ws t .1) }

@@ -59,17 +59,17 @@ means-annotation =
     (means-pair means-isotopes (means-pair means-adduct (means-pair (means-opt means-charge) (means-pair (means-opt means-deviation) (means-opt means-confidence)))))))))
     (λ a. (a .marked, (a .analyte, (a .ion, (a .losses, (a .isotopes, (a .adduct, (a .charge, (a .deviation, a .confidence)))))))))
     (λ p.
-      record {
-        marked = p .0;
-        analyte = p .1 .0;
-        ion = p .1 .1 .0;
-        losses = p .1 .1 .1 .0;
-        isotopes = p .1 .1 .1 .1 .0;
-        adduct = p .1 .1 .1 .1 .1 .0;
-        charge = p .1 .1 .1 .1 .1 .1 .0;
-        deviation = p .1 .1 .1 .1 .1 .1 .1 .0;
-        confidence = p .1 .1 .1 .1 .1 .1 .1 .1;
-      })
+    record {
+      marked = p .0;
+      analyte = p .1 .0;
+      ion = p .1 .1 .0;
+      losses = p .1 .1 .1 .0;
+      isotopes = p .1 .1 .1 .1 .0;
+      adduct = p .1 .1 .1 .1 .1 .0;
+      charge = p .1 .1 .1 .1 .1 .1 .0;
+      deviation = p .1 .1 .1 .1 .1 .1 .1 .0;
+      confidence = p .1 .1 .1 .1 .1 .1 .1 .1;
+    })
     (λ a. refl) (λ a. refl) (λ p. refl)
 
 means-next : Means (Annotation Written) nextText nextRe

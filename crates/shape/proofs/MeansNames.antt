@@ -66,10 +66,10 @@ no-sign : (a : ℕ) (v : List ℕ) → T (inC nameByte a) → T (not (plusOrMinu
 no-sign a v i n =
     either
     (λ s.
-      absurd
-      (T-not (plusOrMinus (a ∷ v)) n
-      (either (λ p. or-l (eqb 43 a && true) (eqb 45 a && true) (and-i (eqb 43 a) true p tt)) (λ m. or-r (eqb 43 a && true) (eqb 45 a && true) (and-i (eqb 45 a) true m tt))
-      (or-e (eqb 43 a) (eqb 45 a) s))))
+    absurd
+    (T-not (plusOrMinus (a ∷ v)) n
+    (either (λ p. or-l (eqb 43 a && true) (eqb 45 a && true) (and-i (eqb 43 a) true p tt)) (λ m. or-r (eqb 43 a && true) (eqb 45 a && true) (and-i (eqb 45 a) true m tt))
+    (or-e (eqb 43 a) (eqb 45 a) s))))
     (λ y. y)
     (or-e (eqb 43 a || eqb 45 a) (inC notSign a) (cover nameByte (λ z. (eqb 43 z || eqb 45 z) || inC notSign z) tt tt a i))
 
@@ -101,8 +101,10 @@ modification-enc (b ∷ w) g = by (decT (eqb 77 b))
   where
     p : T (all nameByte (b ∷ w))
     p = and-0 (all nameByte (b ∷ w)) (not (Adduct b w)) g
+
     n : T (Adduct b w) → ⊥
     n = T-not (Adduct b w) (and-1 (all nameByte (b ∷ w)) (not (Adduct b w)) g)
+
     by : T (eqb 77 b) ⊎ T (not (eqb 77 b)) → Has modificationRe (b ∷ w)
     by (inl m) =
         let x = after-enc w (and-1 (inC nameByte b) (all nameByte w) p) (not-T (plusOrMinus w) (λ s. n (after-M (eqb 77 b) (startsWith (bytes "+") w) (startsWith (bytes "-") w) m s))) in
@@ -115,22 +117,24 @@ modification-dec : (t : Tree modificationRe) → Gives isModification modificati
 modification-dec (inl t) =
     let x = head-dec nameByte notM (cover notM (inC nameByte) tt tt) t in
     let b = x .0 in
-    let w = x .1 in
-    (b ∷ w,
-     and-i (all nameByte (b ∷ w)) (not (Adduct b w)) (x .2)
-     (not-T (Adduct b w) (λ a. T-not (eqb 77 b) (cover notM (λ z. not (eqb 77 z)) tt tt b (x .3)) (begins-M (eqb 77 b) (startsWith (bytes "+") w) (startsWith (bytes "-") w) a .0))),
-     x .4)
+    let w = x .1 in (
+      b ∷ w,
+      and-i (all nameByte (b ∷ w)) (not (Adduct b w)) (x .2)
+          (not-T (Adduct b w) (λ a. T-not (eqb 77 b) (cover notM (λ z. not (eqb 77 z)) tt tt b (x .3)) (begins-M (eqb 77 b) (startsWith (bytes "+") w) (startsWith (bytes "-") w) a .0))),
+      x .4,
+    )
 modification-dec (inr (m, inl u)) = (77 ∷ [], tt, λ k. ap (λ (x : ℕ). x ∷ k) (one-eq 77 (m .val) (m .isIn)))
 modification-dec (inr (m, inr t)) =
     let x = head-dec nameByte notSign (cover notSign (inC nameByte) tt tt) t in
-    let a = x .0 in
-    (77 ∷ a ∷ x .1,
-     and-i (all nameByte (a ∷ x .1)) (not (plusOrMinus (a ∷ x .1))) (x .2)
-     (not-T (plusOrMinus (a ∷ x .1))
-     (λ s.
-       T-not (eqb 43 a || eqb 45 a) (cover notSign (λ z. not (eqb 43 z || eqb 45 z)) tt tt a (x .3))
-       (either (λ p. or-l (eqb 43 a) (eqb 45 a) (and-0 (eqb 43 a) true p)) (λ q. or-r (eqb 43 a) (eqb 45 a) (and-0 (eqb 45 a) true q)) (or-e (eqb 43 a && true) (eqb 45 a && true) s)))),
-     λ k. ap₂ _∷_ (one-eq 77 (m .val) (m .isIn)) (x .4 k))
+    let a = x .0 in (
+      77 ∷ a ∷ x .1,
+      and-i (all nameByte (a ∷ x .1)) (not (plusOrMinus (a ∷ x .1))) (x .2)
+          (not-T (plusOrMinus (a ∷ x .1))
+          (λ s.
+          T-not (eqb 43 a || eqb 45 a) (cover notSign (λ z. not (eqb 43 z || eqb 45 z)) tt tt a (x .3))
+          (either (λ p. or-l (eqb 43 a) (eqb 45 a) (and-0 (eqb 43 a) true p)) (λ q. or-r (eqb 43 a) (eqb 45 a) (and-0 (eqb 45 a) true q)) (or-e (eqb 43 a && true) (eqb 45 a && true) s)))),
+      λ k. ap₂ _∷_ (one-eq 77 (m .val) (m .isIn)) (x .4 k),
+    )
 
 pub means-modification : Means Modification (λ x. x .bytes) modificationRe
 means-modification = means-such isModification modificationRe modification-enc modification-dec

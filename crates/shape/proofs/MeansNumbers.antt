@@ -60,9 +60,11 @@ number-dec : (t : Tree numberRe) → Number-of 1 numberRe t
 number-dec t =
     let x = head-dec digit one-nine one-nine-digit t in
     let g = in→ 49 57 (x .0) (x .3) in
-    let n = valueFrom (x .0 - 48) (x .1) in
-    (n, le-trans (omega arith) (value-le (x .0 - 48) (x .1)),
-     as-digits n (x .0 ∷ x .1) (read-back (x .0) (x .1) (g .0) (g .1) (and-1 (inC digit (x .0)) (all digit (x .1)) (x .2))) (x .4))
+    let n = valueFrom (x .0 - 48) (x .1) in (
+      n,
+      le-trans (omega arith) (value-le (x .0 - 48) (x .1)),
+      as-digits n (x .0 ∷ x .1) (read-back (x .0) (x .1) (g .0) (g .1) (and-1 (inC digit (x .0)) (all digit (x .1)) (x .2))) (x .4),
+    )
 
 pub means-number : Means Number numberText numberRe
 means-number = means-from 1 numberRe number-enc number-dec
@@ -89,9 +91,10 @@ two-pick n b [] p h i a (no g) =
 two-pick n b (d ∷ w) p h i a (no g) =
     let q = in→ 49 57 b i in
     let e : b ≡ 49 = omega arith in
-    let x = head-enc digit digit d w (and-0 (inC digit d) (all digit w) a) (and-1 (inC digit d) (all digit w) a) in
-    (inr (record { val = 49; isIn = tt }, x .0),
-     as-digits n (49 ∷ d ∷ w) (p ∙ ap (λ (x : ℕ). x ∷ d ∷ w) e) (λ k. ap (λ (l : List ℕ). 49 ∷ l) (x .1 k)))
+    let x = head-enc digit digit d w (and-0 (inC digit d) (all digit w) a) (and-1 (inC digit d) (all digit w) a) in (
+      inr (record { val = 49; isIn = tt }, x .0),
+      as-digits n (49 ∷ d ∷ w) (p ∙ ap (λ (x : ℕ). x ∷ d ∷ w) e) (λ k. ap (λ (l : List ℕ). 49 ∷ l) (x .1 k)),
+    )
 
 two-enc : (n : ℕ) → 2 ≤ n → Tree-of twoRe n
 two-enc n h =
@@ -106,14 +109,18 @@ two-dec : (t : Tree twoRe) → Number-of 2 twoRe t
 two-dec (inl t) =
     let x = head-dec digit two-nine two-nine-digit t in
     let g = in→ 50 57 (x .0) (x .3) in
-    let n = valueFrom (x .0 - 48) (x .1) in
-    (n, le-trans (omega arith) (value-le (x .0 - 48) (x .1)),
-     as-digits n (x .0 ∷ x .1) (read-back (x .0) (x .1) (omega arith) (g .1) (and-1 (inC digit (x .0)) (all digit (x .1)) (x .2))) (x .4))
+    let n = valueFrom (x .0 - 48) (x .1) in (
+      n,
+      le-trans (omega arith) (value-le (x .0 - 48) (x .1)),
+      as-digits n (x .0 ∷ x .1) (read-back (x .0) (x .1) (omega arith) (g .1) (and-1 (inC digit (x .0)) (all digit (x .1)) (x .2))) (x .4),
+    )
 two-dec (inr (o, t)) =
     let x = head-dec digit digit (λ b i. i) t in
-    let n = valueFrom 1 (x .0 ∷ x .1) in
-    (n, ten-more (x .0) (x .1),
-     as-digits n (49 ∷ x .0 ∷ x .1) (read-back 49 (x .0 ∷ x .1) (omega arith) (omega arith) (x .2)) (λ k. ap₂ _∷_ (one-eq 49 (o .val) (o .isIn)) (x .4 k)))
+    let n = valueFrom 1 (x .0 ∷ x .1) in (
+      n,
+      ten-more (x .0) (x .1),
+      as-digits n (49 ∷ x .0 ∷ x .1) (read-back 49 (x .0 ∷ x .1) (omega arith) (omega arith) (x .2)) (λ k. ap₂ _∷_ (one-eq 49 (o .val) (o .isIn)) (x .4 k)),
+    )
 
 pub means-two : Means (From 2) numberText twoRe
 means-two = means-from 2 twoRe two-enc two-dec

@@ -100,9 +100,17 @@ means-ion =
     ion-to ion-from
     (elim [ series s n t ↦ refl | internal m n t ↦ refl | immonium a m ↦ refl | precursor ↦ refl | reference n ↦ refl | named t ↦ refl | composed f ↦ refl | smiles t ↦ refl | unknown n ↦ refl ])
     (elim [ series s n t ↦ refl | internal m n t ↦ refl | immonium a m ↦ refl | precursor ↦ refl | reference n ↦ refl | named t ↦ refl | composed f ↦ refl | smiles t ↦ refl | unknown n ↦ refl ])
-    (elim [ inl p ↦ refl | inr (inl p) ↦ refl | inr (inr (inl p)) ↦ refl | inr (inr (inr (inl p))) ↦ refl | inr (inr (inr (inr (inl p)))) ↦ refl
-    | inr (inr (inr (inr (inr (inl p))))) ↦ refl | inr (inr (inr (inr (inr (inr (inl p)))))) ↦ refl | inr (inr (inr (inr (inr (inr (inr (inl p))))))) ↦ refl
-    | inr (inr (inr (inr (inr (inr (inr (inr p))))))) ↦ refl ])
+    (elim [
+      | inl p ↦ refl
+      | inr (inl p) ↦ refl
+      | inr (inr (inl p)) ↦ refl
+      | inr (inr (inr (inl p))) ↦ refl
+      | inr (inr (inr (inr (inl p)))) ↦ refl
+      | inr (inr (inr (inr (inr (inl p))))) ↦ refl
+      | inr (inr (inr (inr (inr (inr (inl p)))))) ↦ refl
+      | inr (inr (inr (inr (inr (inr (inr (inl p))))))) ↦ refl
+      | inr (inr (inr (inr (inr (inr (inr (inr p))))))) ↦ refl
+    ])
 
 -- ---- losses
 

@@ -67,10 +67,13 @@ module _ (line : List ℕ) (bytes : (i : ℕ) → i < length line → getD line 
     where
       h : i < length line
       h = inside i b w e (decLe (length line) i)
+
       t : drop (i + 1) line ≡ w
       t = tail-eq-of-cons-eq (sym (from-byte line i h) ∙ e)
+
       p : step q b ≡ step q (getD line i 0)
       p = ap (step q) (sym (head-eq-of-cons-eq (sym (from-byte line i h) ∙ e)))
+
       by : ((q′ : ℕ) → Reads q′ (i + 1) → JudgedBy line (verdictOf (run q′ (i + 1) w))) → Dec (step q b ≡ states) → JudgedBy line (verdictOf (run q i (b ∷ w)))
       by ih (yes d) =
           subst (λ (s : Progress). JudgedBy line (verdictOf s)) (sym (run-stops q i b w d))

@@ -70,9 +70,9 @@ module _ {part : List ℕ} {start q₀ : ℕ} where
           inside = omega arith;
           room = w .room;
           same =
-            one-more ∙ run-on q (start + i) (getD part i 0) (drop (i + 1) part) (λ x. n (p ∙ x))
-            ∙ ap (λ (s : ℕ). run s (start + i + 1) (drop (i + 1) part)) (sym p)
-            ∙ ap (λ (m : ℕ). run q′ m (drop (i + 1) part)) e;
+              one-more ∙ run-on q (start + i) (getD part i 0) (drop (i + 1) part) (λ x. n (p ∙ x))
+              ∙ ap (λ (s : ℕ). run s (start + i + 1) (drop (i + 1) part)) (sym p)
+              ∙ ap (λ (m : ℕ). run q′ m (drop (i + 1) part)) e;
         }
 
   pub ends : {q i : ℕ} → Walking part start q₀ q i → length part ≤ i → run q₀ start part ≡ standing q (start + i)

@@ -7,7 +7,10 @@ ghost use Rattle.shape.specs.Verdicts.{JudgedBy};
 
 mod tables;
 
-use crate::tables::{ACCEPT, CLASS, FIRST, OTHER};
+use crate::tables::ACCEPT;
+use crate::tables::CLASS;
+use crate::tables::FIRST;
+use crate::tables::OTHER;
 
 // What the shape of a line is.
 pub enum Verdict {
@@ -71,11 +74,17 @@ impl Progress {
         while i < part.len() {
             q = next(q, part[i]);
             if q == 230 {
-                return Progress { state: 230, at: start + i };
+                return Progress {
+                    state: 230,
+                    at: start + i,
+                };
             }
             i += 1;
         }
-        Progress { state: q, at: start + i }
+        Progress {
+            state: q,
+            at: start + i,
+        }
     }
 
     // The verdict, where the line ends here.
