@@ -168,6 +168,8 @@ def machine(line):
         row = []
         for b in reps:
             to = tuple(k for c, k in out if any(lo <= b <= hi for lo, hi in c))
+            if len(set(to)) < len(to):
+                sys.exit(f'ambiguous: two ways to go on alike after {bytes(paths[i] + (b,))}')
             if to and to not in index:
                 index[to] = len(states)
                 states.append(to)
@@ -195,8 +197,9 @@ def antt_lists(xss):
     return '\n    ∷ '.join([f'({antt_list(xs)})' for xs in xss] + ['[]'])
 
 
-def rt_wrapped(xs, width=30):
-    return ',\n    '.join(', '.join(map(str, xs[i:i + width])) for i in range(0, len(xs), width))
+def rt_lines(xs):
+    """One to a line, as the formatter has them."""
+    return ',\n    '.join(map(str, xs))
 
 
 HALF = 115
@@ -247,7 +250,7 @@ def tables_rt(classes, rows, accepts):
              ('The same for the others.', 'OTHER', flat[cut:]), ('1 for each state in which a line may end.', 'ACCEPT', accepts)]
     out = ['// The scan\'s tables. Made by tools/tables.py; nothing is trusted of it.']
     for comment, name, xs in named:
-        out += ['', f'// {comment}', f'pub const {name}: [u8; {len(xs)}] = [', f'    {rt_wrapped(xs)},', '];']
+        out += ['', f'// {comment}', f'pub const {name}: [u8; {len(xs)}] = [', f'    {rt_lines(xs)},', '];']
     return '\n'.join(out) + '\n'
 
 

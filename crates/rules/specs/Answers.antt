@@ -17,16 +17,16 @@ use Rattle.rules.specs.Stored.{stored}
 pub record Answer : Type 0 where
   pub number : ℕ
   pub place : ℕ
-  pub length : ℕ
+  pub size : ℕ
   pub out : List ℕ
 
 -- a refusal: the output holds zeros throughout
 abbrev pub refuses : ℕ → ℕ → ℕ → Answer
-refuses room number place = record { number = number; place = place; length = 0; out = replicate room 0 }
+refuses room number place = record { number = number; place = place; size = 0; out = replicate room 0 }
 
 -- 0, done: the result, and zeros after it
 abbrev pub gives : ℕ → List ℕ → Answer
-gives room result = record { number = 0; place = 0; length = length result; out = result ++ replicate (room - length result) 0 }
+gives room result = record { number = 0; place = 0; size = length result; out = result ++ replicate (room - length result) 0 }
 
 -- a result, in an output of room bytes: 8, or done
 pub data Delivers (room : ℕ) (result : List ℕ) : Answer → Type 0 where
