@@ -3,3 +3,4 @@ pub mod Parts
 pub mod Scan
 pub mod Order
 pub mod Mark
+pub mod Digits

@@ -8,6 +8,7 @@ use native.Mathlib.Nat.{le-refl, le-trans, not-suc-le-zero}
 use lib.Dec.{T, leb, ltb}
 use borrow.Author.Tests.{ltb-true, ltb-false, lt-ltb, le-ltb}
 use Rattle.lang.specs.Re.{Rng, rng, inC}
+use Rattle.lang.specs.Digits.{valueFrom}
 use Rattle.lang.specs.Parts.{all}
 use Rattle.lang.proofs.Deriv.{and-0, and-1, and-i}
 use Rattle.lang.proofs.Lits.{in→, →in}
@@ -37,11 +38,6 @@ digits-step a d ha hd =
     let q : (a * 10 + d) / 10 ≡ a = omega arith in
     let m : (a * 10 + d) % 10 ≡ d = omega arith in
     digits-big (a * 10 + d) (omega arith) ∙ rw (q, m)
-
--- a number whose digits are those of a and then the bytes
-unfoldable pub valueFrom : ℕ → List ℕ → ℕ
-valueFrom a [] = a
-valueFrom a (b ∷ w) = valueFrom (a * 10 + (b - 48)) w
 
 pub value-le : (a : ℕ) (w : List ℕ) → a ≤ valueFrom a w
 unfolding valueFrom

@@ -7,12 +7,12 @@ use native.Mathlib.Omega.{arith}
 use lib.Dec.{T}
 use lib.ListN.{length}
 use Rattle.lang.specs.Re.{inC}
+use Rattle.lang.specs.Digits.{valueFrom}
 use Rattle.lang.specs.Parts.{all}
 use Rattle.lang.proofs.Deriv.{and-0, and-1, and-i}
 use Rattle.lang.proofs.Lits.{in→, →in}
 use Rattle.rules.specs.Bytes.{digit}
 use Rattle.rules.specs.Decimals.{whole, lastDigits}
-use Rattle.rules.proofs.Digits.{valueFrom}
 
 -- a number and then digits, without those digits
 pub whole-from : (w : ℕ) (ds : List ℕ) → T (all digit ds) → whole (length ds) (valueFrom w ds) ≡ w

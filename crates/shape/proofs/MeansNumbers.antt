@@ -11,6 +11,7 @@ use native.Mathlib.Decide.{decLe}
 use lib.Dec.{T, T-prop, leb, leb→le, le→leb}
 use lib.ListN.{length}
 use Rattle.lang.specs.Re.{Rng, rng, inC, Re, seq, Tree, text, either}
+use Rattle.lang.specs.Digits.{valueFrom}
 use Rattle.lang.specs.Parts.{Such, all}
 use Rattle.lang.proofs.Deriv.{and-0, and-1}
 use Rattle.lang.proofs.Lits.{one-eq, in→, →in}
@@ -19,7 +20,7 @@ use Rattle.lang.proofs.Names.{headRe, head-enc, head-dec}
 use Rattle.rules.specs.Bytes.{bytes, _to_, digit}
 use Rattle.rules.specs.Numbers.{digits, From, Number, numberText}
 use Rattle.rules.specs.Decimals.{Decimal, whole, lastDigits, pointText, decimalText}
-use Rattle.rules.proofs.Digits.{valueFrom, value-le, digits-small, digits-value, one-number, leading, read-back, value-digits}
+use Rattle.rules.proofs.Digits.{value-le, digits-small, digits-value, one-number, leading, read-back, value-digits}
 use Rattle.rules.proofs.Fractions.{whole-from, last-from, value-back, last-length, last-digits}
 use Rattle.shape.proofs.Grammar.{numberRe, twoRe, natRe, decimalRe, word}
 
