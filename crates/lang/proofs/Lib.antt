@@ -17,3 +17,4 @@ pub mod Sort
 pub mod Lex
 pub mod Winner
 pub mod OneStray
+pub mod Follow

@@ -1,6 +1,6 @@
 -- What texts are made of: parts that may be left out, parts in a row, bytes that pass a test, words of a list. Assumes nothing.
 use Prim.Native.Nat.{ℕ}
-use mathlib.Core.Bool.{Bool, true, _&&_}
+use mathlib.Core.Bool.{Bool, true, false, _&&_}
 use mathlib.Core.List.{List, [], _∷_, _++_, map}
 use lib.Dec.{T, ltb}
 use lib.ListN.{length, getD}
@@ -35,6 +35,11 @@ flat f (x ∷ xs) = f x ++ flat f xs
 abbrev pub all : List Rng → List ℕ → Bool
 all c [] = true
 all c (b ∷ w) = inC c b && all c w
+
+-- the first byte is in the class
+abbrev pub firstIn : List Rng → List ℕ → Bool
+firstIn c [] = false
+firstIn c (b ∷ w) = inC c b
 
 -- bytes that pass a test
 pub record Such (test : List ℕ → Bool) : Type 0 where

@@ -3,18 +3,15 @@ use Prim.Native.Nat.{ℕ}
 use mathlib.Core.Bool.{Bool, true, false, not, _&&_, _||_}
 use mathlib.Core.List.{List, [], _∷_, _++_}
 use lib.Dec.{eqb}
-use Rattle.lang.specs.Re.{Rng, inC}
+use Rattle.lang.specs.Re.{Rng}
 use Rattle.lang.specs.Parts.{Such, all}
+pub use Rattle.lang.specs.Parts.{firstIn}
 use Rattle.rules.specs.Bytes.{bytes, letter, textByte, nameByte}
 
 -- one or more bytes of a class
 abbrev pub someOf : List Rng → List ℕ → Bool
 someOf c [] = false
 someOf c (b ∷ w) = all c (b ∷ w)
-
-abbrev pub firstIn : List Rng → List ℕ → Bool
-firstIn c [] = false
-firstIn c (b ∷ w) = inC c b
 
 abbrev pub startsWith : List ℕ → List ℕ → Bool
 startsWith [] w = true
