@@ -18,3 +18,4 @@ pub mod Lex
 pub mod Winner
 pub mod OneStray
 pub mod Follow
+pub mod Walks

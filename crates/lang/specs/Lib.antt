@@ -4,3 +4,4 @@ pub mod Scan
 pub mod Order
 pub mod Mark
 pub mod Digits
+pub mod Walk
