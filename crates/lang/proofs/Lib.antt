@@ -16,6 +16,9 @@ pub mod Tests
 pub mod Sort
 pub mod Lex
 pub mod Winner
+pub mod FirstBroken
+pub mod Rising
+pub mod Words
 pub mod OneStray
 pub mod Follow
 pub mod Walks
