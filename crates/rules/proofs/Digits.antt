@@ -4,8 +4,10 @@ use mathlib.Core.Path.{_≡_, refl, sym, ap, _∙_}
 use mathlib.Core.Bool.{Bool, true, false, _&&_}
 use mathlib.Core.List.{List, [], _∷_, _++_, append-assoc, append-nil}
 use native.Mathlib.Omega.{arith}
+use native.Mathlib.Decide.{decLe}
 use native.Mathlib.Nat.{le-refl, le-trans, not-suc-le-zero}
 use lib.Dec.{T, leb, ltb}
+use lib.ListN.{length, length-append}
 use borrow.Author.Tests.{ltb-true, ltb-false, lt-ltb, le-ltb}
 use Rattle.lang.specs.Re.{Rng, rng, inC}
 use Rattle.lang.specs.Digits.{valueFrom}
@@ -120,3 +122,11 @@ pub read-back : (b : ℕ) (w : List ℕ) → 49 ≤ b → b ≤ 57 → T (all di
 read-back b w l h t =
     let e : 48 + (b - 48) ≡ b = omega arith in
     value-digits (b - 48) w (omega arith) t ∙ rw (digits-small (b - 48) (omega arith), e)
+
+-- a number has a digit or more
+pub digits-some : (n : ℕ) → 0 < length (digits n)
+digits-some n = by (decLe 10 n)
+  where
+    by : Dec (10 ≤ n) → 0 < length (digits n)
+    by (yes h) = rw (digits-big n h) (omega (arith, length-append (digits (n / 10)) ((48 + n % 10) ∷ [])))
+    by (no h) = rw (digits-small n (omega arith)) (omega arith)

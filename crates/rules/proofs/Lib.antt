@@ -14,6 +14,10 @@ pub mod OneAnswer
 pub mod OneWriting
 pub mod Totals
 pub mod Keeps
+pub mod Rising
+pub mod RisesParts
+pub mod Rises
+pub mod FirstBroken
 pub mod Bounds
 pub mod Lengths
 pub mod Sizes
