@@ -38,10 +38,10 @@ starts (seq r s) b w t k e =
     either
     (λ y. inl (or-l (first r b) (null r && first s b) y))
     (λ y.
-      either
-      (λ z. inl (or-r (first r b) (null r && first s b) (and-i (null r) (first s b) (y .0) z)))
-      (λ z. inr (and-i (null r) (null s) (y .0) (z .0), z .1))
-      (starts s b w (t .1) k (y .1)))
+    either
+    (λ z. inl (or-r (first r b) (null r && first s b) (and-i (null r) (first s b) (y .0) z)))
+    (λ z. inr (and-i (null r) (null s) (y .0) (z .0), z .1))
+    (starts s b w (t .1) k (y .1)))
     (starts r b w (t .0) (text s (t .1) k) e)
 starts (alt r s) b w (inl t) k e =
     either (λ y. inl (or-l (first r b) (first s b) y)) (λ y. inr (or-l (null r) (null s) (y .0), y .1)) (starts r b w t k e)
