@@ -1,0 +1,137 @@
+-- The bounds of a decimal, as bounds of its value and its places. Assumes nothing.
+use Prim.Native.Nat.{ℕ, zero, suc, _+_, _-_, _*_, _/_, _%_, _^_, _≤_, _<_, min}
+use mathlib.Core.Path.{_≡_, refl, sym, ap, ap₂, _∙_}
+use mathlib.Core.Bool.{Bool, true, false, cond, _&&_}
+use mathlib.Core.List.{List, [], _∷_, _++_}
+use native.Mathlib.Omega.{arith}
+use native.Mathlib.Nat.{pow-suc, one-le-pow}
+use native.Mathlib.Decide.{decLt}
+use lib.Dec.{T, leb, ltb}
+use lib.ListN.{length, length-append}
+use lib.Pow.{pow-add}
+use borrow.Author.Tests.{lt-ltb, le-ltb, le-leb, lt-leb, leb-true, ltb-true}
+use Rattle.rules.specs.Numbers.{digits}
+use Rattle.rules.specs.Decimals as rules
+use Rattle.rules.specs.Decimals.{whole}
+use Rattle.rules.specs.Limits.{fits}
+use Rattle.rules.proofs.Digits.{digits-small, digits-big}
+use Rattle.numbers.specs.declared.Decimal.{Decimal}
+use Rattle.numbers.specs.declared.Made.{Made}
+use Rattle.numbers.specs.declared.Made.the-variants.{Fits, Past}
+use Rattle.numbers.specs.Making.{madeOf}
+
+-- ---- how many digits a number has
+
+one-digit : (n : ℕ) → n < 10 → length (digits n) ≡ 1
+one-digit n h = ap length (digits-small n h)
+
+more-digits : (n : ℕ) → 10 ≤ n → length (digits n) ≡ length (digits (n / 10)) + 1
+more-digits n h = ap length (digits-big n h) ∙ length-append (digits (n / 10)) ((48 + n % 10) ∷ [])
+
+some-digits : (n : ℕ) → 1 ≤ length (digits n)
+some-digits n = go (decLt n 10)
+  where
+    go : Dec (n < 10) → 1 ≤ length (digits n)
+    go (yes h) = omega (arith, one-digit n h)
+    go (no h) = omega (arith, more-digits n (omega arith))
+
+few : (k n : ℕ) → n < 10 ^ suc k → length (digits n) ≤ suc k
+few zero n h = omega (arith, one-digit n h)
+few (suc k) n h = go (few k (n / 10) (omega (arith, pow-suc 10 (suc k)))) (decLt n 10)
+  where
+    go : length (digits (n / 10)) ≤ suc k → Dec (n < 10) → length (digits n) ≤ suc (suc k)
+    go i (yes l) = omega (arith, one-digit n l)
+    go i (no l) = omega (arith, more-digits n (omega arith))
+
+many : (k n : ℕ) → 10 ^ suc k ≤ n → suc k < length (digits n)
+many zero n h = omega (arith, more-digits n h, some-digits (n / 10))
+many (suc k) n h =
+    let p = pow-suc 10 (suc k) in
+    let i = many k (n / 10) (omega arith) in
+    omega (arith, more-digits n (omega (arith, one-le-pow (suc k) 10 (omega arith))))
+
+-- ---- a number without its last digits
+
+shift : (m p : ℕ) → m * 10 ^ suc p ≡ m * 10 * 10 ^ p
+shift m p = rw (pow-suc 10 p) (omega arith)
+
+pub whole-lt : (p v m : ℕ) → v < m * 10 ^ p → whole p v < m
+unfolding whole
+whole-lt zero v m h = omega arith
+whole-lt (suc p) v m h = let i = whole-lt p v (m * 10) (omega (arith, shift m p)) in omega arith
+
+pub whole-ge : (p v m : ℕ) → m * 10 ^ p ≤ v → m ≤ whole p v
+unfolding whole
+whole-ge zero v m h = omega arith
+whole-ge (suc p) v m h = let i = whole-ge p v (m * 10) (omega (arith, shift m p)) in omega arith
+
+-- ---- the bounds of a decimal
+
+module _ (v p : ℕ) (h : p ≤ 9) where
+  parts : 10 ^ suc (11 - p) * 10 ^ p ≡ 10 ^ 12
+  parts = let e : suc (11 - p) + p ≡ 12 = omega arith in sym (pow-add 10 (suc (11 - p)) p) ∙ ap (λ (n : ℕ). 10 ^ n) e
+
+  twelve : leb (length (digits (whole p v)) + p) 12 ≡ ltb v (10 ^ 12)
+  twelve = go (decLt v (10 ^ 12))
+    where
+      go : Dec (v < 10 ^ 12) → leb (length (digits (whole p v)) + p) 12 ≡ ltb v (10 ^ 12)
+      go (yes l) =
+          let f = few (11 - p) (whole p v) (whole-lt p v (10 ^ suc (11 - p)) (omega (arith, parts))) in
+          le-leb (length (digits (whole p v)) + p) 12 (omega arith) ∙ sym (lt-ltb v (10 ^ 12) l)
+      go (no l) =
+          let g : 10 ^ 12 ≤ v = omega arith in
+          let f = many (11 - p) (whole p v) (whole-ge p v (10 ^ suc (11 - p)) (omega (arith, parts))) in
+          lt-leb (length (digits (whole p v)) + p) 12 (omega arith) ∙ sym (le-ltb v (10 ^ 12) g)
+
+-- a decimal fits exactly where it has at most 9 places and its value is below 10 ^ 12
+pub fits-is : (v p : ℕ) → fits (record { value = v; places = p }) ≡ leb p 9 && ltb v (10 ^ 12)
+fits-is v p = go (leb p 9) refl
+  where
+    go : (t : Bool) → leb p 9 ≡ t → leb p 9 && leb (length (digits (whole p v)) + p) 12 ≡ leb p 9 && ltb v (10 ^ 12)
+    go true e = rw e (twelve v p (leb-true p 9 e))
+    go false e = rw e
+
+pub made-is : (v p : ℕ) → madeOf v p ≡ cond (leb p 9 && ltb v (10 ^ 12)) (Fits (record { value = v; places = p })) Past
+unfolding madeOf
+made-is v p = ap (λ (t : Bool). cond t (Fits (record { value = v; places = p })) Past) (fits-is v p)
+
+pub made-fits : (v p : ℕ) → p ≤ 9 → v < 10 ^ 12 → madeOf v p ≡ Fits (record { value = v; places = p })
+made-fits v p h g = made-is v p ∙ rw (le-leb p 9 h, lt-ltb v (10 ^ 12) g)
+
+pub made-long : (v p : ℕ) → 9 < p → madeOf v p ≡ Past
+made-long v p h = made-is v p ∙ rw (lt-leb p 9 h)
+
+pub made-large : (v p : ℕ) → 10 ^ 12 ≤ v → madeOf v p ≡ Past
+made-large v p h = made-is v p ∙ rw (le-ltb v (10 ^ 12) h) (go (leb p 9))
+  where
+    go : (t : Bool) → cond (t && false) (Fits (record { value = v; places = p })) Past ≡ Past
+    go true = refl
+    go false = refl
+
+-- ---- back from what was made
+
+pub fits-within : (v p : ℕ) → fits (record { value = v; places = p }) ≡ true → (v < 10 ^ 12) × (p ≤ 9)
+fits-within v p e = go (leb p 9) refl (ltb v (10 ^ 12)) refl (sym (fits-is v p) ∙ e)
+  where
+    go : (s : Bool) → leb p 9 ≡ s → (t : Bool) → ltb v (10 ^ 12) ≡ t → leb p 9 && ltb v (10 ^ 12) ≡ true → (v < 10 ^ 12) × (p ≤ 9)
+    go true a true b q = (ltb-true v (10 ^ 12) b, leb-true p 9 a)
+    go true a false b q = let z : _≡_ {A = ℕ} 0 1 = cc in omega arith
+    go false a t b q = let z : _≡_ {A = ℕ} 0 1 = cc in omega arith
+
+pub made-back : (v p : ℕ) (d : Decimal) → madeOf v p ≡ Fits d → (fits (record { value = v; places = p }) ≡ true) × (d ≡ record { value = v; places = p })
+unfolding madeOf
+made-back v p d e = go (fits (record { value = v; places = p })) refl e
+  where
+    go : (t : Bool) → fits (record { value = v; places = p }) ≡ t → cond t (Fits (record { value = v; places = p })) Past ≡ Fits d
+        → (fits (record { value = v; places = p }) ≡ true) × (d ≡ record { value = v; places = p })
+    go true q f = (q, cc)
+    go false q f = (cc, cc)
+
+pub past-back : (v p : ℕ) → madeOf v p ≡ Past → fits (record { value = v; places = p }) ≡ false
+unfolding madeOf
+past-back v p e = go (fits (record { value = v; places = p })) refl e
+  where
+    go : (t : Bool) → fits (record { value = v; places = p }) ≡ t → cond t (Fits (record { value = v; places = p })) Past ≡ Past
+        → fits (record { value = v; places = p }) ≡ false
+    go true q f = cc
+    go false q f = q

@@ -1,0 +1,204 @@
+-- What the decimals in front of a list are read as. Assumes nothing.
+use Prim.Native.Nat.{ℕ, zero, suc, _+_, _-_, _*_, _^_, _≤_, _<_, min}
+use mathlib.Core.Path.{_≡_, refl, sym, ap, ap₂, _∙_}
+use mathlib.Core.Bool.{Bool, true, false, cond, _&&_}
+use mathlib.Core.List.{List, [], _∷_, _++_, append-assoc}
+use native.Mathlib.Omega.{arith}
+use native.Mathlib.Nat.{le-refl}
+use native.Mathlib.Decide.{decLe}
+use lib.Dec.{T}
+use lib.ListN.{length, take, drop, getD, length-append, length-drop, drop-of-length-le}
+use lib.Seq.{drop-cons, take-all, drop-append-seam}
+use borrow.Author.Tests.{eq-eqb, ne-eqb}
+use Rattle.lang.specs.Re.{inC}
+use Rattle.lang.specs.Digits.{valueFrom}
+use Rattle.lang.proofs.Lits.{one-in, one-eq}
+use Rattle.lang.proofs.Tests.{t-is, is-t}
+use Rattle.rules.specs.Bytes.{digit}
+use Rattle.rules.specs.Numbers.{digits}
+use Rattle.rules.specs.Texts.{firstIn}
+use Rattle.rules.specs.Decimals as rules
+use Rattle.rules.specs.Decimals.{whole, lastDigits, pointText, decimalText}
+use Rattle.rules.proofs.Digits.{digits-value}
+use Rattle.rules.proofs.Fractions.{value-back, last-length, last-digits}
+use Rattle.numbers.specs.declared.Digits.{Digits}
+use Rattle.numbers.specs.declared.DecimalRead.{DecimalRead}
+use Rattle.numbers.specs.declared.Made.{Made}
+use Rattle.numbers.specs.Leading.{leading, leadingOf}
+use Rattle.numbers.specs.Making.{madeOf}
+use Rattle.numbers.specs.Points.{point, fraction, fractionOf, pointed, decimalWith, decimalOf}
+use Rattle.numbers.proofs.Walks.{capped}
+use Rattle.numbers.proofs.Leads.{leading-silent, leading-read, leading-within, all-digits}
+use Rattle.numbers.proofs.Bounds.{made-long, made-large}
+
+-- `&s[at..]` is this part
+pub rest : (s : List ℕ) (at : ℕ) → take (length s - at) (drop at s) ≡ drop at s
+rest s at = take-all (length s - at) (drop at s) (omega (arith, length-drop at s))
+
+-- ---- the point
+
+not-point : (b : ℕ) → (b ≡ 46 → ⊥) → inC point b ≡ false
+not-point b n = go (inC point b) refl
+  where
+    go : (t : Bool) → inC point b ≡ t → inC point b ≡ false
+    go true e = absurd (n (one-eq 46 b (is-t e)))
+    go false e = e
+
+is-point : (b : ℕ) → b ≡ 46 → inC point b ≡ true
+is-point b e = rw e
+
+-- ---- the fraction, as it is walked
+
+pub fraction-none : (s : List ℕ) (before : ℕ) → before ≤ 10 ^ 12 → fraction s ≡ [] → record { value = before; len = 0 } ≡ fractionOf before s
+unfolding fractionOf valueFrom
+fraction-none s before h e = rw e (ap (λ (v : ℕ). record { value = v; len = 0 }) (omega arith))
+
+pub fraction-empty : (s : List ℕ) → length s < 1 → fraction s ≡ []
+unfolding fraction
+fraction-empty [] h = refl
+fraction-empty (b ∷ s) h = absurd (omega arith)
+
+pub fraction-other : (s : List ℕ) → 1 ≤ length s → (getD s 0 0 ≡ 46 → ⊥) → fraction s ≡ []
+unfolding fraction
+fraction-other [] h n = refl
+fraction-other (b ∷ s) h n = rw (not-point b n)
+
+pub fraction-point : (s : List ℕ) (before : ℕ) → 1 ≤ length s → getD s 0 0 ≡ 46
+    → leadingOf before (10 ^ 12) (take (length s - 1) (drop 1 s)) ≡ fractionOf before s
+unfolding fraction fractionOf leadingOf
+fraction-point [] before h e = absurd (omega arith)
+fraction-point (b ∷ s) before h e = rw (rest (b ∷ s) 1, is-point b e)
+
+-- ---- what is told where the value or the places are past all bounds
+
+pub made-capped : (v p : ℕ) → madeOf (min v (10 ^ 12)) (min p 10) ≡ madeOf v p
+made-capped v p = go (decLe (10 ^ 12) v) (decLe 10 p)
+  where
+    go : Dec (10 ^ 12 ≤ v) → Dec (10 ≤ p) → madeOf (min v (10 ^ 12)) (min p 10) ≡ madeOf v p
+    go (yes h) q = made-large (min v (10 ^ 12)) (min p 10) (omega arith) ∙ sym (made-large v p h)
+    go (no h) (yes g) = made-long (min v (10 ^ 12)) (min p 10) (omega arith) ∙ sym (made-long v p g)
+    go (no h) (no g) = ap₂ madeOf (omega arith) (omega arith)
+
+fraction-within : (s : List ℕ) → pointed (fraction s) ≤ length s
+unfolding fraction pointed
+fraction-within [] = le-refl 0
+fraction-within (b ∷ s) = go (inC point b) (leading s) (leading-within s)
+  where
+    go : (t : Bool) (w : List ℕ) → length w ≤ length s → pointed (cond t w []) ≤ suc (length s)
+    go true [] h = omega arith
+    go true (d ∷ w) h = omega arith
+    go false w h = omega arith
+
+-- ---- the whole number, and then the fraction
+
+pub whole-inside : (s : List ℕ) (before most : ℕ) → leadingOf before most s .len ≤ length s
+unfolding leadingOf
+whole-inside s before most = leading-within s
+
+pub whole-most : (s : List ℕ) (before most : ℕ) → leadingOf before most s .value ≤ most
+unfolding leadingOf
+whole-most s before most = omega arith
+
+pointed-none : (f : List ℕ) → length f ≡ 0 → pointed f ≡ 0
+unfolding pointed
+pointed-none [] e = refl
+pointed-none (b ∷ f) e = absurd (omega arith)
+
+pointed-some : (f : List ℕ) → (length f ≡ 0 → ⊥) → pointed f ≡ suc (length f)
+unfolding pointed
+pointed-some [] n = absurd (n refl)
+pointed-some (b ∷ f) n = refl
+
+-- what the two walks found
+pub record Walked (s : List ℕ) (whole all : Digits) : Type 0 where
+  pub front : whole ≡ leadingOf 0 (10 ^ 12) s
+  pub behind : all ≡ fractionOf (whole .value) (take (length s - whole .len) (drop (whole .len) s))
+
+module _ {s : List ℕ} {whole all : Digits} (w : Walked s whole all) where
+  tail : List ℕ
+  tail = fraction (drop (length (leading s)) s)
+
+  at : whole .len ≡ length (leading s)
+  unfolding leadingOf
+  at = ap (λ (d : Digits). d .len) (w .front)
+
+  all-is : all ≡ fractionOf (whole .value) (drop (length (leading s)) s)
+  all-is = w .behind ∙ rw (rest s (whole .len), at)
+
+  places : all .len ≡ length tail
+  unfolding fractionOf tail
+  places = ap (λ (d : Digits). d .len) all-is
+
+  value : all .value ≡ min (valueFrom (valueFrom 0 (leading s)) tail) (10 ^ 12)
+  unfolding fractionOf leadingOf tail
+  value =
+      let e : whole .value ≡ min (valueFrom 0 (leading s)) (10 ^ 12) = ap (λ (d : Digits). d .value) (w .front) in
+      ap (λ (d : Digits). d .value) all-is ∙ capped (10 ^ 12) (whole .value) (valueFrom 0 (leading s)) tail (omega arith)
+
+  found : {made : Made} {p n : ℕ} → p ≡ min (all .len) 10 → made ≡ madeOf (all .value) p → n ≡ length (leading s) + pointed tail
+      → record { made = made; len = n } ≡ decimalOf s
+  unfolding decimalOf tail
+  found {made} {p} {n} e m l =
+      ap₂ (λ (x : Made) (y : ℕ). record { made = x; len = y })
+      (m ∙ ap₂ madeOf value (e ∙ ap (λ (x : ℕ). min x 10) places)
+      ∙ made-capped (valueFrom (valueFrom 0 (leading s)) tail) (length tail))
+      l
+
+  pub found-whole : {made : Made} {p : ℕ} → p ≡ min (all .len) 10 → made ≡ madeOf (all .value) p → all .len ≡ 0
+      → record { made = made; len = whole .len } ≡ decimalOf s
+  found-whole e m z = found e m (omega (arith, at, pointed-none tail (sym places ∙ z)))
+
+  pub found-point : {made : Made} {p : ℕ} → p ≡ min (all .len) 10 → made ≡ madeOf (all .value) p → (all .len ≡ 0 → ⊥)
+      → record { made = made; len = whole .len + 1 + all .len } ≡ decimalOf s
+  found-point e m z = found e m (omega (arith, at, places, pointed-some tail (λ q. z (places ∙ q))))
+
+  -- the point and what follows it stand inside
+  pub room : (all .len ≡ 0 → ⊥) → whole .len + 1 + all .len ≤ length s
+  unfolding tail
+  room z =
+      let n = length (leading s) in
+      omega (arith, at, places, pointed-some tail (λ q. z (places ∙ q)), fraction-within (drop n s), length-drop n s, leading-within s)
+
+-- ---- for callers
+
+pub decimal-within : (s : List ℕ) → decimalOf s .len ≤ length s
+unfolding decimalOf
+decimal-within s =
+    let n = length (leading s) in
+    omega (arith, leading-within s, fraction-within (drop n s), length-drop n s)
+
+-- the text behind the whole number begins with no digit
+no-digit : (n v : ℕ) (k : List ℕ) → firstIn digit k ≡ false → firstIn digit (pointText n v ++ k) ≡ false
+unfolding pointText
+no-digit zero v k e = e
+no-digit (suc n) v k e = refl
+
+fraction-silent : (k : List ℕ) → firstIn point k ≡ false → fraction k ≡ []
+unfolding fraction
+fraction-silent [] e = refl
+fraction-silent (b ∷ k) e = rw e
+
+fraction-read : (n v : ℕ) (k : List ℕ) → firstIn digit k ≡ false → firstIn point k ≡ false → fraction (pointText n v ++ k) ≡ lastDigits n v
+unfolding pointText fraction lastDigits
+fraction-read zero v k e p = fraction-silent k p
+fraction-read (suc n) v k e p = leading-read (lastDigits (suc n) v) k (last-digits (suc n) v) e
+
+pointed-length : (n v : ℕ) → pointed (lastDigits n v) ≡ length (pointText n v)
+unfolding pointText pointed lastDigits
+pointed-length zero v = refl
+pointed-length (suc n) v = refl
+
+pub decimal-read : (d : rules.Decimal) (k : List ℕ) → firstIn digit k ≡ false → firstIn point k ≡ false
+    → decimalOf (decimalText d ++ k) ≡ record { made = madeOf (d .value) (d .places); len = length (decimalText d) }
+unfolding decimalOf
+decimal-read d k e p =
+    let v = d .value in
+    let n = d .places in
+    let w = digits (whole n v) in
+    let q : decimalText d ++ k ≡ w ++ (pointText n v ++ k) = append-assoc w (pointText n v) k in
+    let l : leading (w ++ (pointText n v ++ k)) ≡ w = leading-read w (pointText n v ++ k) (all-digits (whole n v)) (no-digit n v k e) in
+    let f : fraction (drop (length w) (w ++ (pointText n v ++ k))) ≡ lastDigits n v =
+    rw (drop-append-seam w (pointText n v ++ k)) (fraction-read n v k e p) in
+    rw (q, l, f) (ap₂ (λ (m : Made) (z : ℕ). record { made = m; len = z })
+    (ap₂ madeOf (ap (λ (x : ℕ). valueFrom x (lastDigits n v)) (digits-value (whole n v)) ∙ value-back n v) (last-length n v))
+    (ap (λ (x : ℕ). length w + x) (pointed-length n v) ∙ sym (length-append w (pointText n v))))

@@ -1,0 +1,4 @@
+pub mod Leading
+pub mod Making
+pub mod Points
+pub mod Shares

@@ -1,0 +1,231 @@
+// Numbers and decimals: read from the front of a part, and written.
+ghost use mathlib.Core.Path.{_≡_};
+ghost use Prim.Native.Nat.{_≤_, _*_, _+_, _-_, min};
+ghost use Rattle.lang.specs.Re.{inC};
+ghost use Rattle.rules.specs.Bytes.{digit};
+ghost use Rattle.rules.specs.Numbers.{digits};
+ghost use Rattle.rules.specs.Decimals.{whole, lastDigits, decimalText};
+ghost use Rattle.puts.specs.Puts.{Put};
+ghost use Rattle.numbers.specs.Leading.{leadingOf, numberOf};
+ghost use Rattle.numbers.specs.Making.{ruled, madeOf};
+ghost use Rattle.numbers.specs.Points.{fractionOf, decimalOf};
+ghost use Rattle.numbers.specs.Shares.{largest, billionthsOf};
+use puts::put8;
+
+// The digits that a part begins with: their value, no more than a million, and how many there are.
+pub struct Number {
+    pub value: u32,
+    pub len: usize,
+}
+
+// The same with a value as large as the reader asks for.
+struct Digits {
+    value: u64,
+    len: usize,
+}
+
+fn is_digit(b: u8) -> bool
+    ensures { λ r. ⌜ r ≡ inC digit b ⌝ }
+{
+    if b < b'0' {
+        return false;
+    }
+    b <= b'9'
+}
+
+// The value with one digit more, no more than `most`.
+fn with_digit(value: u64, b: u8, most: u64) -> u64
+    requires { ⌜ (value ≤ 1000000000000) × (48 ≤ b) × (b ≤ 57) ⌝ }
+    ensures { λ r. ⌜ r ≡ min (value * 10 + (b - 48)) most ⌝ }
+{
+    let v = value * 10 + (b as u64 - 48);
+    if v < most { v } else { most }
+}
+
+// The digits that s begins with, as if they stood behind those of `before`; a value past `most` is told as `most`.
+fn digits_from(s: &[u8], before: u64, most: u64) -> Digits
+    requires { ⌜ (before ≤ most) × (most ≤ 1000000000000) ⌝ }
+    ensures { λ r. ⌜ r ≡ leadingOf before most (now (s .entry)) ⌝ }
+{
+    let mut value = before;
+    let mut len: usize = 0;
+    while len < s.len() {
+        let b = s[len];
+        if !is_digit(b) {
+            return Digits { value, len };
+        }
+        value = with_digit(value, b, most);
+        len += 1;
+    }
+    Digits { value, len }
+}
+
+// The number that s begins with, as far as its digits go.
+pub fn read_number(s: &[u8]) -> Number
+    ensures { λ r. ⌜ r ≡ numberOf (now (s .entry)) ⌝ }
+{
+    let d = digits_from(s, 0, 1000000);
+    Number {
+        value: d.value as u32,
+        len: d.len,
+    }
+}
+
+// A decimal: 0.70 is 70 with 2 places.
+pub struct Decimal {
+    pub value: u64,
+    pub places: u8,
+}
+
+// A decimal within its bounds, or that it is past them.
+pub enum Made {
+    Fits(Decimal),
+    Past,
+}
+
+impl Decimal {
+    // How many digits may stand behind the point.
+    pub const MAX_PLACES: u8 = 9;
+
+    // How many digits there may be in all.
+    pub const MAX_DIGITS: u8 = 12;
+
+    // The first value with more digits than that, a point or none in it.
+    pub const END: u64 = 1000000000000;
+
+    pub fn new(value: u64, places: u8) -> Made
+        ensures { λ r. ⌜ r ≡ madeOf value places ⌝ }
+    {
+        if Decimal::MAX_PLACES < places {
+            return Made::Past;
+        }
+        if Decimal::END <= value {
+            return Made::Past;
+        }
+        Made::Fits(Decimal { value, places })
+    }
+}
+
+// What a part begins with, read as a decimal, and how many bytes it has.
+pub struct DecimalRead {
+    pub made: Made,
+    pub len: usize,
+}
+
+// The digits behind the point that s begins with, as if they stood behind those of `before`; none where s begins with no point.
+fn fraction_from(s: &[u8], before: u64) -> Digits
+    requires { ⌜ before ≤ 1000000000000 ⌝ }
+    ensures { λ r. ⌜ r ≡ fractionOf before (now (s .entry)) ⌝ }
+{
+    if s.len() < 1 {
+        return Digits {
+            value: before,
+            len: 0,
+        };
+    }
+    if s[0] != b'.' {
+        return Digits {
+            value: before,
+            len: 0,
+        };
+    }
+    digits_from(&s[1..], before, Decimal::END)
+}
+
+// How many places there are, or one more than there may be.
+fn places_of(len: usize) -> u8
+    ensures { λ r. ⌜ r ≡ min len 10 ⌝ }
+{
+    if len < 10 {
+        len as u8
+    } else {
+        Decimal::MAX_PLACES + 1
+    }
+}
+
+// The decimal that s begins with: digits, then a point and digits where a digit stands behind the point.
+pub fn read_decimal(s: &[u8]) -> DecimalRead
+    ensures { λ r. ⌜ r ≡ decimalOf (now (s .entry)) ⌝ }
+{
+    let whole = digits_from(s, 0, Decimal::END);
+    let at = whole.len;
+    let all = fraction_from(&s[at..], whole.value);
+    let places = all.len;
+    let made = Decimal::new(all.value, places_of(places));
+    if places == 0 {
+        return DecimalRead { made, len: at };
+    }
+    DecimalRead {
+        made,
+        len: at + 1 + places,
+    }
+}
+
+// Ten times a value, or the largest there is.
+fn ten_times(v: u64) -> u64
+    ensures { λ r. ⌜ r ≡ min (v * 10) largest ⌝ }
+{
+    if v <= u64::MAX / 10 { v * 10 } else { u64::MAX }
+}
+
+// A decimal in billionths, or the largest there is. Places past the ninth are not looked at: no decimal within its bounds has them.
+pub fn billionths(d: Decimal) -> u64
+    ensures { λ r. ⌜ r ≡ billionthsOf d ⌝ }
+{
+    let mut v = d.value;
+    let mut places = d.places;
+    while places < Decimal::MAX_PLACES {
+        v = ten_times(v);
+        places += 1;
+    }
+    v
+}
+
+// The digits of n, put at a cursor; the place behind them.
+pub fn put_number(out: &mut [u8], at: usize, n: u64) -> usize
+    ensures { λ r. ⌜ Put (now (out .entry)) at (digits n) (now (out .exit)) r ⌝ }
+{
+    if n < 10 {
+        return put8(out, at, b'0' + (n % 10) as u8);
+    }
+    let to = put_number(out, at, n / 10);
+    put8(out, to, b'0' + (n % 10) as u8)
+}
+
+// v without its last n digits.
+fn whole_of(v: u64, n: u8) -> u64
+    ensures { λ r. ⌜ r ≡ whole n v ⌝ }
+{
+    let mut rest = v;
+    let mut i: u8 = 0;
+    while i < n {
+        rest = rest / 10;
+        i += 1;
+    }
+    rest
+}
+
+// The last n digits of v.
+fn put_last(out: &mut [u8], at: usize, v: u64, n: u8) -> usize
+    ensures { λ r. ⌜ Put (now (out .entry)) at (lastDigits n v) (now (out .exit)) r ⌝ }
+{
+    if n < 1 {
+        return at;
+    }
+    let to = put_last(out, at, v / 10, n - 1);
+    put8(out, to, b'0' + (v % 10) as u8)
+}
+
+// A decimal, put at a cursor: the whole number, then the point and the places where there are any.
+pub fn put_decimal(out: &mut [u8], at: usize, d: Decimal) -> usize
+    ensures { λ r. ⌜ Put (now (out .entry)) at (decimalText (ruled d)) (now (out .exit)) r ⌝ }
+{
+    let value = d.value;
+    let places = d.places;
+    let behind = put_number(out, at, whole_of(value, places));
+    if places < 1 {
+        return behind;
+    }
+    let to = put8(out, behind, b'.');
+    put_last(out, to, value, places)
+}
