@@ -1,0 +1,80 @@
+// The page of a stored table: six sections, each with a cursor of its own, and the header that says where they begin.
+ghost use mathlib.Core.Path.{_≡_};
+ghost use Rattle.puts.specs.Puts.{Put};
+ghost use Rattle.pages.specs.Headers.{behind, startsOf, pair, Headed};
+
+// Where the next byte of each section goes.
+pub struct Cursors {
+    pub annotations: usize,
+    pub losses: usize,
+    pub isotopes: usize,
+    pub items: usize,
+    pub units: usize,
+    pub text: usize,
+}
+
+// How many there are in each section.
+pub struct Counts {
+    pub annotations: usize,
+    pub losses: usize,
+    pub isotopes: usize,
+    pub items: usize,
+    pub units: usize,
+    pub text: usize,
+}
+
+// The place behind `n` things of a size, or the largest place where that would not fit.
+pub fn past(at: usize, n: usize, size: usize) -> usize
+    ensures { λ r. ⌜ r ≡ behind at n size ⌝ }
+{
+    if size < 1 {
+        return at;
+    }
+    if (usize::MAX - at) / size < n {
+        return usize::MAX;
+    }
+    at + n * size
+}
+
+// Where each section begins.
+pub fn starts(n: Counts) -> Cursors
+    ensures { λ r. ⌜ r ≡ startsOf n ⌝ }
+{
+    let losses = past(28, n.annotations, 36);
+    let isotopes = past(losses, n.losses, 6);
+    let items = past(isotopes, n.isotopes, 8);
+    let units = past(items, n.items, 6);
+    let text = past(units, n.units, 6);
+    Cursors {
+        annotations: 28,
+        losses: losses,
+        isotopes: isotopes,
+        items: items,
+        units: units,
+        text: text,
+    }
+}
+
+// Two numbers of two bytes.
+fn put_pair(out: &mut [u8], at: usize, a: usize, b: usize) -> usize
+    ensures { λ r. ⌜ Put (now (out .entry)) at (pair a b) (now (out .exit)) r ⌝ }
+{
+    let next = puts::put_le(out, at, a as u64, 2);
+    puts::put_le(out, next, b as u64, 2)
+}
+
+// The header: edition and length, then of each section how many there are and where it begins.
+pub fn put_header(out: &mut [u8], n: Counts) -> Cursors
+    ensures { λ r. ⌜ Headed (now (out .entry)) n (now (out .exit)) r ⌝ }
+{
+    let c = starts(n);
+    let end = past(c.text, n.text, 1);
+    let mut at = put_pair(out, 0, 1, end);
+    at = put_pair(out, at, n.annotations, c.annotations);
+    at = put_pair(out, at, n.losses, c.losses);
+    at = put_pair(out, at, n.isotopes, c.isotopes);
+    at = put_pair(out, at, n.items, c.items);
+    at = put_pair(out, at, n.units, c.units);
+    put_pair(out, at, n.text, c.text);
+    c
+}
