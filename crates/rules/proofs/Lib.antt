@@ -21,4 +21,10 @@ pub mod FirstBroken
 pub mod Bounds
 pub mod Lengths
 pub mod Sizes
+pub mod Cuts
+pub mod OneRecord
+pub mod OnePart
+pub mod OneIon
+pub mod OneLoss
+pub mod OneAnnotation
 pub mod worked
