@@ -31,12 +31,13 @@ flag-one true false e = absurd (omega arith)
 flag-one false true e = absurd (omega arith)
 flag-one false false e = refl
 
--- told by a flag
-pub present-one : {A : Type 0} (x y : Opt A) → ((a b : A) → x ≡ written a → y ≡ written b → a ≡ b) → present x ≡ present y → x ≡ y
-present-one silent silent one e = refl
-present-one silent (written b) one e = absurd (omega arith)
-present-one (written a) silent one e = absurd (omega arith)
-present-one (written a) (written b) one e = ap written (one a b refl refl)
+-- told by a flag and two numbers
+pub there-one : {A : Type 0} (f g : A → ℕ) → ((a b : A) → f a ≡ f b → g a ≡ g b → a ≡ b)
+    → (x y : Opt A) → present x ≡ present y → valueOr0 f x ≡ valueOr0 f y → valueOr0 g x ≡ valueOr0 g y → x ≡ y
+there-one f g one silent silent e p q = refl
+there-one f g one silent (written b) e p q = absurd (omega arith)
+there-one f g one (written a) silent e p q = absurd (omega arith)
+there-one f g one (written a) (written b) e p q = ap written (one a b p q)
 
 -- told by its number, which is not 0
 pub number-one : (x y : Opt Number) → valueOr0 number x ≡ valueOr0 number y → x ≡ y
