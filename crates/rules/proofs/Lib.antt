@@ -23,8 +23,13 @@ pub mod Lengths
 pub mod Sizes
 pub mod Cuts
 pub mod OneRecord
+pub mod FitParts
+pub mod FitIons
 pub mod OnePart
 pub mod OneIon
 pub mod OneLoss
 pub mod OneAnnotation
+pub mod FitAnnotations
+pub mod OneStored
+pub mod WritesOne
 pub mod worked
