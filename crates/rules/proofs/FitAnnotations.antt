@@ -1,94 +1,39 @@
 -- The limits and house rules keep each number of a sound table within its field of the stored table. Assumes nothing.
-use Prim.Native.Nat.{ℕ, _-_, _^_, _≤_, _<_}
+use Prim.Native.Nat.{ℕ, _≤_}
 use mathlib.Core.Path.{_≡_, refl, subst}
-use mathlib.Core.Bool.{Bool, true, false, not, _&&_, _||_}
+use mathlib.Core.Bool.{Bool, true, false, not, _&&_}
 use mathlib.Core.List.{List, [], _∷_}
 use native.Mathlib.Omega.{arith}
-use native.Mathlib.Nat.{one-le-pow, le-mul-of-pos-right}
-use lib.Dec.{T, leb, leb→le}
-use lib.ListN.{length}
+use lib.Dec.{T, leb}
 use Rattle.lang.specs.Parts.{Opt, silent, written}
 use Rattle.lang.specs.Mark.{In, here, later, Kept, marksOf}
 use Rattle.lang.proofs.Deriv.{and-0, and-1}
 use Rattle.rules.specs.Bytes.{bytes}
 use Rattle.rules.specs.Numbers.{From, Number}
-use Rattle.rules.specs.Decimals.{Decimal, digitCount}
 use Rattle.rules.specs.Formulas.{Written}
-use Rattle.rules.specs.Ions.{Ion, ionText}
+use Rattle.rules.specs.Ions.{ionText}
 use Rattle.rules.specs.Losses.{Loss, lossText, lossMap}
 use Rattle.rules.specs.Isotopes.{Isotopes, isotopesText}
 use Rattle.rules.specs.Adducts.{Item, itemText, adductText, itemMap}
-use Rattle.rules.specs.Annotations.{Deviation, Annotation, flagText, annotationText, annotationMap}
+use Rattle.rules.specs.Annotations.{Annotation, annotationMap}
 use Rattle.rules.specs.Lines.{Spelling}
 use Rattle.rules.specs.Fields.{Table, filled, SameFields}
-use Rattle.rules.specs.Limits.{maxPosition, maxCharge, maxPlaces, maxDigits, fits, bare, part, optPart, decimalPart, rowPart, ionParts}
+use Rattle.rules.specs.Limits.{maxPosition, maxCharge, bare, part, optPart, rowPart, ionParts}
 use Rattle.rules.specs.Limits.{lossMarks, isotopesMarks, itemMarks, adductMarks, analytePart, chargePart, deviationPart, confidencePart, annotationParts, annotationMarks}
-use Rattle.rules.specs.House.{isEmpty, ionRule, deviationRule, billionths, confidenceOf, one, annotationRules, firstBreach}
+use Rattle.rules.specs.House.{isEmpty, ionRule, deviationRule, confidenceOf, one, annotationRules, firstBreach}
 use Rattle.rules.specs.Preferred.{countOr1}
-use Rattle.rules.specs.Stored.{Field, flag, present, valueOr0, isotopeRecords, deviationKind, signed, annotationRecord}
+use Rattle.rules.specs.Stored.{Field, present, valueOr0, isotopeRecords, annotationRecord}
 use Rattle.rules.specs.Answers.{Sound}
 use Rattle.rules.proofs.OneAnswer.{written-not-silent}
-use Rattle.rules.proofs.Fractions.{decimal-below}
 use Rattle.rules.proofs.Totals.{in-map, perm-in}
 use Rattle.rules.proofs.Keeps.{kept-tail, kept-part, not-past, row-each}
 use Rattle.rules.proofs.Bounds.{Bounded, each-in, line-each}
 use Rattle.rules.proofs.OneRecord.{Fits}
-use Rattle.rules.proofs.OneAnnotation.{sizeOf}
+use Rattle.rules.proofs.FitDecimals.{flag-small, DeviationFits, deviation-fits, ConfidenceFits, confidence-fits}
 use Rattle.rules.proofs.FitParts.{LossFits, loss-fits, isotopeWidths, isotopes-fit, ItemFits, item-fits}
 use Rattle.rules.proofs.FitIons.{IonFits, ion-fits}
 
--- ---- decimals
-
-kept-true : (b : Bool) → (T (not b) → ⊥) → T b
-kept-true true h = tt
-kept-true false h = h tt
-
-decimal-places : (d : Decimal) → T (fits d) → d .places ≤ maxPlaces
-decimal-places d t = leb→le (d .places) maxPlaces (and-0 (leb (d .places) maxPlaces) (leb (digitCount d) maxDigits) t)
-
-decimal-size : (d : Decimal) → T (fits d) → d .value < 10 ^ 12
-decimal-size d t = decimal-below d (leb→le (digitCount d) maxDigits (and-1 (leb (d .places) maxPlaces) (leb (digitCount d) maxDigits) t))
-
--- ---- deviations
-
-pub record DeviationFits (x : Opt Deviation) : Type 0 where
-  pub kind : deviationKind x ≤ 2
-  pub places : valueOr0 (λ d. d .size .places) x ≤ maxPlaces
-  pub size : sizeOf x < 10 ^ 12
-  pub value : valueOr0 (λ d. signed (d .minus) (d .size .value)) x < 2 ^ 64
-
-flag-small : (b : Bool) → flag b ≤ 1
-flag-small true = omega arith
-flag-small false = omega arith
-
--- no `-` before 0
-signed-fits : (m : Bool) (n : ℕ) → n < 10 ^ 12 → T (not m || leb 1 n) → signed m n < 2 ^ 64
-signed-fits true n h t = let g = leb→le 1 n t in omega arith
-signed-fits false n h t = omega arith
-
-deviation-fits : (x : Opt Deviation) (at : ℕ) → Kept (optPart deviationPart x .marks at) → T (deviationRule x) → DeviationFits x
-deviation-fits silent at k t = omega arith
-deviation-fits (written d) at k t =
-    let p = kept-part at (bare (bytes "/") ∷ bare (flagText (bytes "-") (d .minus)) ∷ decimalPart (d .size) ∷ []) k (decimalPart (d .size)) (later (later here)) in
-    let f = kept-true (fits (d .size)) (λ b. p .1 _ here b) in
-    let size = decimal-size (d .size) f in
-    record { kind = omega (arith, flag-small (d .ppm)); places = decimal-places (d .size) f; size = size; value = signed-fits (d .minus) (d .size .value) size t }
-
--- ---- confidences
-
-pub record ConfidenceFits (x : Opt Decimal) : Type 0 where
-  pub places : valueOr0 (λ d. d .places) x ≤ maxPlaces
-  pub value : valueOr0 (λ d. d .value) x ≤ 10 ^ 9
-
--- at most 1, and so at most a billion of its last places
-confidence-fits : (x : Opt Decimal) (at : ℕ) → Kept (optPart confidencePart x .marks at) → T (leb (confidenceOf x) one) → ConfidenceFits x
-confidence-fits silent at k t = omega arith
-confidence-fits (written d) at k t =
-    let f = kept-true (fits d) (λ b. k _ here b) in
-    let g = le-mul-of-pos-right (d .value) (one-le-pow (maxPlaces - d .places) 10 (omega arith)) in
-    record { places = decimal-places d f; value = omega (arith, leb→le (billionths d) one t) }
-
--- ---- annotations
+-- ---- an annotation
 
 analyte-within : (x : Opt ℕ) (at : ℕ) → Kept (optPart analytePart x .marks at) → valueOr0 (λ n. n) x ≤ maxPosition
 analyte-within silent at k = omega arith
@@ -156,11 +101,12 @@ same-in-range e r =
 
 -- ---- tables
 
--- no annotation of a line is the first that breaks a rule: each keeps them
+-- a test that did not end the search for a place passed, and the search went on
 passed : (x : Bool) (more : Opt ℕ) (at : ℕ) → _≡_ {A = Opt ℕ} (elim x [ true ↦ more | false ↦ written at ]) silent → T x × (more ≡ silent)
 passed true more at e = (tt, e)
 passed false more at e = absurd (written-not-silent (written at) refl e)
 
+-- where no annotation of a line is the first that breaks a rule, each keeps the rules
 rules-each : (at : ℕ) (s : Spelling) → firstBreach at s ≡ silent → (a : Annotation Written) → In a s → T (annotationRules a)
 rules-each at (a ∷ s) e b here = passed (annotationRules a) (firstBreach _ s) at e .0
 rules-each at (a ∷ s) e b (later i) = rules-each _ s (passed (annotationRules a) (firstBreach _ s) at e .1) b i
@@ -173,6 +119,7 @@ table-in-range t s a i =
 
 -- ---- the record of an annotation
 
+-- kind, flags, letter; analyte, position, end; charge, deviation, confidence; their values; how many of each part
 abbrev pub annotationWidths : List ℕ
 annotationWidths = 1 ∷ 1 ∷ 1 ∷ 1 ∷ 2 ∷ 2 ∷ 2 ∷ 1 ∷ 1 ∷ 1 ∷ 1 ∷ 1 ∷ 1 ∷ 8 ∷ 4 ∷ 2 ∷ 2 ∷ 1 ∷ 1 ∷ 1 ∷ 1 ∷ []
 

@@ -1,6 +1,6 @@
 -- The limits keep each number of an ion within its field of the stored table. Assumes nothing.
 use Prim.Native.Nat.{ℕ, _≤_}
-use mathlib.Core.List.{List, [], _∷_}
+use mathlib.Core.List.{[]}
 use native.Mathlib.Omega.{arith}
 use lib.Dec.{ltb→lt}
 use Rattle.lang.specs.Parts.{Opt, silent, written}

@@ -1,23 +1,21 @@
 -- The limits keep each number of a unit, a loss, an isotope and an adduct item within its field of the stored table. Assumes nothing.
-use Prim.Native.Nat.{ℕ, _+_, _≤_, _<_}
-use mathlib.Core.Path.{_≡_, refl}
-use mathlib.Core.List.{List, [], _∷_, map}
+use Prim.Native.Nat.{ℕ, _≤_, _<_}
+use mathlib.Core.List.{List, [], _∷_}
 use native.Mathlib.Omega.{arith}
 use lib.Dec.{ltb→lt}
-use lib.ListN.{length}
 use Rattle.lang.specs.Parts.{Opt, silent, written, items, someMap, wordOf}
-use Rattle.lang.specs.Mark.{In, here, later, Kept, Part, marksOf}
+use Rattle.lang.specs.Mark.{In, here, later, Kept}
 use Rattle.rules.specs.Bytes.{bytes}
 use Rattle.rules.specs.Numbers.{From, Number}
-use Rattle.rules.specs.Elements.{symbols, Symbol, atomicNumber}
+use Rattle.rules.specs.Elements.{symbols, Symbol}
 use Rattle.rules.specs.Formulas.{Written, FormulaUnit, plain, labelled, unitText, unitMap, Formula, formulaMap}
 use Rattle.rules.specs.Losses.{Sign, minus, plus, signText, Lost, lost-formula, lost-name, lostMap, Loss, lossMap}
-use Rattle.rules.specs.Isotopes.{Shift, shiftText, shiftMap, Specific, specificText, specificMap, Isotopes, no-isotope, plain-isotope, average-isotope, specific-isotopes, isotopesMap}
+use Rattle.rules.specs.Isotopes.{Shift, shiftText, Specific, specificText, specificMap, Isotopes, no-isotope, plain-isotope, average-isotope, specific-isotopes, isotopesMap}
 use Rattle.rules.specs.Adducts.{Added, added-formula, electron, addedMap, Item, itemMap}
 use Rattle.rules.specs.Fields.{filled}
 use Rattle.rules.specs.Limits.{maxCount, bare, part, optPart, numberPart, unitMarks, formulaPart, lostPart, lossParts, lossMarks, shiftMarks, specificMarks, isotopesMarks, addedPart, itemParts, itemMarks}
 use Rattle.rules.specs.Preferred.{signRank, countOr1}
-use Rattle.rules.specs.Stored.{Field, unitRecord, lostKind, lostUnits, lossRecord, isotopeRecord, specificRecord, isotopeRecords, addedKind, addedUnits, itemRecord}
+use Rattle.rules.specs.Stored.{Field, unitRecord, lostKind, lostUnits, lossRecord, specificRecord, isotopeRecords, addedKind, addedUnits, itemRecord}
 use Rattle.rules.proofs.Totals.{in-none, in-cons, in-map}
 use Rattle.rules.proofs.Keeps.{kept-tail, kept-part, not-past, row-each}
 use Rattle.rules.proofs.Bounds.{loss-small, item-few}
@@ -79,9 +77,9 @@ pub record LossFits (l : Loss Number) : Type 0 where
   pub self : Fits lossWidths (lossRecord l)
   pub units : (u : FormulaUnit Number) → In u (lostUnits (l .what)) → UnitFits u
 
-lost-small : (x : Lost Number) → lostKind x ≤ 1
-lost-small (lost-formula f) = omega arith
-lost-small (lost-name n) = omega arith
+lost-kind-small : (x : Lost Number) → lostKind x ≤ 1
+lost-kind-small (lost-formula f) = omega arith
+lost-kind-small (lost-name n) = omega arith
 
 lost-fits : (x : Lost Written) (at : ℕ) → Kept (lostPart x .marks at) → (u : FormulaUnit Number) → In u (lostUnits (lostMap filled x)) → UnitFits u
 lost-fits (lost-formula f) at k = formula-fits f at k
@@ -93,7 +91,7 @@ loss-fits i l at k =
     let p = kept-part at (lossParts l) (kept-tail k) (optPart (numberPart maxCount) (l .count)) (later here) in
     let q = kept-part at (lossParts l) (kept-tail k) (lostPart (l .what)) (later (later here)) in
     record {
-      self = omega (arith, sign-small (l .sign), lost-small (lostMap filled (l .what)), count-within (l .count) (p .0) (p .1), small .few, small .short);
+      self = omega (arith, sign-small (l .sign), lost-kind-small (lostMap filled (l .what)), count-within (l .count) (p .0) (p .1), small .few, small .short);
       units = lost-fits (l .what) (q .0) (q .1);
     }
 
@@ -131,10 +129,10 @@ isotopes-fit (plain-isotope x) at k =
 isotopes-fit (average-isotope x) at k =
     in-cons (Fits isotopeWidths) (omega (arith, sign-small (x .sign), shift-within x at k)) (λ fs i. absurd (in-none i))
 isotopes-fit (specific-isotopes xs) at k =
+    let each = row-each specificText specificMarks 0 (items xs) at k in
     in-map specificRecord (Fits isotopeWidths) (items (someMap (specificMap filled) xs))
-    (in-map (specificMap filled) (λ x. Fits isotopeWidths (specificRecord x)) (items xs) (λ x j.
-        let c = row-each specificText specificMarks 0 (items xs) at k x j in
-        specific-fits (c .0) x (c .1) (c .2)))
+    (in-map (specificMap filled) (λ x. Fits isotopeWidths (specificRecord x)) (items xs)
+    (λ x j. specific-fits (each x j .0) x (each x j .1) (each x j .2)))
 
 -- ---- adduct items
 
@@ -146,9 +144,9 @@ pub record ItemFits (x : Item Number) : Type 0 where
   pub self : Fits itemWidths (itemRecord x)
   pub units : (u : FormulaUnit Number) → In u (addedUnits (x .what)) → UnitFits u
 
-added-small : (x : Added Number) → addedKind x ≤ 2
-added-small (added-formula f) = omega arith
-added-small electron = omega arith
+added-kind-small : (x : Added Number) → addedKind x ≤ 2
+added-kind-small (added-formula f) = omega arith
+added-kind-small electron = omega arith
 
 added-fits : (x : Added Written) (at : ℕ) → Kept (addedPart x .marks at) → (u : FormulaUnit Number) → In u (addedUnits (addedMap filled x)) → UnitFits u
 added-fits (added-formula f) at k = formula-fits f at k
@@ -159,6 +157,6 @@ item-fits i x at k =
     let p = kept-part at (itemParts x) (kept-tail k) (optPart (numberPart maxCount) (x .count)) (later here) in
     let q = kept-part at (itemParts x) (kept-tail k) (addedPart (x .what)) (later (later here)) in
     record {
-      self = omega (arith, sign-small (x .sign), added-small (addedMap filled (x .what)), filled-within (x .count) (p .0) (p .1), item-few i x at k);
+      self = omega (arith, sign-small (x .sign), added-kind-small (addedMap filled (x .what)), filled-within (x .count) (p .0) (p .1), item-few i x at k);
       units = added-fits (x .what) (q .0) (q .1);
     }

@@ -70,14 +70,24 @@ value-below (suc k) a b (c ∷ w) t n h =
     let g = in→ 48 57 c (and-0 (inC digit c) (all digit w) t) in
     value-below k (a * 10 + (c - 48)) (b * 10) w (and-1 (inC digit c) (all digit w) t) (omega arith) (omega arith)
 
+-- all digits of a decimal
+abbrev digitsOf : Decimal → List ℕ
+digitsOf d = digits (whole (d .places) (d .value)) ++ lastDigits (d .places) (d .value)
+
+digits-of-length : (d : Decimal) → length (digitsOf d) ≡ digitCount d
+digits-of-length d =
+    omega (arith, length-append (digits (whole (d .places) (d .value))) (lastDigits (d .places) (d .value)), last-length (d .places) (d .value))
+
+digits-of-value : (d : Decimal) → valueFrom 0 (digitsOf d) ≡ d .value
+digits-of-value d =
+    let w = whole (d .places) (d .value) in
+    let l = lastDigits (d .places) (d .value) in
+    value-append 0 (digits w) l ∙ ap (λ (x : ℕ). valueFrom x l) (digits-value w) ∙ value-back (d .places) (d .value)
+
 -- a decimal within its bound of digits
 pub decimal-below : (d : Decimal) → digitCount d ≤ maxDigits → d .value < 10 ^ 12
 decimal-below d h =
-    let l = digits (whole (d .places) (d .value)) in
-    let r = lastDigits (d .places) (d .value) in
-    let e : valueFrom 0 (l ++ r) ≡ d .value =
-        value-append 0 l r ∙ ap (λ (x : ℕ). valueFrom x r) (digits-value (whole (d .places) (d .value))) ∙ value-back (d .places) (d .value) in
-    let b =
-        value-below 12 0 1 (l ++ r) (all-append l r (digits-all (whole (d .places) (d .value))) (last-digits (d .places) (d .value)))
-        (omega (arith, length-append l r, last-length (d .places) (d .value))) (omega arith) in
-    subst (λ (v : ℕ). v < 10 ^ 12) e b
+    let w = whole (d .places) (d .value) in
+    let t = all-append (digits w) (lastDigits (d .places) (d .value)) (digits-all w) (last-digits (d .places) (d .value)) in
+    let b = value-below maxDigits 0 1 (digitsOf d) t (omega (arith, digits-of-length d)) (omega arith) in
+    subst (λ (v : ℕ). v < 10 ^ 12) (digits-of-value d) b

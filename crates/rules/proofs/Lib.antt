@@ -25,7 +25,9 @@ pub mod Cuts
 pub mod OneRecord
 pub mod FitParts
 pub mod FitIons
+pub mod FitDecimals
 pub mod OnePart
+pub mod OneIsotopes
 pub mod OneIon
 pub mod OneLoss
 pub mod OneAnnotation

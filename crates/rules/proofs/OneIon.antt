@@ -1,7 +1,6 @@
 -- An ion is told by its kind, its letter, its numbers, its text and its units. Assumes nothing.
 use Prim.Native.Nat.{ℕ, _+_}
 use mathlib.Core.Path.{_≡_, refl, sym, ap, ap₂, subst}
-use mathlib.Core.List.{List}
 use native.Mathlib.Omega.{arith}
 use Rattle.lang.specs.Re.{Byte}
 use Rattle.lang.specs.Parts.{Opt}
@@ -10,7 +9,7 @@ use Rattle.lang.proofs.Means.{such-path, listed-path}
 use Rattle.rules.specs.Bytes.{capital}
 use Rattle.rules.specs.Numbers.{Number}
 use Rattle.rules.specs.Texts.{Text, Name, Modification}
-use Rattle.rules.specs.Formulas.{FormulaUnit, Formula}
+use Rattle.rules.specs.Formulas.{Formula}
 use Rattle.rules.specs.Ions.{Series, Ion, series, internal, immonium, precursor, reference, named, composed, smiles, unknown}
 use Rattle.rules.specs.Stored.{kind, IonFields, ionFields}
 use Rattle.rules.proofs.Shortened.{from-path}

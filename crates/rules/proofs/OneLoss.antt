@@ -44,9 +44,9 @@ losses-one [] (m ∷ ms) us vs ws zs r e d = absurd (nil≢cons r)
 losses-one (l ∷ ls) [] us vs ws zs r e d = absurd (cons≢nil r)
 losses-one (l ∷ ls) (m ∷ ms) us vs ws zs r e d =
     let f = head-eq-of-cons-eq r in
-    let x =
-        lost-one (l .what) (m .what) _ _ _ _ (ap (valueAt 1) f) (ap (valueAt 3) f)
-        (along (λ l. lostUnits (l .what)) l m ls ms us vs e) (along (λ l. lostName (l .what)) l m ls ms ws zs d) in
+    let du = along (λ l. lostUnits (l .what)) l m ls ms us vs e in
+    let dn = along (λ l. lostName (l .what)) l m ls ms ws zs d in
+    let x = lost-one (l .what) (m .what) _ _ _ _ (ap (valueAt 1) f) (ap (valueAt 3) f) du dn in
     let more = losses-one ls ms us vs ws zs (tail-eq-of-cons-eq r) (x .1) (x .2) in
     let one : l ≡ m = λ i. record {
       sign = sign-one (l .sign) (m .sign) (ap (valueAt 0) f) i;

@@ -1,23 +1,18 @@
--- What is stored of the small parts of an annotation tells them: what may be left out, units, isotopes. Assumes nothing.
-use Prim.Native.Nat.{ℕ, _+_}
+-- What is stored of the small parts of an annotation tells them: what may be left out, and units of formulas. Assumes nothing.
+use Prim.Native.Nat.{ℕ}
 use mathlib.Core.Path.{_≡_, refl, sym, ap, ap₂, subst}
 use mathlib.Core.Bool.{Bool, true, false}
-use mathlib.Core.List.{List, [], _∷_, map, head-eq-of-cons-eq, tail-eq-of-cons-eq}
+use mathlib.Core.List.{List, [], head-eq-of-cons-eq, tail-eq-of-cons-eq}
 use native.Mathlib.Omega.{arith}
 use lib.Dec.{T, leb→le}
 use lib.ListN.{getD}
 use Rattle.lang.specs.Parts.{Opt, silent, written, Some, items, Such}
 use Rattle.lang.proofs.Means.{such-path, listed-path}
-use Rattle.rules.specs.Numbers.{From, Number}
+use Rattle.rules.specs.Numbers.{Number}
 use Rattle.rules.specs.Elements.{Symbol, atomicNumber}
 use Rattle.rules.specs.Formulas.{FormulaUnit, plain, labelled}
-use Rattle.rules.specs.Losses.{Sign}
-use Rattle.rules.specs.Isotopes.{Shift, Specific, Isotopes, no-isotope, plain-isotope, average-isotope, specific-isotopes}
-use Rattle.rules.specs.Preferred.{signRank}
-use Rattle.rules.specs.Stored.{Field, u8, flag, present, valueOr0, number, bytesOf, unitRecord, isotopeRecord, specificRecord, isotopeRecords}
+use Rattle.rules.specs.Stored.{Field, u8, flag, present, valueOr0, number, bytesOf, unitRecord}
 use Rattle.rules.proofs.Shortened.{from-path}
-use Rattle.rules.proofs.Keys.{sign-one}
-use Rattle.rules.proofs.Cuts.{map-one}
 
 -- the value in a field of a record, by its place
 abbrev pub valueAt : ℕ → List Field → ℕ
@@ -58,7 +53,7 @@ text-one full (written a) (written b) e = ap written (such-path a b e)
 pub some-one : {A : Type 0} (x y : Some A) → items x ≡ items y → x ≡ y
 some-one x y e = λ i. record { first = head-eq-of-cons-eq e i; more = tail-eq-of-cons-eq e i }
 
-symbol-one : (x y : Symbol) → atomicNumber x ≡ atomicNumber y → x ≡ y
+pub symbol-one : (x y : Symbol) → atomicNumber x ≡ atomicNumber y → x ≡ y
 symbol-one x y e = listed-path x y (omega arith)
 
 -- a labelled unit has nucleons
@@ -74,44 +69,3 @@ unit-one (labelled a s c) (plain r d) e =
     absurd (omega arith)
 unit-one (labelled a s c) (labelled b r d) e =
     λ i. labelled (from-path a b (ap (valueAt 0) e) i) (symbol-one s r (ap (valueAt 1) e) i) (from-path c d (ap (valueAt 2) e) i)
-
--- ---- isotopes
-
-shift-one : (x y : Shift Number) (k m n l p q : ℕ) → isotopeRecord x k m n ≡ isotopeRecord y l p q → x ≡ y
-shift-one x y k m n l p q e =
-    λ i. record { sign = sign-one (x .sign) (y .sign) (ap (valueAt 0) e) i; count = from-path (x .count) (y .count) (ap (valueAt 2) e) i }
-
-specific-one : (x y : Specific Number) → specificRecord x ≡ specificRecord y → x ≡ y
-specific-one x y e =
-    λ i. record {
-      shift = shift-one (x .shift) (y .shift) _ _ _ _ _ _ e i;
-      nucleons = from-path (x .nucleons) (y .nucleons) (ap (valueAt 3) e) i;
-      symbol = symbol-one (x .symbol) (y .symbol) (ap (valueAt 4) e) i;
-    }
-
--- isotopes by the first record: 0 without one, and else 1 more than its kind
-abbrev kindOf : List (List Field) → ℕ
-kindOf [] = 0
-kindOf (fs ∷ rs) = 1 + valueAt 1 fs
-
-data OfKind : ℕ → Isotopes Number → Type 0 where
-  of-none : OfKind 0 no-isotope
-  of-plain : (x : Shift Number) → OfKind 1 (plain-isotope x)
-  of-average : (x : Shift Number) → OfKind 2 (average-isotope x)
-  of-specific : (xs : Some (Specific Number)) → OfKind 3 (specific-isotopes xs)
-
-of-kind : (x : Isotopes Number) → OfKind (kindOf (isotopeRecords x)) x
-of-kind no-isotope = of-none
-of-kind (plain-isotope x) = of-plain x
-of-kind (average-isotope x) = of-average x
-of-kind (specific-isotopes xs) = of-specific xs
-
-kind-one : {k : ℕ} {x y : Isotopes Number} → OfKind k x → OfKind k y → isotopeRecords x ≡ isotopeRecords y → x ≡ y
-kind-one of-none of-none e = refl
-kind-one (of-plain x) (of-plain y) e = ap plain-isotope (shift-one x y _ _ _ _ _ _ (head-eq-of-cons-eq e))
-kind-one (of-average x) (of-average y) e = ap average-isotope (shift-one x y _ _ _ _ _ _ (head-eq-of-cons-eq e))
-kind-one (of-specific xs) (of-specific ys) e =
-    ap specific-isotopes (some-one xs ys (map-one specificRecord specific-one (items xs) (items ys) e))
-
-pub isotopes-one : (x y : Isotopes Number) → isotopeRecords x ≡ isotopeRecords y → x ≡ y
-isotopes-one x y e = kind-one (of-kind x) (subst (λ (k : ℕ). OfKind k y) (sym (ap kindOf e)) (of-kind y)) e

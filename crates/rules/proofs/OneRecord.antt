@@ -1,9 +1,9 @@
 -- The bytes of records tell the values in their fields, if each value fits its field. Once for all widths. Assumes nothing.
 use Prim.Native.Nat.{ℕ, zero, suc, _+_, _/_, _%_, _^_, _<_}
-use mathlib.Core.Path.{_≡_, refl, sym, ap, ap₂, _∙_, subst}
+use mathlib.Core.Path.{_≡_, refl, sym, ap, ap₂, _∙_}
 use mathlib.Core.List.{List, [], _∷_, map, head-eq-of-cons-eq, tail-eq-of-cons-eq}
 use native.Mathlib.Omega.{arith}
-use native.Mathlib.Nat.{pow-zero, pow-succ'}
+use native.Mathlib.Nat.{pow-succ'}
 use lib.ListN.{length, length-append}
 use Rattle.lang.specs.Parts.{flat}
 use Rattle.lang.specs.Mark.{In, here, later}
@@ -26,6 +26,7 @@ Fits [] (f ∷ fs) = ⊥
 Fits (w ∷ ws) [] = ⊥
 Fits (w ∷ ws) (f ∷ fs) = (f .width ≡ w) × (f .value < 256 ^ w) × Fits ws fs
 
+-- the bytes of fields of these widths
 abbrev pub size : List ℕ → ℕ
 size [] = 0
 size (w ∷ ws) = w + size ws
@@ -53,11 +54,11 @@ stores-one (w ∷ ws) (f ∷ fs) (g ∷ gs) h k e =
     let wide : f .width ≡ g .width = h .0 ∙ sym (k .0) in
     let n = little-length (f .width) (f .value) ∙ wide ∙ sym (little-length (g .width) (g .value)) in
     let c = cut (little (f .width) (f .value)) (little (g .width) (g .value)) n e in
-    let b = subst (λ (x : ℕ). little x (f .value) ≡ little w (g .value)) (h .0) (subst (λ (x : ℕ). little (f .width) (f .value) ≡ little x (g .value)) (k .0) (c .0)) in
+    let b = sym (ap (λ (x : ℕ). little x (f .value)) (h .0)) ∙ c .0 ∙ ap (λ (x : ℕ). little x (g .value)) (k .0) in
     let v = little-one w (f .value) (g .value) (h .1) (k .1) b in
     ap₂ _∷_ (λ i. record { width = wide i; value = v i }) (stores-one ws fs gs (h .2) (k .2) (c .1))
 
--- as many records, one after the other
+-- as many records of one kind, one after the other
 pub records-one : {A : Type 0} (f : A → List Field) (ws : List ℕ) (xs ys : List A)
     → ((x : A) → In x xs → Fits ws (f x)) → ((y : A) → In y ys → Fits ws (f y))
     → length xs ≡ length ys → flat (λ x. stores (f x)) xs ≡ flat (λ y. stores (f y)) ys → map f xs ≡ map f ys

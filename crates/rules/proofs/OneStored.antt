@@ -1,7 +1,7 @@
 -- Document 01, "The stored table": no two sound tables have the same bytes. Assumes nothing.
-use Prim.Native.Nat.{ℕ, _+_, _*_, _≤_}
+use Prim.Native.Nat.{ℕ, _+_, _≤_}
 use mathlib.Core.Path.{_≡_, refl, ap}
-use mathlib.Core.List.{List, [], _∷_, _++_, map}
+use mathlib.Core.List.{List, [], _∷_, _++_}
 use native.Mathlib.Omega.{arith}
 use lib.ListN.{length}
 use Rattle.lang.specs.Parts.{flat}
@@ -22,9 +22,9 @@ use Rattle.rules.proofs.Sizes.{header-fits}
 use Rattle.rules.proofs.Cuts.{cut, map-one}
 use Rattle.rules.proofs.OneRecord.{Fits, stores-one, records-one}
 use Rattle.rules.proofs.OnePart.{valueAt, unit-one}
-use Rattle.rules.proofs.OneAnnotation.{SameParts, table-one}
+use Rattle.rules.proofs.OneAnnotation.{table-one}
 use Rattle.rules.proofs.FitParts.{UnitFits, unitWidths, lossWidths, isotopeWidths, itemWidths}
-use Rattle.rules.proofs.FitAnnotations.{InRange, table-in-range, annotationWidths, annotation-fits}
+use Rattle.rules.proofs.FitAnnotations.{table-in-range, annotationWidths, annotation-fits}
 
 -- ---- the header
 
