@@ -113,7 +113,7 @@ means-one {tx = tx} one e d =
     }
 
 -- the lists that pass a test
-such-path : {f : List ℕ → Bool} (x y : Such f) → x .bytes ≡ y .bytes → x ≡ y
+pub such-path : {f : List ℕ → Bool} (x y : Such f) → x .bytes ≡ y .bytes → x ≡ y
 such-path {f} x y p = λ i. record { bytes = p i; good = isProp→PathP (λ j. T (f (p j))) (λ j. T-prop (f (p j))) (x .good) (y .good) i }
 
 pub means-such : (f : List ℕ → Bool) (r : Re) → ((l : List ℕ) → T (f l) → (t : Tree r) × ((k : List ℕ) → text r t k ≡ l ++ k)) → ((t : Tree r) → (l : List ℕ) × T (f l) × ((k : List ℕ) → text r t k ≡ l ++ k)) → Means (Such f) (λ x. x .bytes) r
@@ -149,7 +149,7 @@ means-word w =
     record { enc = λ u. lit-tree w .0; enc-text = λ u. lit-tree w .1; dec = λ t. tt; dec-text = λ t. lit-text w t; back = λ u. refl }
 
 -- one of the words of a list
-listed-path : {ws : List (List ℕ)} (x y : Listed ws) → x .which ≡ y .which → x ≡ y
+pub listed-path : {ws : List (List ℕ)} (x y : Listed ws) → x .which ≡ y .which → x ≡ y
 listed-path {ws} x y p =
     λ i. record { which = p i; known = isProp→PathP (λ j. T (ltb (p j) (length ws))) (λ j. T-prop (ltb (p j) (length ws))) (x .known) (y .known) i }
 

@@ -96,13 +96,13 @@ added-few : (x : Added Written) (at : ℕ) → Kept (addedPart x .marks at) → 
 added-few (added-formula f) at k = formula-few f at k
 added-few electron at k = omega arith
 
-loss-small : (i : ℕ) (l : Loss Written) (at : ℕ) → Kept (lossMarks i l at)
+pub loss-small : (i : ℕ) (l : Loss Written) (at : ℕ) → Kept (lossMarks i l at)
     → Small (lostUnits (lostMap filled (l .what))) (lostName (lostMap filled (l .what)))
 loss-small i l at k =
     let c = kept-part at (lossParts l) (kept-tail k) (lostPart (l .what)) (later (later here)) in
     lost-small (l .what) (c .0) (c .1)
 
-item-few : (i : ℕ) (x : Item Written) (at : ℕ) → Kept (itemMarks i x at) → length (addedUnits (addedMap filled (x .what))) ≤ maxUnits
+pub item-few : (i : ℕ) (x : Item Written) (at : ℕ) → Kept (itemMarks i x at) → length (addedUnits (addedMap filled (x .what))) ≤ maxUnits
 item-few i x at k =
     let c = kept-part at (itemParts x) (kept-tail k) (addedPart (x .what)) (later (later here)) in
     added-few (x .what) (c .0) (c .1)
@@ -183,13 +183,17 @@ line-few (a ∷ more) k =
     let r = row-few nextText nextMarks maxAnnotations next-few 1 more (length (annotationText a)) (kept-right (annotationMarks 0 a 0) m k) (omega arith) in
     omega arith
 
-pub line-bounded : (s : Spelling) → Kept (lineMarks s) → (a : Annotation Written) → In a s → Bounded (annotationMap filled a)
-line-bounded (a ∷ more) k b here =
-    kept-bounded 0 a 0 (kept-left (annotationMarks 0 a 0) (rowMarks nextText nextMarks 1 more (length (annotationText a))) k)
-line-bounded (a ∷ more) k b (later i) =
+-- each annotation of a line is kept, at its place
+pub line-each : (s : Spelling) → Kept (lineMarks s) → (a : Annotation Written) → In a s → (i : ℕ) × (at : ℕ) × Kept (annotationMarks i a at)
+line-each (a ∷ more) k b here =
+    (0, 0, kept-left (annotationMarks 0 a 0) (rowMarks nextText nextMarks 1 more (length (annotationText a))) k)
+line-each (a ∷ more) k b (later i) =
     let m = rowMarks nextText nextMarks 1 more (length (annotationText a)) in
     let c = row-each nextText nextMarks 1 more (length (annotationText a)) (kept-right (annotationMarks 0 a 0) m k) b i in
-    kept-bounded (c .0) b (c .1 + 1) (c .2)
+    (c .0, c .1 + 1, c .2)
+
+pub line-bounded : (s : Spelling) → Kept (lineMarks s) → (a : Annotation Written) → In a s → Bounded (annotationMap filled a)
+line-bounded s k a i = let c = line-each s k a i in kept-bounded (c .0) a (c .1) (c .2)
 
 pub table-few : (t : Table) → Sound t → length t ≤ maxAnnotations
 table-few t s = subst (λ (n : ℕ). n ≤ maxAnnotations) (each-length (s .says)) (line-few (s .spelling) (s .limits))

@@ -46,7 +46,7 @@ unfolding valueFrom
 value-le a [] = le-refl a
 value-le a (b ∷ w) = le-trans (omega arith) (value-le (a * 10 + (b - 48)) w)
 
-value-append : (a : ℕ) (v w : List ℕ) → valueFrom a (v ++ w) ≡ valueFrom (valueFrom a v) w
+pub value-append : (a : ℕ) (v w : List ℕ) → valueFrom a (v ++ w) ≡ valueFrom (valueFrom a v) w
 unfolding valueFrom
 value-append a [] w = refl
 value-append a (b ∷ v) w = value-append (a * 10 + (b - 48)) v w
@@ -90,10 +90,13 @@ pub record Leading (n : ℕ) : Type 0 where
   pub nonzero : T (inC ("1" to "9" ∷ []) first)
   pub others : T (all digit rest)
 
+pub all-append : (v w : List ℕ) → T (all digit v) → T (all digit w) → T (all digit (v ++ w))
+all-append [] w h t = t
+all-append (a ∷ v) w h t =
+    and-i (inC digit a) (all digit (v ++ w)) (and-0 (inC digit a) (all digit v) h) (all-append v w (and-1 (inC digit a) (all digit v) h) t)
+
 all-last : (w : List ℕ) (b : ℕ) → T (all digit w) → T (inC digit b) → T (all digit (w ++ (b ∷ [])))
-all-last [] b h t = and-i (inC digit b) true t tt
-all-last (a ∷ w) b h t =
-    and-i (inC digit a) (all digit (w ++ (b ∷ []))) (and-0 (inC digit a) (all digit w) h) (all-last w b (and-1 (inC digit a) (all digit w) h) t)
+all-last w b h t = all-append w (b ∷ []) h (and-i (inC digit b) true t tt)
 
 lead-in : (f n : ℕ) → n < f → 1 ≤ n → Leading n
 lead-in zero n h l = absurd (not-suc-le-zero h)
@@ -130,3 +133,15 @@ digits-some n = by (decLe 10 n)
     by : Dec (10 ≤ n) → 0 < length (digits n)
     by (yes h) = rw (digits-big n h) (omega (arith, length-append (digits (n / 10)) ((48 + n % 10) ∷ [])))
     by (no h) = rw (digits-small n (omega arith)) (omega arith)
+
+-- each digit of a number is a digit
+all-in : (f n : ℕ) → n < f → T (all digit (digits n))
+all-in zero n h = absurd (not-suc-le-zero h)
+all-in (suc f) n h = by (decLe 10 n) (λ i. all-in f (n / 10) (omega arith))
+  where
+    by : Dec (10 ≤ n) → (10 ≤ n → T (all digit (digits (n / 10)))) → T (all digit (digits n))
+    by (yes i) ih = rw (digits-big n i) (all-last (digits (n / 10)) (48 + n % 10) (ih i) (→in 48 57 (48 + n % 10) (omega arith) (omega arith)))
+    by (no i) ih = rw (digits-small n (omega arith)) (all-last [] (48 + n) tt (→in 48 57 (48 + n) (omega arith) (omega arith)))
+
+pub digits-all : (n : ℕ) → T (all digit (digits n))
+digits-all n = all-in (suc n) n (omega arith)

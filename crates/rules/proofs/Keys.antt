@@ -33,7 +33,7 @@ rank-one a b = by (eqb a 91) refl (eqb b 91) refl
     by false e true f p = omega arith
     by false e false f p = omega arith
 
-sign-one : (s t : Sign) → signRank s ≡ signRank t → s ≡ t
+pub sign-one : (s t : Sign) → signRank s ≡ signRank t → s ≡ t
 sign-one minus minus e = refl
 sign-one minus plus e = absurd (omega arith)
 sign-one plus minus e = absurd (omega arith)

@@ -21,4 +21,17 @@ pub mod FirstBroken
 pub mod Bounds
 pub mod Lengths
 pub mod Sizes
+pub mod Cuts
+pub mod OneRecord
+pub mod FitParts
+pub mod FitIons
+pub mod FitDecimals
+pub mod OnePart
+pub mod OneIsotopes
+pub mod OneIon
+pub mod OneLoss
+pub mod OneAnnotation
+pub mod FitAnnotations
+pub mod OneStored
+pub mod WritesOne
 pub mod worked

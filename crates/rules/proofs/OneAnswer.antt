@@ -25,7 +25,7 @@ There (written n) = Unit {0}
 written-one : {m n : ℕ} (o : Opt ℕ) → o ≡ written m → o ≡ written n → m ≡ n
 written-one {m} {n} o p q = ap (placeOr m) (sym p ∙ q)
 
-written-not-silent : {m : ℕ} (o : Opt ℕ) → o ≡ written m → o ≡ silent → ⊥
+pub written-not-silent : {m : ℕ} (o : Opt ℕ) → o ≡ written m → o ≡ silent → ⊥
 written-not-silent o p q = subst There (sym p ∙ q) tt
 
 pub delivers-one : {room : ℕ} {result : List ℕ} {a b : Answer} → Delivers room result a → Delivers room result b → a ≡ b

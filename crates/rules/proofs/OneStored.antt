@@ -1,0 +1,120 @@
+-- Document 01, "The stored table": no two sound tables have the same bytes. Assumes nothing.
+use Prim.Native.Nat.{ℕ, _+_, _≤_}
+use mathlib.Core.Path.{_≡_, refl, ap}
+use mathlib.Core.List.{List, [], _∷_, _++_}
+use native.Mathlib.Omega.{arith}
+use lib.ListN.{length}
+use Rattle.lang.specs.Parts.{flat}
+use Rattle.lang.specs.Mark.{In, here, later}
+use Rattle.rules.specs.Numbers.{Number}
+use Rattle.rules.specs.Formulas.{FormulaUnit}
+use Rattle.rules.specs.Losses.{Loss}
+use Rattle.rules.specs.Adducts.{Item}
+use Rattle.rules.specs.Annotations.{Annotation}
+use Rattle.rules.specs.Fields.{Table}
+use Rattle.rules.specs.Stored.{Field, stores, ionFields, lostUnits, lossRecord, isotopeRecords, addedUnits, itemRecord, unitRecord}
+use Rattle.rules.specs.Stored.{annotationRecord, annotationUnits, Section, section, sections, headerSize, counts, body, header, stored}
+use Rattle.rules.specs.Answers.{Sound}
+use Rattle.rules.proofs.Totals.{in-append, in-flat}
+use Rattle.rules.proofs.Bounds.{table-bounded}
+use Rattle.rules.proofs.Lengths.{lossesOf, isotopesOf, itemsOf, unitsOf, textsOf, annotations-length, losses-length, isotopes-length, items-length, units-length}
+use Rattle.rules.proofs.Sizes.{header-fits}
+use Rattle.rules.proofs.Cuts.{cut, map-one}
+use Rattle.rules.proofs.OneRecord.{Fits, stores-one, records-one}
+use Rattle.rules.proofs.OnePart.{valueAt, unit-one}
+use Rattle.rules.proofs.OneAnnotation.{table-one}
+use Rattle.rules.proofs.FitParts.{UnitFits, unitWidths, lossWidths, isotopeWidths, itemWidths}
+use Rattle.rules.proofs.FitAnnotations.{table-in-range, annotationWidths, annotation-fits}
+
+-- ---- the header
+
+-- a width for each count and each offset
+abbrev countWidths : List Section → List ℕ
+countWidths [] = []
+countWidths (s ∷ ss) = 2 ∷ 2 ∷ countWidths ss
+
+counts-fit : (at : ℕ) (ss : List Section) → ((f : Field) → In f (counts at ss) → f .value ≤ 43596) → Fits (countWidths ss) (counts at ss)
+counts-fit at [] h = tt
+counts-fit at (s ∷ ss) h =
+    let rest = counts-fit (at + length (s .bytes)) ss (λ f i. h f (later (later i))) in
+    (refl, omega (arith, h _ here), (refl, omega (arith, h _ (later here)), rest))
+
+header-one : (t u : Table) → Sound t → Sound u → stores (header t) ≡ stores (header u) → header t ≡ header u
+header-one t u s r e = stores-one (2 ∷ 2 ∷ countWidths (sections t)) (header t) (header u) (fit t s) (fit u r) e
+  where
+    fit : (t : Table) → Sound t → Fits (2 ∷ 2 ∷ countWidths (sections t)) (header t)
+    fit t s =
+        let h = header-fits t s in
+        (refl, omega arith, (refl, omega (arith, h _ (later here)), counts-fit headerSize (sections t) (λ f i. h f (later (later i)))))
+
+-- ---- the sections
+
+-- the bytes of the sections of two tables are equal
+record SameBytes (t u : Table) : Type 0 where
+  annotations : section annotationRecord t .bytes ≡ section annotationRecord u .bytes
+  losses : section lossRecord (lossesOf t) .bytes ≡ section lossRecord (lossesOf u) .bytes
+  isotopes : section (λ x. x) (isotopesOf t) .bytes ≡ section (λ x. x) (isotopesOf u) .bytes
+  items : section itemRecord (itemsOf t) .bytes ≡ section itemRecord (itemsOf u) .bytes
+  units : section unitRecord (unitsOf t) .bytes ≡ section unitRecord (unitsOf u) .bytes
+  texts : textsOf t ≡ textsOf u
+
+-- the header tells how long each section is, and so where the next begins
+body-one : (t u : Table) → header t ≡ header u → body t ≡ body u → SameBytes t u
+body-one t u h e =
+    let n0 : length t ≡ length u = ap (valueAt 2) h in
+    let n1 : length (lossesOf t) ≡ length (lossesOf u) = ap (valueAt 4) h in
+    let n2 : length (isotopesOf t) ≡ length (isotopesOf u) = ap (valueAt 6) h in
+    let n3 : length (itemsOf t) ≡ length (itemsOf u) = ap (valueAt 8) h in
+    let n4 : length (unitsOf t) ≡ length (unitsOf u) = ap (valueAt 10) h in
+    let c0 = cut (section annotationRecord t .bytes) (section annotationRecord u .bytes) (omega (arith, annotations-length t, annotations-length u)) e in
+    let c1 = cut (section lossRecord (lossesOf t) .bytes) (section lossRecord (lossesOf u) .bytes) (omega (arith, losses-length t, losses-length u)) (c0 .1) in
+    let c2 = cut (section (λ x. x) (isotopesOf t) .bytes) (section (λ x. x) (isotopesOf u) .bytes) (omega (arith, isotopes-length t, isotopes-length u)) (c1 .1) in
+    let c3 = cut (section itemRecord (itemsOf t) .bytes) (section itemRecord (itemsOf u) .bytes) (omega (arith, items-length t, items-length u)) (c2 .1) in
+    let c4 = cut (section unitRecord (unitsOf t) .bytes) (section unitRecord (unitsOf u) .bytes) (omega (arith, units-length t, units-length u)) (c3 .1) in
+    let c5 = cut (textsOf t) (textsOf u) (ap (valueAt 12) h) (c4 .1) in
+    record { annotations = c0 .0; losses = c1 .0; isotopes = c2 .0; items = c3 .0; units = c4 .0; texts = c5 .0 }
+
+-- ---- the records of a sound table fit
+
+module _ (t : Table) (s : Sound t) where
+  annotations-fit : (a : Annotation Number) → In a t → Fits annotationWidths (annotationRecord a)
+  annotations-fit a i = annotation-fits a (table-bounded t s a i) (table-in-range t s a i)
+
+  losses-fit : (l : Loss Number) → In l (lossesOf t) → Fits lossWidths (lossRecord l)
+  losses-fit = in-flat (λ a. a .losses) (λ l. Fits lossWidths (lossRecord l)) t (λ a i l j. table-in-range t s a i .loss l j .self)
+
+  isotopes-fit : (fs : List Field) → In fs (isotopesOf t) → Fits isotopeWidths fs
+  isotopes-fit = in-flat (λ a. isotopeRecords (a .isotopes)) (Fits isotopeWidths) t (λ a i. table-in-range t s a i .isotope)
+
+  items-fit : (x : Item Number) → In x (itemsOf t) → Fits itemWidths (itemRecord x)
+  items-fit = in-flat (λ a. a .adduct) (λ x. Fits itemWidths (itemRecord x)) t (λ a i x j. table-in-range t s a i .item x j .self)
+
+  units-fit : (u : FormulaUnit Number) → In u (unitsOf t) → UnitFits u
+  units-fit = in-flat annotationUnits UnitFits t (λ a i.
+      let r = table-in-range t s a i in
+      let ls = flat (λ l. lostUnits (l .what)) (a .losses) in
+      let xs = flat (λ x. addedUnits (x .what)) (a .adduct) in
+      in-append UnitFits (ionFields (a .ion) .units) (ls ++ xs) (r .ion .units)
+      (in-append UnitFits ls xs (in-flat (λ l. lostUnits (l .what)) UnitFits (a .losses) (λ l j. r .loss l j .units))
+      (in-flat (λ x. addedUnits (x .what)) UnitFits (a .adduct) (λ x j. r .item x j .units))))
+
+-- ---- the whole
+
+pub one-stored : (t u : Table) → Sound t → Sound u → stored t ≡ stored u → t ≡ u
+one-stored t u s r e =
+    let c = cut (stores (header t)) (stores (header u)) refl e in
+    let h = header-one t u s r (c .0) in
+    let b = body-one t u h (c .1) in
+    let ann = records-one annotationRecord annotationWidths t u (annotations-fit t s) (annotations-fit u r) (ap (valueAt 2) h) (b .annotations) in
+    let ls = records-one lossRecord lossWidths (lossesOf t) (lossesOf u) (losses-fit t s) (losses-fit u r) (ap (valueAt 4) h) (b .losses) in
+    let is = records-one (λ x. x) isotopeWidths (isotopesOf t) (isotopesOf u) (isotopes-fit t s) (isotopes-fit u r) (ap (valueAt 6) h) (b .isotopes) in
+    let xs = records-one itemRecord itemWidths (itemsOf t) (itemsOf u) (items-fit t s) (items-fit u r) (ap (valueAt 8) h) (b .items) in
+    let us = records-one unitRecord unitWidths (unitsOf t) (unitsOf u) (units-fit t s) (units-fit u r) (ap (valueAt 10) h) (b .units) in
+    table-one t u (λ a i. table-in-range t s a i .deviation .size) (λ a i. table-in-range u r a i .deviation .size) ann
+    (record {
+      losses = ls;
+      isotopes = map-one (λ x. x) (λ x y e. e) (isotopesOf t) (isotopesOf u) is;
+      items = xs;
+      units = map-one unitRecord unit-one (unitsOf t) (unitsOf u) us;
+      texts = b .texts;
+    })
