@@ -1,22 +1,20 @@
 -- The bounds of a decimal, as bounds of its value and its places. Assumes nothing.
-use Prim.Native.Nat.{ℕ, zero, suc, _+_, _-_, _*_, _/_, _%_, _^_, _≤_, _<_, min}
-use mathlib.Core.Path.{_≡_, refl, sym, ap, ap₂, _∙_}
+use Prim.Native.Nat.{ℕ, zero, suc, _+_, _-_, _*_, _/_, _%_, _^_, _≤_, _<_}
+use mathlib.Core.Path.{_≡_, refl, sym, ap, _∙_}
 use mathlib.Core.Bool.{Bool, true, false, cond, _&&_}
-use mathlib.Core.List.{List, [], _∷_, _++_}
+use mathlib.Core.List.{[], _∷_}
 use native.Mathlib.Omega.{arith}
 use native.Mathlib.Nat.{pow-suc, one-le-pow}
 use native.Mathlib.Decide.{decLt}
-use lib.Dec.{T, leb, ltb}
+use lib.Dec.{leb, ltb}
 use lib.ListN.{length, length-append}
 use lib.Pow.{pow-add}
 use borrow.Author.Tests.{lt-ltb, le-ltb, le-leb, lt-leb, leb-true, ltb-true}
 use Rattle.rules.specs.Numbers.{digits}
-use Rattle.rules.specs.Decimals as rules
 use Rattle.rules.specs.Decimals.{whole}
 use Rattle.rules.specs.Limits.{fits}
 use Rattle.rules.proofs.Digits.{digits-small, digits-big}
 use Rattle.numbers.specs.declared.Decimal.{Decimal}
-use Rattle.numbers.specs.declared.Made.{Made}
 use Rattle.numbers.specs.declared.Made.the-variants.{Fits, Past}
 use Rattle.numbers.specs.Making.{madeOf}
 
@@ -64,6 +62,20 @@ pub whole-ge : (p v m : ℕ) → m * 10 ^ p ≤ v → m ≤ whole p v
 unfolding whole
 whole-ge zero v m h = omega arith
 whole-ge (suc p) v m h = let i = whole-ge p v (m * 10) (omega (arith, shift m p)) in omega arith
+
+pub whole-none : (p v : ℕ) → whole p v ≤ 0 → v < 10 ^ p
+whole-none p v h = go (decLt v (10 ^ p))
+  where
+    go : Dec (v < 10 ^ p) → v < 10 ^ p
+    go (yes l) = l
+    go (no l) = absurd (omega (arith, whole-ge p v 1 (omega arith)))
+
+pub whole-some : (p v : ℕ) → 0 < whole p v → 10 ^ p ≤ v
+whole-some p v h = go (decLt v (10 ^ p))
+  where
+    go : Dec (v < 10 ^ p) → 10 ^ p ≤ v
+    go (yes l) = absurd (omega (arith, whole-lt p v 1 (omega arith)))
+    go (no l) = omega arith
 
 -- ---- the bounds of a decimal
 

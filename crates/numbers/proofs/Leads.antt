@@ -1,15 +1,13 @@
 -- What the digits in front of a list are read as. Assumes nothing.
-use Prim.Native.Nat.{ℕ, zero, suc, _+_, _≤_, _<_, min}
-use mathlib.Core.Path.{_≡_, refl, sym, ap, ap₂, _∙_}
-use mathlib.Core.Bool.{Bool, true, false, cond, _&&_}
+use Prim.Native.Nat.{ℕ, zero, suc, _≤_}
+use mathlib.Core.Path.{_≡_, refl, ap}
+use mathlib.Core.Bool.{Bool, true, false, cond}
 use mathlib.Core.List.{List, [], _∷_, _++_}
 use native.Mathlib.Omega.{arith}
 use native.Mathlib.Nat.{le-refl}
-use lib.Dec.{T, leb, ltb}
+use lib.Dec.{T}
 use lib.ListN.{length}
-use borrow.Author.Tests.{ltb-true, ltb-false, lt-ltb, le-ltb}
 use Rattle.lang.specs.Re.{inC}
-use Rattle.lang.specs.Digits.{valueFrom}
 use Rattle.lang.specs.Parts.{all}
 use Rattle.lang.proofs.Deriv.{and-0, and-1, and-i}
 use Rattle.lang.proofs.Lits.{→in, in→}
@@ -18,8 +16,7 @@ use Rattle.rules.specs.Bytes.{digit}
 use Rattle.rules.specs.Numbers.{digits}
 use Rattle.rules.specs.Texts.{firstIn}
 use Rattle.rules.proofs.Digits as D
-use Rattle.numbers.specs.declared.Number.{Number}
-use Rattle.numbers.specs.Leading.{leading, numberOf}
+use Rattle.numbers.specs.Leading.{leading}
 
 pub leading-silent : (k : List ℕ) → firstIn digit k ≡ false → leading k ≡ []
 unfolding leading
@@ -48,29 +45,3 @@ all-digits (suc n) =
     let l = D.leading (suc n) (omega arith) in
     let g = in→ 49 57 (l .first) (l .nonzero) in
     rw (l .is) (and-i (inC digit (l .first)) (all digit (l .rest)) (→in 48 57 (l .first) (omega arith) (omega arith)) (l .others))
-
--- ---- for callers
-
-pub number-read : (n : ℕ) (k : List ℕ) → firstIn digit k ≡ false → numberOf (digits n ++ k) ≡ record { value = min n 1000000; len = length (digits n) }
-unfolding numberOf
-number-read n k e = rw (leading-read (digits n) k (all-digits n) e, D.digits-value n)
-
-pub number-silent : (k : List ℕ) → firstIn digit k ≡ false → numberOf k ≡ record { value = 0; len = 0 }
-unfolding numberOf valueFrom
-number-silent k e = rw (leading-silent k e)
-
-pub number-within : (s : List ℕ) → numberOf s .len ≤ length s
-unfolding numberOf
-number-within s = leading-within s
-
-pub number-most : (s : List ℕ) → numberOf s .value ≤ 1000000
-unfolding numberOf
-number-most s = omega arith
-
--- a test against a bound below a million tells of the number what it tells of the value
-pub number-past : (n bound : ℕ) → bound < 1000000 → ltb bound (min n 1000000) ≡ ltb bound n
-number-past n bound h = go (ltb bound n) refl
-  where
-    go : (t : Bool) → ltb bound n ≡ t → ltb bound (min n 1000000) ≡ t
-    go true e = let l = ltb-true bound n e in lt-ltb bound (min n 1000000) (omega arith)
-    go false e = let l = ltb-false bound n e in le-ltb bound (min n 1000000) (omega arith)

@@ -1,34 +1,25 @@
 -- What the decimals in front of a list are read as. Assumes nothing.
-use Prim.Native.Nat.{ℕ, zero, suc, _+_, _-_, _*_, _^_, _≤_, _<_, min}
+use Prim.Native.Nat.{ℕ, suc, _+_, _-_, _^_, _≤_, _<_, min}
 use mathlib.Core.Path.{_≡_, refl, sym, ap, ap₂, _∙_}
-use mathlib.Core.Bool.{Bool, true, false, cond, _&&_}
-use mathlib.Core.List.{List, [], _∷_, _++_, append-assoc}
+use mathlib.Core.Bool.{Bool, true, false, cond}
+use mathlib.Core.List.{List, [], _∷_}
 use native.Mathlib.Omega.{arith}
 use native.Mathlib.Nat.{le-refl}
 use native.Mathlib.Decide.{decLe}
-use lib.Dec.{T}
-use lib.ListN.{length, take, drop, getD, length-append, length-drop, drop-of-length-le}
-use lib.Seq.{drop-cons, take-all, drop-append-seam}
-use borrow.Author.Tests.{eq-eqb, ne-eqb}
+use lib.ListN.{length, take, drop, getD, length-drop}
+use lib.Seq.{take-all}
 use Rattle.lang.specs.Re.{inC}
 use Rattle.lang.specs.Digits.{valueFrom}
-use Rattle.lang.proofs.Lits.{one-in, one-eq}
-use Rattle.lang.proofs.Tests.{t-is, is-t}
-use Rattle.rules.specs.Bytes.{digit}
-use Rattle.rules.specs.Numbers.{digits}
-use Rattle.rules.specs.Texts.{firstIn}
-use Rattle.rules.specs.Decimals as rules
-use Rattle.rules.specs.Decimals.{whole, lastDigits, pointText, decimalText}
-use Rattle.rules.proofs.Digits.{digits-value}
-use Rattle.rules.proofs.Fractions.{value-back, last-length, last-digits}
+use Rattle.lang.proofs.Lits.{one-eq}
+use Rattle.lang.proofs.Tests.{is-t}
+use Rattle.rules.specs.Decimals.{whole}
 use Rattle.numbers.specs.declared.Digits.{Digits}
-use Rattle.numbers.specs.declared.DecimalRead.{DecimalRead}
 use Rattle.numbers.specs.declared.Made.{Made}
 use Rattle.numbers.specs.Leading.{leading, leadingOf}
 use Rattle.numbers.specs.Making.{madeOf}
-use Rattle.numbers.specs.Points.{point, fraction, fractionOf, pointed, decimalWith, decimalOf}
+use Rattle.numbers.specs.Points.{point, fraction, fractionOf, pointed, decimalOf}
 use Rattle.numbers.proofs.Walks.{capped}
-use Rattle.numbers.proofs.Leads.{leading-silent, leading-read, leading-within, all-digits}
+use Rattle.numbers.proofs.Leads.{leading-within}
 use Rattle.numbers.proofs.Bounds.{made-long, made-large}
 
 -- `&s[at..]` is this part
@@ -79,7 +70,7 @@ made-capped v p = go (decLe (10 ^ 12) v) (decLe 10 p)
     go (no h) (yes g) = made-long (min v (10 ^ 12)) (min p 10) (omega arith) ∙ sym (made-long v p g)
     go (no h) (no g) = ap₂ madeOf (omega arith) (omega arith)
 
-fraction-within : (s : List ℕ) → pointed (fraction s) ≤ length s
+pub fraction-within : (s : List ℕ) → pointed (fraction s) ≤ length s
 unfolding fraction pointed
 fraction-within [] = le-refl 0
 fraction-within (b ∷ s) = go (inC point b) (leading s) (leading-within s)
@@ -91,13 +82,13 @@ fraction-within (b ∷ s) = go (inC point b) (leading s) (leading-within s)
 
 -- ---- the whole number, and then the fraction
 
-pub whole-inside : (s : List ℕ) (before most : ℕ) → leadingOf before most s .len ≤ length s
+pub inside : (s : List ℕ) (before most : ℕ) {d : Digits} → d ≡ leadingOf before most s → d .len ≤ length s
 unfolding leadingOf
-whole-inside s before most = leading-within s
+inside s before most e = omega (arith, ap (λ (x : Digits). x .len) e, leading-within s)
 
-pub whole-most : (s : List ℕ) (before most : ℕ) → leadingOf before most s .value ≤ most
+pub capped-by : (s : List ℕ) (before most : ℕ) {d : Digits} → d ≡ leadingOf before most s → d .value ≤ most
 unfolding leadingOf
-whole-most s before most = omega arith
+capped-by s before most e = omega (arith, ap (λ (x : Digits). x .value) e)
 
 pointed-none : (f : List ℕ) → length f ≡ 0 → pointed f ≡ 0
 unfolding pointed
@@ -113,6 +104,10 @@ pointed-some (b ∷ f) n = refl
 pub record Walked (s : List ℕ) (whole all : Digits) : Type 0 where
   pub front : whole ≡ leadingOf 0 (10 ^ 12) s
   pub behind : all ≡ fractionOf (whole .value) (take (length s - whole .len) (drop (whole .len) s))
+
+pub walked : {s : List ℕ} {whole all : Digits} → whole ≡ leadingOf 0 (10 ^ 12) s
+    → all ≡ fractionOf (whole .value) (take (length s - whole .len) (drop (whole .len) s)) → Walked s whole all
+walked f b = record { front = f; behind = b }
 
 module _ {s : List ℕ} {whole all : Digits} (w : Walked s whole all) where
   tail : List ℕ
@@ -158,47 +153,3 @@ module _ {s : List ℕ} {whole all : Digits} (w : Walked s whole all) where
   room z =
       let n = length (leading s) in
       omega (arith, at, places, pointed-some tail (λ q. z (places ∙ q)), fraction-within (drop n s), length-drop n s, leading-within s)
-
--- ---- for callers
-
-pub decimal-within : (s : List ℕ) → decimalOf s .len ≤ length s
-unfolding decimalOf
-decimal-within s =
-    let n = length (leading s) in
-    omega (arith, leading-within s, fraction-within (drop n s), length-drop n s)
-
--- the text behind the whole number begins with no digit
-no-digit : (n v : ℕ) (k : List ℕ) → firstIn digit k ≡ false → firstIn digit (pointText n v ++ k) ≡ false
-unfolding pointText
-no-digit zero v k e = e
-no-digit (suc n) v k e = refl
-
-fraction-silent : (k : List ℕ) → firstIn point k ≡ false → fraction k ≡ []
-unfolding fraction
-fraction-silent [] e = refl
-fraction-silent (b ∷ k) e = rw e
-
-fraction-read : (n v : ℕ) (k : List ℕ) → firstIn digit k ≡ false → firstIn point k ≡ false → fraction (pointText n v ++ k) ≡ lastDigits n v
-unfolding pointText fraction lastDigits
-fraction-read zero v k e p = fraction-silent k p
-fraction-read (suc n) v k e p = leading-read (lastDigits (suc n) v) k (last-digits (suc n) v) e
-
-pointed-length : (n v : ℕ) → pointed (lastDigits n v) ≡ length (pointText n v)
-unfolding pointText pointed lastDigits
-pointed-length zero v = refl
-pointed-length (suc n) v = refl
-
-pub decimal-read : (d : rules.Decimal) (k : List ℕ) → firstIn digit k ≡ false → firstIn point k ≡ false
-    → decimalOf (decimalText d ++ k) ≡ record { made = madeOf (d .value) (d .places); len = length (decimalText d) }
-unfolding decimalOf
-decimal-read d k e p =
-    let v = d .value in
-    let n = d .places in
-    let w = digits (whole n v) in
-    let q : decimalText d ++ k ≡ w ++ (pointText n v ++ k) = append-assoc w (pointText n v) k in
-    let l : leading (w ++ (pointText n v ++ k)) ≡ w = leading-read w (pointText n v ++ k) (all-digits (whole n v)) (no-digit n v k e) in
-    let f : fraction (drop (length w) (w ++ (pointText n v ++ k))) ≡ lastDigits n v =
-    rw (drop-append-seam w (pointText n v ++ k)) (fraction-read n v k e p) in
-    rw (q, l, f) (ap₂ (λ (m : Made) (z : ℕ). record { made = m; len = z })
-    (ap₂ madeOf (ap (λ (x : ℕ). valueFrom x (lastDigits n v)) (digits-value (whole n v)) ∙ value-back n v) (last-length n v))
-    (ap (λ (x : ℕ). length w + x) (pointed-length n v) ∙ sym (length-append w (pointText n v))))

@@ -1,15 +1,10 @@
 -- Decimals in billionths: the walk over the places that are missing, and what a test tells. Assumes nothing.
-use Prim.Native.Nat.{ℕ, zero, suc, _+_, _-_, _*_, _^_, _≤_, _<_, min}
-use mathlib.Core.Path.{_≡_, refl, sym, ap, ap₂, _∙_}
-use mathlib.Core.Bool.{Bool, true, false}
+use Prim.Native.Nat.{ℕ, suc, _+_, _-_, _*_, _^_, _≤_, _<_, min}
+use mathlib.Core.Path.{_≡_, refl, sym, _∙_}
 use native.Mathlib.Omega.{arith}
 use native.Mathlib.Nat.{pow-suc, one-le-pow, mul-le-mul, mul-le-mul-left}
 use native.Mathlib.Decide.{decLe}
-use lib.Dec.{leb}
-use borrow.Author.Tests.{le-leb, lt-leb, leb-true, leb-false}
-use Rattle.rules.specs.House.{billionths}
 use Rattle.numbers.specs.declared.Decimal.{Decimal}
-use Rattle.numbers.specs.Making.{ruled}
 use Rattle.numbers.specs.Shares.{largest, billionthsOf}
 
 -- a value past the largest stays past it
@@ -44,23 +39,3 @@ module _ {d : Decimal} where
 
   pub ends : {v places : ℕ} → Scaled d v places → 9 ≤ places → v ≡ billionthsOf d
   ends {v} {places} s h = let e : 9 - places ≡ 0 = omega arith in sym (s .is ∙ rw e (omega (arith, s .small)))
-
--- ---- for callers
-
-pub billionths-exact : (d : Decimal) → billionths (ruled d) ≤ largest → billionthsOf d ≡ billionths (ruled d)
-unfolding billionthsOf
-billionths-exact d h = omega arith
-
--- a test of a sum against a bound below the largest tells of the decimal what it tells of the value
-pub billionths-sum : (d : Decimal) (sum bound : ℕ) → bound < largest → leb (sum + billionthsOf d) bound ≡ leb (sum + billionths (ruled d)) bound
-unfolding billionthsOf
-billionths-sum d sum bound h = go (billionths (ruled d)) (leb (sum + billionths (ruled d)) bound) refl
-  where
-    go : (b : ℕ) (t : Bool) → leb (sum + b) bound ≡ t → leb (sum + min b largest) bound ≡ t
-    go b true e = let l = leb-true (sum + b) bound e in le-leb (sum + min b largest) bound (omega arith)
-    go b false e = let l = leb-false (sum + b) bound e in lt-leb (sum + min b largest) bound (omega arith)
-
-pub billionths-test : (d : Decimal) (bound : ℕ) → bound < largest → leb (billionthsOf d) bound ≡ leb (billionths (ruled d)) bound
-billionths-test d bound h =
-    let e : (n : ℕ) → 0 + n ≡ n = λ n. omega arith in
-    ap (λ (n : ℕ). leb n bound) (sym (e (billionthsOf d))) ∙ billionths-sum d 0 bound h ∙ ap (λ (n : ℕ). leb n bound) (e (billionths (ruled d)))

@@ -12,6 +12,9 @@ ghost use Rattle.numbers.specs.Points.{fractionOf, decimalOf};
 ghost use Rattle.numbers.specs.Shares.{largest, billionthsOf};
 use puts::put8;
 
+// Ten to the Decimal::MAX_DIGITS: the first value that is too long, and what all longer ones are told as.
+const TOO_LONG: u64 = 1000000000000;
+
 // The digits that a part begins with: their value, no more than a million, and how many there are.
 pub struct Number {
     pub value: u32,
@@ -71,6 +74,19 @@ pub fn read_number(s: &[u8]) -> Number
     }
 }
 
+// v without its last n digits.
+fn whole_of(v: u64, n: u8) -> u64
+    ensures { λ r. ⌜ r ≡ whole n v ⌝ }
+{
+    let mut rest = v;
+    let mut i: u8 = 0;
+    while i < n {
+        rest = rest / 10;
+        i += 1;
+    }
+    rest
+}
+
 // A decimal: 0.70 is 70 with 2 places.
 pub struct Decimal {
     pub value: u64,
@@ -90,16 +106,14 @@ impl Decimal {
     // How many digits there may be in all.
     pub const MAX_DIGITS: u8 = 12;
 
-    // The first value with more digits than that, a point or none in it.
-    pub const END: u64 = 1000000000000;
-
+    // A decimal, unless it is past its bounds. Nine places and a `0` before them are ten digits, so that the value's own digits decide.
     pub fn new(value: u64, places: u8) -> Made
         ensures { λ r. ⌜ r ≡ madeOf value places ⌝ }
     {
         if Decimal::MAX_PLACES < places {
             return Made::Past;
         }
-        if Decimal::END <= value {
+        if 0 < whole_of(value, Decimal::MAX_DIGITS) {
             return Made::Past;
         }
         Made::Fits(Decimal { value, places })
@@ -129,7 +143,7 @@ fn fraction_from(s: &[u8], before: u64) -> Digits
             len: 0,
         };
     }
-    digits_from(&s[1..], before, Decimal::END)
+    digits_from(&s[1..], before, TOO_LONG)
 }
 
 // How many places there are, or one more than there may be.
@@ -147,7 +161,7 @@ fn places_of(len: usize) -> u8
 pub fn read_decimal(s: &[u8]) -> DecimalRead
     ensures { λ r. ⌜ r ≡ decimalOf (now (s .entry)) ⌝ }
 {
-    let whole = digits_from(s, 0, Decimal::END);
+    let whole = digits_from(s, 0, TOO_LONG);
     let at = whole.len;
     let all = fraction_from(&s[at..], whole.value);
     let places = all.len;
@@ -190,19 +204,6 @@ pub fn put_number(out: &mut [u8], at: usize, n: u64) -> usize
     }
     let to = put_number(out, at, n / 10);
     put8(out, to, b'0' + (n % 10) as u8)
-}
-
-// v without its last n digits.
-fn whole_of(v: u64, n: u8) -> u64
-    ensures { λ r. ⌜ r ≡ whole n v ⌝ }
-{
-    let mut rest = v;
-    let mut i: u8 = 0;
-    while i < n {
-        rest = rest / 10;
-        i += 1;
-    }
-    rest
 }
 
 // The last n digits of v.

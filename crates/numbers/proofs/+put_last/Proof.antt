@@ -21,7 +21,6 @@ abbrev put-last-below : ℕ → In 1 put-last-kinds.ps
 put-last-below t =
     and 1 put-last-kinds.ps (falls 1 put-last-kinds.ps _<_ μ-put-last t) put-last.Pre
 
--- src/lib.rt:214:9
 put-last-returns : (t : ℕ) → put-last-lts.Need-returns (
   put-last-below t,
   put-last.Post,
@@ -30,7 +29,6 @@ put-last-returns : (t : ℕ) → put-last-lts.Need-returns (
 ) (put-last-at t) put-last.Post
 put-last-returns t c = put-no-place _ _ (omega arith) (omega arith) (c .if1 .taken)
 
--- src/lib.rt:216:9
 put-last-put-last-requires : (t : ℕ) → put-last-lts.Need-put-last-requires (
   put-last-below t,
   put-last.Post,
@@ -39,7 +37,6 @@ put-last-put-last-requires : (t : ℕ) → put-last-lts.Need-put-last-requires (
 ) (put-last-at t) put-last.Post
 put-last-put-last-requires t c κs = search needs
 
--- src/lib.rt:217:26
 put-last-cast-put8 : (t : ℕ) → put-last-lts.Need-cast-put8 (
   put-last-below t,
   put-last.Post,
@@ -48,7 +45,6 @@ put-last-cast-put8 : (t : ℕ) → put-last-lts.Need-cast-put8 (
 ) (put-last-at t) put-last.Post
 put-last-cast-put8 t c = search needs
 
--- src/lib.rt:217:19
 put-last-add-put8 : (t : ℕ) → put-last-lts.Need-add-put8 (
   put-last-below t,
   put-last.Post,
@@ -57,7 +53,6 @@ put-last-add-put8 : (t : ℕ) → put-last-lts.Need-add-put8 (
 ) (put-last-at t) put-last.Post
 put-last-add-put8 t c = search needs
 
--- src/lib.rt:217:5
 put-last-put8-requires : (t : ℕ) → put-last-lts.Need-put8-requires (
   put-last-below t,
   put-last.Post,
@@ -66,7 +61,6 @@ put-last-put8-requires : (t : ℕ) → put-last-lts.Need-put8-requires (
 ) (put-last-at t) put-last.Post
 put-last-put8-requires t c κs = search needs
 
--- src/lib.rt:210:1
 put-last-same-length : (t : ℕ) → put-last-lts.Need-same-length (
   put-last-below t,
   put-last.Post,
@@ -75,14 +69,15 @@ put-last-same-length : (t : ℕ) → put-last-lts.Need-same-length (
 ) (put-last-at t) put-last.Post
 put-last-same-length t c = search needs
 
--- src/lib.rt:210:1
 put-last-returns-2 : (t : ℕ) → put-last-lts.Need-returns-2 (
   put-last-below t,
   put-last.Post,
   put8-reads.Asked,
   put8-reads.Learnt,
 ) (put-last-at t) put-last.Post
-put-last-returns-2 t c = put-place-more _ _ (c .before .before .before .before .before .before .before .before .if1 .left) (c .before .before .before .before .before .before .put-last .ensures) (c .before .before .put8 .ensures)
+put-last-returns-2 t c =
+    let p = c .before .before .before .before .before .before in
+    put-place-more _ _ (p .before .before .if1 .left) (p .put-last .ensures) (c .before .before .put8 .ensures)
 
 pub +put-last-spec : {M : Type 1} → statement M
 +put-last-spec = close μ-put-last λ t. put-last-lts.spec (

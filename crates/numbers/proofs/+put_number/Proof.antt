@@ -21,7 +21,6 @@ abbrev put-number-below : ℕ → In 1 put-number-kinds.ps
 put-number-below t =
     and 1 put-number-kinds.ps (falls 1 put-number-kinds.ps _<_ μ-put-number t) put-number.Pre
 
--- src/lib.rt:190:37
 put-number-cast-put8 : (t : ℕ) → put-number-lts.Need-cast-put8 (
   put8-reads.Asked,
   put8-reads.Learnt,
@@ -30,7 +29,6 @@ put-number-cast-put8 : (t : ℕ) → put-number-lts.Need-cast-put8 (
 ) (put-number-at t) put-number.Post
 put-number-cast-put8 t c = search needs
 
--- src/lib.rt:190:30
 put-number-add-put8 : (t : ℕ) → put-number-lts.Need-add-put8 (
   put8-reads.Asked,
   put8-reads.Learnt,
@@ -39,7 +37,6 @@ put-number-add-put8 : (t : ℕ) → put-number-lts.Need-add-put8 (
 ) (put-number-at t) put-number.Post
 put-number-add-put8 t c = search needs
 
--- src/lib.rt:190:9
 put-number-put8-requires : (t : ℕ) → put-number-lts.Need-put8-requires (
   put8-reads.Asked,
   put8-reads.Learnt,
@@ -48,7 +45,6 @@ put-number-put8-requires : (t : ℕ) → put-number-lts.Need-put8-requires (
 ) (put-number-at t) put-number.Post
 put-number-put8-requires t c κs = search needs
 
--- src/lib.rt:190:9
 put-number-same-length : (t : ℕ) → put-number-lts.Need-same-length (
   put8-reads.Asked,
   put8-reads.Learnt,
@@ -57,7 +53,6 @@ put-number-same-length : (t : ℕ) → put-number-lts.Need-same-length (
 ) (put-number-at t) put-number.Post
 put-number-same-length t c = search needs
 
--- src/lib.rt:190:9
 put-number-returns : (t : ℕ) → put-number-lts.Need-returns (
   put8-reads.Asked,
   put8-reads.Learnt,
@@ -66,7 +61,6 @@ put-number-returns : (t : ℕ) → put-number-lts.Need-returns (
 ) (put-number-at t) put-number.Post
 put-number-returns t c = put-digit _ (c .before .before .before .before .if1 .taken) (c .before .before .put8 .ensures)
 
--- src/lib.rt:192:9
 put-number-put-number-requires : (t : ℕ) → put-number-lts.Need-put-number-requires (
   put8-reads.Asked,
   put8-reads.Learnt,
@@ -75,7 +69,6 @@ put-number-put-number-requires : (t : ℕ) → put-number-lts.Need-put-number-re
 ) (put-number-at t) put-number.Post
 put-number-put-number-requires t c κs = search needs
 
--- src/lib.rt:193:26
 put-number-cast-put8-2 : (t : ℕ) → put-number-lts.Need-cast-put8-2 (
   put8-reads.Asked,
   put8-reads.Learnt,
@@ -84,7 +77,6 @@ put-number-cast-put8-2 : (t : ℕ) → put-number-lts.Need-cast-put8-2 (
 ) (put-number-at t) put-number.Post
 put-number-cast-put8-2 t c = search needs
 
--- src/lib.rt:193:19
 put-number-add-put8-2 : (t : ℕ) → put-number-lts.Need-add-put8-2 (
   put8-reads.Asked,
   put8-reads.Learnt,
@@ -93,7 +85,6 @@ put-number-add-put8-2 : (t : ℕ) → put-number-lts.Need-add-put8-2 (
 ) (put-number-at t) put-number.Post
 put-number-add-put8-2 t c = search needs
 
--- src/lib.rt:193:5
 put-number-put8-requires-2 : (t : ℕ) → put-number-lts.Need-put8-requires-2 (
   put8-reads.Asked,
   put8-reads.Learnt,
@@ -102,7 +93,6 @@ put-number-put8-requires-2 : (t : ℕ) → put-number-lts.Need-put8-requires-2 (
 ) (put-number-at t) put-number.Post
 put-number-put8-requires-2 t c κs = search needs
 
--- src/lib.rt:186:1
 put-number-same-length-2 : (t : ℕ) → put-number-lts.Need-same-length-2 (
   put8-reads.Asked,
   put8-reads.Learnt,
@@ -111,14 +101,15 @@ put-number-same-length-2 : (t : ℕ) → put-number-lts.Need-same-length-2 (
 ) (put-number-at t) put-number.Post
 put-number-same-length-2 t c = search needs
 
--- src/lib.rt:186:1
 put-number-returns-2 : (t : ℕ) → put-number-lts.Need-returns-2 (
   put8-reads.Asked,
   put8-reads.Learnt,
   put-number-below t,
   put-number.Post,
 ) (put-number-at t) put-number.Post
-put-number-returns-2 t c = put-more _ (c .before .before .before .before .before .before .before .before .if1 .left) (c .before .before .before .before .before .before .put-number .ensures) (c .before .before .put82 .ensures)
+put-number-returns-2 t c =
+    let p = c .before .before .before .before .before .before in
+    put-more _ (p .before .before .if1 .left) (p .put-number .ensures) (c .before .before .put82 .ensures)
 
 pub +put-number-spec : {M : Type 1} → statement M
 +put-number-spec = close μ-put-number λ t. put-number-lts.spec (

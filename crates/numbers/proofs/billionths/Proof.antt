@@ -3,9 +3,6 @@ use Prim.Native.Nat.{_-_}
 use borrow.Author.Needs.{needs}
 use Rattle.numbers.proofs.billionths.Statement.{statement}
 use Rattle.numbers.proofs.billionths.Tie as tie
-use Rattle.numbers.proofs.billionths.Reads as reads
-use Rattle.numbers.proofs.billionths.Lts as lts
-use Rattle.numbers.proofs.ten_times.Reads as ten-times-reads
 
 abbrev Inv-loop : tie.InvT-loop
 Inv-loop v₀ places₀ v places = Scaled (record { value = v₀; places = places₀ }) v places
@@ -13,27 +10,21 @@ Inv-loop v₀ places₀ v places = Scaled (record { value = v₀; places = place
 abbrev μ-loop : tie.MeasureT-loop
 μ-loop v₀ places₀ v places = 9 - places
 
--- src/lib.rt:173:5
 loop-holds : tie.Need-loop-holds Inv-loop μ-loop
 loop-holds c = begin (search needs)
 
--- src/lib.rt:174:9
 ten-times-requires : tie.Need-ten-times-requires Inv-loop μ-loop
 ten-times-requires c κs = search needs
 
--- src/lib.rt:175:9
 add-places : tie.Need-add-places Inv-loop μ-loop
 add-places c = search needs
 
--- src/lib.rt:173:5
 loop-less : tie.Need-loop-less Inv-loop μ-loop
 loop-less c = search needs
 
--- src/lib.rt:173:5
 loop-again : tie.Need-loop-again Inv-loop μ-loop
 loop-again c = rw (c .ten-times .ensures) (turn (c .before .before .loop .inv) (c .before .loop-test .taken))
 
--- src/lib.rt:168:1
 returns : tie.Need-returns Inv-loop μ-loop
 returns c = ends (c .before .loop .inv) (c .loop-test .left)
 

@@ -3,39 +3,28 @@ use Rattle.numbers.proofs.Points.{fraction-none, fraction-empty, fracti
 use borrow.Author.Needs.{needs}
 use Rattle.numbers.proofs.fraction_from.Statement.{statement}
 use Rattle.numbers.proofs.fraction_from.Tie as tie
-use Rattle.numbers.proofs.fraction_from.Reads as reads
-use Rattle.numbers.proofs.fraction_from.Lts as lts
-use Rattle.numbers.proofs.digits_from.Reads as digits-from-reads
 
--- src/lib.rt:116:9
 returns : tie.Need-returns
 returns c = fraction-none _ _ (c .before .before .pre) (fraction-empty _ (c .if1 .taken))
 
--- src/lib.rt:118:8
 shared-slice-read-if2 : tie.Need-shared-slice-read-if2
 shared-slice-read-if2 c = search needs
 
--- src/lib.rt:119:9
 returns-2 : tie.Need-returns-2
 returns-2 c = fraction-none _ _ (c .before .before .before .before .pre) (fraction-other _ (c .before .before .if1 .left) (c .if2 .taken))
 
--- src/lib.rt:121:17
 sub-digits-from : tie.Need-sub-digits-from
 sub-digits-from c = search needs
 
--- src/lib.rt:121:17
 part-digits-from-start : tie.Need-part-digits-from-start
 part-digits-from-start c = search needs
 
--- src/lib.rt:121:17
 part-digits-from-end : tie.Need-part-digits-from-end
 part-digits-from-end c = search needs
 
--- src/lib.rt:121:5
 digits-from-requires : tie.Need-digits-from-requires
 digits-from-requires c κs = search needs
 
--- src/lib.rt:111:1
 returns-3 : tie.Need-returns-3
 returns-3 c = c .digits-from .ensures ∙ fraction-point _ _ (c .before .before .before .before .if1 .left) (c .before .before .if2 .left)
 

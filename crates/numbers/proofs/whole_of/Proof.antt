@@ -5,8 +5,6 @@ use Prim.Native.Nat.{_-_, _≤_}
 use borrow.Author.Needs.{needs}
 use Rattle.numbers.proofs.whole_of.Statement.{statement}
 use Rattle.numbers.proofs.whole_of.Tie as tie
-use Rattle.numbers.proofs.whole_of.Reads as reads
-use Rattle.numbers.proofs.whole_of.Lts as lts
 
 abbrev Inv-loop : tie.InvT-loop
 Inv-loop v n rest₀ i₀ rest i = (i ≤ n) × (rest ≡ whole i v)
@@ -14,24 +12,19 @@ Inv-loop v n rest₀ i₀ rest i = (i ≤ n) × (rest ≡ whole i v)
 abbrev μ-loop : tie.MeasureT-loop
 μ-loop v n rest₀ i₀ rest i = n - i
 
--- src/lib.rt:202:5
 loop-holds : tie.Need-loop-holds Inv-loop μ-loop
 unfolding whole
 loop-holds c = (search needs, refl)
 
--- src/lib.rt:204:9
 add-i : tie.Need-add-i Inv-loop μ-loop
 add-i c = search needs
 
--- src/lib.rt:202:5
 loop-less : tie.Need-loop-less Inv-loop μ-loop
 loop-less c = search needs
 
--- src/lib.rt:202:5
 loop-again : tie.Need-loop-again Inv-loop μ-loop
 loop-again c = (search needs, whole-turn _ _ (c .before .loop .inv .1))
 
--- src/lib.rt:197:1
 returns : tie.Need-returns Inv-loop μ-loop
 returns c = whole-end _ _ _ (c .before .loop .inv .0) (c .loop-test .left) (c .before .loop .inv .1)
 

@@ -1,0 +1,4 @@
+pub mod Classes
+pub mod Turns
+pub mod Whole
+pub mod Laws

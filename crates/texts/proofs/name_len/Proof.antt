@@ -1,0 +1,53 @@
+use Rattle.texts.proofs.Turns.{Before, begin, stops, turn, ends}
+use Rattle.rules.specs.Bytes.{nameByte}
+use lib.ListN.{length}
+use borrow.Author.Tests.{not-true, not-false}
+use borrow.Author.Needs.{needs}
+use Prim.Native.Nat.{_-_}
+use Rattle.texts.proofs.name_len.Statement.{statement}
+use Rattle.texts.proofs.name_len.Tie as tie
+
+abbrev Inv-loop : tie.InvT-loop
+Inv-loop s at₀ at = Before nameByte s at
+
+abbrev μ-loop : tie.MeasureT-loop
+μ-loop s at₀ at = length s - at
+
+loop-holds : tie.Need-loop-holds Inv-loop μ-loop
+loop-holds c = begin
+
+shared-slice-read-is-name-byte : tie.Need-shared-slice-read-is-name-byte Inv-loop μ-loop
+shared-slice-read-is-name-byte c = search needs
+
+is-name-byte-requires : tie.Need-is-name-byte-requires Inv-loop μ-loop
+is-name-byte-requires c κs = search needs
+
+returns : tie.Need-returns Inv-loop μ-loop
+returns c = stops (c .before .before .before .before .loop .inv) (c .before .before .before .loop-test .taken) (c .before .is-name-byte .ensures) (not-true _ (c .if1 .taken))
+
+add-at : tie.Need-add-at Inv-loop μ-loop
+add-at c = search needs
+
+loop-less : tie.Need-loop-less Inv-loop μ-loop
+loop-less c = search needs
+
+loop-again : tie.Need-loop-again Inv-loop μ-loop
+loop-again c = turn (c .before .before .before .before .loop .inv) (c .before .before .before .loop-test .taken) (c .before .is-name-byte .ensures) (not-false _ (c .if1 .left))
+
+returns-2 : tie.Need-returns-2 Inv-loop μ-loop
+returns-2 c = ends (c .before .loop .inv) (c .loop-test .left)
+
+pub name-len-spec : {M : Type 1} → statement M
+name-len-spec =
+    tie.close
+    (tie.spec
+    Inv-loop
+    μ-loop
+    loop-holds
+    shared-slice-read-is-name-byte
+    is-name-byte-requires
+    returns
+    add-at
+    loop-less
+    loop-again
+    returns-2)
