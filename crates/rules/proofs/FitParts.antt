@@ -3,6 +3,7 @@ use Prim.Native.Nat.{ℕ, _≤_, _<_}
 use mathlib.Core.List.{List, [], _∷_}
 use native.Mathlib.Omega.{arith}
 use lib.Dec.{ltb→lt}
+use lib.ListN.{length}
 use Rattle.lang.specs.Parts.{Opt, silent, written, items, someMap, wordOf}
 use Rattle.lang.specs.Mark.{In, here, later, Kept}
 use Rattle.rules.specs.Bytes.{bytes}
@@ -38,9 +39,9 @@ sign-small : (s : Sign) → signRank s ≤ 1
 sign-small minus = omega arith
 sign-small plus = omega arith
 
-symbol-small : (s : Symbol) → s .which < 118
+symbol-small : (s : Symbol) → s .which < 255
 unfolding symbols
-symbol-small s = ltb→lt (s .which) 118 (s .known)
+symbol-small s = let h = ltb→lt (s .which) (length symbols) (s .known) in omega arith
 
 -- ---- units
 
