@@ -22,3 +22,4 @@ pub mod Words
 pub mod OneStray
 pub mod Follow
 pub mod Walks
+pub mod Ranges

@@ -26,7 +26,7 @@ one-digit n h = ap length (digits-small n h)
 more-digits : (n : ℕ) → 10 ≤ n → length (digits n) ≡ length (digits (n / 10)) + 1
 more-digits n h = ap length (digits-big n h) ∙ length-append (digits (n / 10)) ((48 + n % 10) ∷ [])
 
-some-digits : (n : ℕ) → 1 ≤ length (digits n)
+pub some-digits : (n : ℕ) → 1 ≤ length (digits n)
 some-digits n = go (decLt n 10)
   where
     go : Dec (n < 10) → 1 ≤ length (digits n)

@@ -1,32 +1,43 @@
 -- What is read and told, for callers. Assumes nothing.
 use Prim.Native.Nat.{ℕ, zero, suc, _+_, _≤_, _<_, min}
-use mathlib.Core.Path.{_≡_, refl, sym, ap, ap₂, _∙_}
+use mathlib.Core.Path.{_≡_, refl, sym, ap, _∙_}
 use mathlib.Core.Bool.{Bool, true, false}
 use mathlib.Core.List.{List, [], _∷_, _++_, append-assoc}
 use native.Mathlib.Omega.{arith}
 use lib.Dec.{leb, ltb}
 use lib.ListN.{length, drop, length-append, length-drop}
+use lib.Seq.{drop-append-seam}
 use borrow.Author.Tests.{ltb-true, ltb-false, lt-ltb, le-ltb, le-leb, lt-leb, leb-true, leb-false}
+use Rattle.lang.specs.Re.{inC}
 use Rattle.lang.specs.Digits.{valueFrom}
+use Rattle.lang.proofs.Lits.{in→, →in}
+use Rattle.lang.proofs.Tests.{t-is}
 use Rattle.rules.specs.Bytes.{digit}
 use Rattle.rules.specs.Numbers.{digits}
 use Rattle.rules.specs.Texts.{firstIn}
-use Rattle.numbers.specs.Leading.{leading, numberOf}
-use lib.Seq.{drop-append-seam}
 use Rattle.rules.specs.Decimals.{whole, lastDigits, pointText, decimalText}
-use Rattle.rules.proofs.Digits.{digits-value}
+use Rattle.rules.specs.House.{billionths}
+use Rattle.rules.specs.Decimals as rules
+use Rattle.rules.proofs.Digits.{digits-value, digits-small}
+use Rattle.rules.proofs.Digits as D
 use Rattle.rules.proofs.Fractions.{value-back, last-length, last-digits}
-use Rattle.numbers.specs.declared.Made.{Made}
+use Rattle.numbers.specs.declared.Decimal.{Decimal}
+use Rattle.numbers.specs.Leading.{leading, numberOf}
 use Rattle.numbers.specs.Making.{madeOf, ruled}
 use Rattle.numbers.specs.Points.{point, fraction, pointed, decimalOf}
-use Rattle.numbers.proofs.Leads.{leading-silent, leading-read, leading-within, all-digits}
-use Rattle.rules.specs.House.{billionths}
-use Rattle.numbers.specs.declared.Decimal.{Decimal}
 use Rattle.numbers.specs.Shares.{largest, billionthsOf}
+use Rattle.numbers.proofs.Leads.{leading-silent, leading-read, leading-within, all-digits}
 use Rattle.numbers.proofs.Points.{fraction-within}
-use Rattle.rules.specs.Decimals as rules
 
 -- ---- numbers
+
+-- a number begins with a digit
+pub number-begins : (n : ℕ) (k : List ℕ) → firstIn digit (digits n ++ k) ≡ true
+number-begins zero k = rw (digits-small 0 (omega arith))
+number-begins (suc n) k =
+    let l = D.leading (suc n) (omega arith) in
+    let g = in→ 49 57 (l .first) (l .nonzero) in
+    rw (l .is) (t-is (inC digit (l .first)) (→in 48 57 (l .first) (omega arith) (omega arith)))
 
 pub number-read : (n : ℕ) (k : List ℕ) → firstIn digit k ≡ false → numberOf (digits n ++ k) ≡ record { value = min n 1000000; len = length (digits n) }
 unfolding numberOf
@@ -81,6 +92,9 @@ unfolding pointText pointed lastDigits
 pointed-length zero v = refl
 pointed-length (suc n) v = refl
 
+value-read : (n v : ℕ) → valueFrom (valueFrom 0 (digits (whole n v))) (lastDigits n v) ≡ v
+value-read n v = rw (digits-value (whole n v)) (value-back n v)
+
 pub decimal-read : (d : rules.Decimal) (k : List ℕ) → firstIn digit k ≡ false → firstIn point k ≡ false
     → decimalOf (decimalText d ++ k) ≡ record { made = madeOf (d .value) (d .places); len = length (decimalText d) }
 unfolding decimalOf
@@ -88,13 +102,10 @@ decimal-read d k e p =
     let v = d .value in
     let n = d .places in
     let w = digits (whole n v) in
-    let q : decimalText d ++ k ≡ w ++ (pointText n v ++ k) = append-assoc w (pointText n v) k in
-    let l : leading (w ++ (pointText n v ++ k)) ≡ w = leading-read w (pointText n v ++ k) (all-digits (whole n v)) (no-digit n v k e) in
-    let f : fraction (drop (length w) (w ++ (pointText n v ++ k))) ≡ lastDigits n v =
-    rw (drop-append-seam w (pointText n v ++ k)) (fraction-read n v k e p) in
-    rw (q, l, f) (ap₂ (λ (m : Made) (z : ℕ). record { made = m; len = z })
-    (ap₂ madeOf (ap (λ (x : ℕ). valueFrom x (lastDigits n v)) (digits-value (whole n v)) ∙ value-back n v) (last-length n v))
-    (ap (λ (x : ℕ). length w + x) (pointed-length n v) ∙ sym (length-append w (pointText n v))))
+    let t = pointText n v in
+    let l : leading (w ++ (t ++ k)) ≡ w = leading-read w (t ++ k) (all-digits (whole n v)) (no-digit n v k e) in
+    rw (append-assoc w t k, l, drop-append-seam w (t ++ k), fraction-read n v k e p, value-read n v, last-length n v, pointed-length n v)
+    (ap (λ (z : ℕ). record { made = madeOf v n; len = z }) (sym (length-append w t)))
 
 -- ---- billionths
 

@@ -1,4 +1,4 @@
--- Decimals in billionths: the walk over the places that are missing, and what a test tells. Assumes nothing.
+-- Decimals in billionths: the walk over the places that are missing. Assumes nothing.
 use Prim.Native.Nat.{ℕ, suc, _+_, _-_, _*_, _^_, _≤_, _<_, min}
 use mathlib.Core.Path.{_≡_, refl, sym, _∙_}
 use native.Mathlib.Omega.{arith}

@@ -182,7 +182,7 @@ fn ten_times(v: u64) -> u64
     if v <= u64::MAX / 10 { v * 10 } else { u64::MAX }
 }
 
-// A decimal in billionths, or the largest there is. Places past the ninth are not looked at: no decimal within its bounds has them.
+// A decimal in billionths, or the largest there is. More than nine places count as nine: no decimal within its bounds has them.
 pub fn billionths(d: Decimal) -> u64
     ensures { λ r. ⌜ r ≡ billionthsOf d ⌝ }
 {

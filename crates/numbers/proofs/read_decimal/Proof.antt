@@ -1,3 +1,4 @@
+use native.Mathlib.Omega.{arith}
 use Rattle.numbers.proofs.Points.{walked, found-whole, found-point, room, inside, capped-by}
 use borrow.Author.Needs.{needs}
 use Rattle.numbers.proofs.read_decimal.Statement.{statement}
@@ -16,7 +17,7 @@ part-fraction-from-end : tie.Need-part-fraction-from-end
 part-fraction-from-end c = search needs
 
 fraction-from-requires : tie.Need-fraction-from-requires
-fraction-from-requires c κs = capped-by _ _ _ (c .before .digits-from .ensures)
+fraction-from-requires c κs = let h = capped-by _ _ _ (c .before .digits-from .ensures) in omega arith
 
 places-of-requires : tie.Need-places-of-requires
 places-of-requires c κs = search needs

@@ -1,0 +1,109 @@
+-- How far a unit goes: never past the end of its text, and a byte or more where a unit begins. Assumes nothing.
+use Prim.Native.Nat.{ℕ, _+_, _-_, _≤_, min, max}
+use mathlib.Core.Path.{_≡_, refl}
+use mathlib.Core.Bool.{Bool, true, false, cond, _||_}
+use mathlib.Core.List.{List, [], _∷_}
+use native.Mathlib.Omega.{arith}
+use lib.ListN.{length, drop, length-drop}
+use Rattle.lang.proofs.Tests.{is-t}
+use Rattle.rules.specs.Bytes.{bytes, capital}
+use Rattle.rules.specs.Texts.{firstIn, startsWith}
+use Rattle.numbers.specs.declared.Number.{Number}
+use Rattle.numbers.specs.Leading.{numberOf}
+use Rattle.numbers.proofs.Laws.{number-within}
+use Rattle.elements.specs.declared.Element.{Element}
+use Rattle.elements.specs.Symbols.{elementOf}
+use Rattle.elements.proofs.Begins.{element-within, element-moves}
+use Rattle.terms.specs.Units.{beginsUnit, orOne, plainOf, labelledOf, unitOf}
+
+-- a number or a symbol in the rest of a text
+module _ (s : List ℕ) (at : ℕ) where
+  pub number-in : numberOf (drop at s) .len ≤ length s - at
+  number-in = omega (arith, number-within (drop at s), length-drop at s)
+
+  pub element-in : elementOf (drop at s) .len ≤ length s - at
+  element-in = omega (arith, element-within (drop at s), length-drop at s)
+
+-- ---- what the code reads
+
+module _ (s : List ℕ) {r : List ℕ} {e : Element} {n : Number} (pe : e ≡ elementOf s) (pr : r ≡ drop (e .len) s) (pn : n ≡ numberOf r) where
+  pub plain-fits : e .len + n .len ≤ length s
+  plain-fits =
+      let a : e .len ≤ length s = rw pe (element-within s) in
+      let b : n .len ≤ length s - e .len = rw (pn, pr) (number-in s (e .len)) in
+      omega arith
+
+  pub plain-is : {c : ℕ} → c ≡ orOne n → record { nucleons = 0; element = e .number; count = c; «count_at» = e .len; len = e .len + n .len } ≡ plainOf s
+  unfolding plainOf
+  plain-is pc = rw (pc, pn, pr, pe)
+
+module _ (s : List ℕ) {r : List ℕ} {a : Number} (pr : r ≡ drop 1 s) (pa : a ≡ numberOf r) where
+  pub nucleons-fit : 1 + a .len ≤ max 1 (length s)
+  nucleons-fit = let b : a .len ≤ length s - 1 = rw (pa, pr) (number-in s 1) in omega arith
+
+  module _ {r₂ : List ℕ} {e : Element} (pr₂ : r₂ ≡ drop (1 + a .len) s) (pe : e ≡ elementOf r₂) where
+    pub symbol-fits : 1 + a .len + e .len ≤ max 1 (length s)
+    symbol-fits =
+        let b = nucleons-fit in
+        let c : e .len ≤ length s - (1 + a .len) = rw (pe, pr₂) (element-in s (1 + a .len)) in
+        omega arith
+
+    module _ {r₃ : List ℕ} {n : Number} (pr₃ : r₃ ≡ drop (1 + a .len + e .len) s) (pn : n ≡ numberOf r₃) where
+      pub count-fits : 1 + a .len + e .len + n .len ≤ max 1 (length s)
+      count-fits =
+          let b = symbol-fits in
+          let c : n .len ≤ length s - (1 + a .len + e .len) = rw (pn, pr₃) (number-in s (1 + a .len + e .len)) in
+          omega arith
+
+      pub labelled-is : {l : ℕ} → l ≡ min (1 + a .len + e .len + n .len + 1) (length s)
+          → record { nucleons = a .value; element = e .number; count = n .value; «count_at» = 1 + a .len + e .len; len = l } ≡ labelledOf s
+      unfolding labelledOf
+      labelled-is pl = rw (pl, pn, pr₃, pe, pr₂, pa, pr)
+
+-- ---- for callers
+
+plain-within : (s : List ℕ) → plainOf s .len ≤ length s
+unfolding plainOf
+plain-within s = plain-fits s refl refl refl
+
+labelled-within : (s : List ℕ) → labelledOf s .len ≤ length s
+unfolding labelledOf
+labelled-within s = omega arith
+
+pub unit-within : (s : List ℕ) → unitOf s .len ≤ length s
+unfolding unitOf
+unit-within s = by (startsWith (bytes "[") s)
+  where
+    by : (t : Bool) → cond t (labelledOf s) (plainOf s) .len ≤ length s
+    by true = labelled-within s
+    by false = plain-within s
+
+labelled-moves : (s : List ℕ) → 1 ≤ length s → 1 ≤ labelledOf s .len
+unfolding labelledOf
+labelled-moves s h = omega arith
+
+plain-moves : (s : List ℕ) → firstIn capital s ≡ true → 1 ≤ plainOf s .len
+unfolding plainOf
+plain-moves s e = omega (arith, element-moves s e)
+
+begins-some : (s : List ℕ) → beginsUnit s ≡ true → 1 ≤ length s
+unfolding beginsUnit
+begins-some [] e = absurd (is-t {x = false} e)
+begins-some (b ∷ s) e = omega arith
+
+-- without a bracket, a unit begins with a capital
+begins-capital : (s : List ℕ) → beginsUnit s ≡ true → startsWith (bytes "[") s ≡ false → firstIn capital s ≡ true
+unfolding beginsUnit
+begins-capital s e n = by (firstIn capital s) (rw n at e)
+  where
+    by : (t : Bool) → t || false ≡ true → t ≡ true
+    by true e = refl
+    by false e = e
+
+pub unit-moves : (s : List ℕ) → beginsUnit s ≡ true → (1 ≤ unitOf s .len) × (unitOf s .len ≤ length s)
+unfolding unitOf
+unit-moves s e = (by (startsWith (bytes "[") s) refl, unit-within s)
+  where
+    by : (t : Bool) → startsWith (bytes "[") s ≡ t → 1 ≤ unitOf s .len
+    by true p = rw p (labelled-moves s (begins-some s e))
+    by false p = rw p (plain-moves s (begins-capital s e p))

@@ -1,0 +1,46 @@
+use Rattle.terms.specs.Units.{unitFault}
+use borrow.Author.Needs.{needs}
+use Rattle.terms.proofs.unit_fault.Statement.{statement}
+use Rattle.terms.proofs.unit_fault.Tie as tie
+
+less-requires : tie.Need-less-requires
+less-requires c κs = search needs
+
+many-requires : tie.Need-many-requires
+many-requires c κs = search needs
+
+less-requires-2 : tie.Need-less-requires-2
+less-requires-2 c κs = search needs
+
+less-requires-3 : tie.Need-less-requires-3
+less-requires-3 c κs = search needs
+
+past-requires : tie.Need-past-requires
+past-requires c κs = search needs
+
+less-requires-4 : tie.Need-less-requires-4
+less-requires-4 c κs = search needs
+
+less-requires-5 : tie.Need-less-requires-5
+less-requires-5 c κs = search needs
+
+past-requires-2 : tie.Need-past-requires-2
+past-requires-2 c κs = search needs
+
+returns : tie.Need-returns
+unfolding unitFault
+returns c = simp (c .past2 .ensures, c .before .before .before .past .ensures, c .before .before .before .before .before .before .many .ensures, c .before .before .before .before .before .before .before .less .ensures, c .before .before .before .before .before .less2 .ensures, c .before .before .before .before .less3 .ensures, c .before .before .less4 .ensures, c .before .less5 .ensures)
+
+pub unit-fault-spec : {M : Type 1} → statement M
+unit-fault-spec =
+    tie.close
+    (tie.spec
+    less-requires
+    many-requires
+    less-requires-2
+    less-requires-3
+    past-requires
+    less-requires-4
+    less-requires-5
+    past-requires-2
+    returns)

@@ -1,0 +1,224 @@
+// Units and formulas, read from the rest of a line and measured: how many bytes, which numbers, the first broken limit.
+ghost use mathlib.Core.Path.{_≡_};
+ghost use mathlib.Core.List.{_∷_, []};
+ghost use Prim.Native.Nat.{_+_, _-_, min};
+ghost use lib.ListN.{drop};
+ghost use Rattle.lang.specs.Re.{rng};
+ghost use Rattle.rules.specs.Limits.{numberMark, manyMark};
+ghost use Rattle.rules.specs.Texts.{firstIn, startsWith};
+ghost use Rattle.terms.specs.Faults.{join, after};
+ghost use Rattle.terms.specs.Units.{beginsUnit, orOne, plainOf, labelledOf, unitOf, unitFault};
+ghost use Rattle.terms.specs.Formulas.{formulaOf};
+use elements::read_element;
+use numbers::Number;
+use numbers::read_number;
+
+// How many units a formula may have.
+pub const MAX_UNITS: usize = 12;
+
+// The most that a count or a nucleon number may be.
+pub const MAX_COUNT: u32 = 999;
+
+// The first limit that was broken: its number and place. Number 0: none was.
+pub struct Fault {
+    pub number: u8,
+    pub place: usize,
+}
+
+// A unit: its numbers, as read_number tells them, where its count stands, and how many bytes it has. A silent count is 1, and a unit
+// without nucleon number has 0 nucleons.
+pub struct UnitRead {
+    pub nucleons: u32,
+    pub element: u16,
+    pub count: u32,
+    pub count_at: usize,
+    pub len: usize,
+}
+
+// A formula: how many units and bytes, and the first broken limit.
+pub struct FormulaRead {
+    pub units: usize,
+    pub len: usize,
+    pub fault: Fault,
+}
+
+// ---- parts and limits
+
+// A part without its first n bytes; empty where it has no more.
+pub fn rest<'a>(s: &'a [u8], n: usize) -> &'a [u8]
+    ensures { λ r. ⌜ now r ≡ drop n (now (s .entry)) ⌝ }
+{
+    if n < s.len() {
+        return &s[n..];
+    }
+    &s[..0]
+}
+
+// Whether a part begins with a byte.
+pub fn begins_with(s: &[u8], b: u8) -> bool
+    ensures { λ r. ⌜ r ≡ startsWith (b ∷ []) (now (s .entry)) ⌝ }
+{
+    if s.len() < 1 {
+        return false;
+    }
+    b == s[0]
+}
+
+// Whether a part begins with a byte from one to another.
+pub fn begins_in(s: &[u8], from: u8, to: u8) -> bool
+    ensures { λ r. ⌜ r ≡ firstIn (rng from to ∷ []) (now (s .entry)) ⌝ }
+{
+    if s.len() < 1 {
+        return false;
+    }
+    let b = s[0];
+    if b < from {
+        return false;
+    }
+    b <= to
+}
+
+// a - b, and 0 where b is more.
+pub fn less(a: usize, b: usize) -> usize
+    ensures { λ r. ⌜ r ≡ a - b ⌝ }
+{
+    if a < b {
+        return 0;
+    }
+    a - b
+}
+
+// A number at a place, against its bound.
+pub fn past(f: Fault, bound: u32, value: u32, place: usize) -> Fault
+    ensures { λ r. ⌜ r ≡ after f (numberMark bound value place) ⌝ }
+{
+    if f.number != 0 {
+        return f;
+    }
+    if bound < value {
+        return Fault { number: 4, place };
+    }
+    f
+}
+
+// A thing at a place, of which i stand before it, against how many there may be.
+pub fn many(f: Fault, bound: usize, i: usize, place: usize) -> Fault
+    ensures { λ r. ⌜ r ≡ join f (manyMark bound i place) ⌝ }
+{
+    if f.number != 0 {
+        return f;
+    }
+    if bound <= i {
+        return Fault { number: 5, place };
+    }
+    f
+}
+
+// ---- units
+
+// Whether a part begins with a unit: `[M` and `[name]` are none.
+pub fn begins_unit(s: &[u8]) -> bool
+    ensures { λ r. ⌜ r ≡ beginsUnit (now (s .entry)) ⌝ }
+{
+    if begins_in(s, b'A', b'Z') {
+        return true;
+    }
+    if !begins_with(s, b'[') {
+        return false;
+    }
+    begins_in(rest(s, 1), b'0', b'9')
+}
+
+// A count whose 1 may be left out.
+pub fn or_one(n: Number) -> u32
+    ensures { λ r. ⌜ r ≡ orOne n ⌝ }
+{
+    if n.len == 0 {
+        return 1;
+    }
+    n.value
+}
+
+// The end of a unit with the bracket behind it, no further than the part goes, so that any part can be measured.
+fn closed(end: usize, all: usize) -> usize
+    ensures { λ r. ⌜ r ≡ min (end + 1) all ⌝ }
+{
+    if end < all {
+        return end + 1;
+    }
+    all
+}
+
+// A symbol and its count.
+fn plain(s: &[u8]) -> UnitRead
+    ensures { λ r. ⌜ r ≡ plainOf (now (s .entry)) ⌝ }
+{
+    let e = read_element(s);
+    let n = read_number(rest(s, e.len));
+    UnitRead {
+        nucleons: 0,
+        element: e.number,
+        count: or_one(n),
+        count_at: e.len,
+        len: e.len + n.len,
+    }
+}
+
+// `[`, nucleon number, symbol, count, `]`. Only the numbers and the symbol are looked at: a line whose shape was scanned has the brackets.
+fn labelled(s: &[u8]) -> UnitRead
+    ensures { λ r. ⌜ r ≡ labelledOf (now (s .entry)) ⌝ }
+{
+    let a = read_number(rest(s, 1));
+    let p = 1 + a.len;
+    let e = read_element(rest(s, p));
+    let q = p + e.len;
+    let n = read_number(rest(s, q));
+    let end = q + n.len;
+    UnitRead {
+        nucleons: a.value,
+        element: e.number,
+        count: n.value,
+        count_at: q,
+        len: closed(end, s.len()),
+    }
+}
+
+// The unit that a part begins with.
+pub fn unit(s: &[u8]) -> UnitRead
+    ensures { λ r. ⌜ r ≡ unitOf (now (s .entry)) ⌝ }
+{
+    if begins_with(s, b'[') {
+        return labelled(s);
+    }
+    plain(s)
+}
+
+// The limits of unit number i of a formula, where `left` of the line's `end` bytes are left.
+fn unit_fault(f: Fault, u: UnitRead, i: usize, end: usize, left: usize) -> Fault
+    ensures { λ r. ⌜ r ≡ unitFault f u i end left ⌝ }
+{
+    let g = many(f, MAX_UNITS, i, less(end, left));
+    let h = past(g, MAX_COUNT, u.nucleons, less(end, less(left, 1)));
+    past(h, MAX_COUNT, u.count, less(end, less(left, u.count_at)))
+}
+
+// The units that a part begins with, where the part is the rest of a line of `end` bytes.
+pub fn formula(s: &[u8], end: usize, f: Fault) -> FormulaRead
+    ensures { λ r. ⌜ r ≡ formulaOf end (now (s .entry)) f ⌝ }
+{
+    let mut at: usize = 0;
+    let mut units: usize = 0;
+    let mut fault = f;
+    // Places are told by what is left, as no part knows where in the line it begins.
+    while begins_unit(rest(s, at)) {
+        let u = unit(rest(s, at));
+        fault = unit_fault(fault, u, units, end, s.len() - at);
+        at += u.len;
+        units += 1;
+    }
+    FormulaRead {
+        units,
+        len: at,
+        fault,
+    }
+}
