@@ -1,4 +1,4 @@
--- The loops that put bytes one by one: what is left to put makes the whole. Assumes nothing.
+-- The loops that put one thing after the other: what is left to put makes the whole. Assumes nothing.
 use Prim.Native.Nat.{ℕ, suc, _+_, _-_, _/_, _%_, _≤_, _<_}
 use mathlib.Core.Path.{_≡_, refl, sym, ap, _∙_}
 use mathlib.Core.List.{List, [], _∷_, _++_}
@@ -21,8 +21,8 @@ module _ {d : List ℕ} {at : ℕ} {l : List ℕ} where
   pub begin : {m : List ℕ} → length d ≤ maxPlace → at ≤ maxPlace → m ≡ l → Going d at l d at m
   begin h g q = record { small = h; same = refl; place = g; on = λ f r p. put-as p q }
 
-  -- the first byte of what is left
-  pub more : {e f : List ℕ} {p r b : ℕ} {m k : List ℕ} → Going d at l e p m → Put e p (b ∷ []) f r → m ≡ b ∷ k → Going d at l f r k
+  -- the first of what is left: a byte, or any run of bytes
+  pub more : {e f j k m : List ℕ} {p r : ℕ} → Going d at l e p m → Put e p j f r → m ≡ j ++ k → Going d at l f r k
   more g a q =
       record {
         small = g .small;
