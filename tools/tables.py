@@ -202,22 +202,49 @@ def rt_lines(xs):
     return ',\n    '.join(map(str, xs))
 
 
-HALF = 115
 CHUNK = 24
+ROWS = 256  # a state is held in a byte: a row for each, so that no state reaches past the rows
+
+
+def machine_bytes(classes, rows, accepts):
+    """The classes, a row for each state, a 1 for each state in which a line may end. What no state has is 0."""
+    kinds = len(rows[0])
+    laid = [q for row in rows for q in row]
+    return classes + laid + [0] * (ROWS * kinds - len(laid)) + accepts + [0] * (ROWS - len(accepts))
+
+
+def packed(xs):
+    return [int.from_bytes(bytes(xs[i:i + 8]), 'little') for i in range(0, len(xs), 8)]
+
+
+def layout(classes, rows, accepts):
+    rows_at = len(classes)
+    ends_at = rows_at + ROWS * len(rows[0])
+    return rows_at, ends_at, ends_at + ROWS
 
 
 def tables_antt(classes, reps, rows, accepts, paths):
+    rows_at, ends_at, size = layout(classes, rows, accepts)
+    numbers = [
+        ('how many states there are; the state of this number is where no shape goes on', 'states', len(rows)),
+        ('how many classes of bytes there are', 'kinds', len(reps)),
+        ("where the rows begin in the machine's bytes", 'rowsAt', rows_at),
+        ('where the marks of the states in which a line may end begin', 'endsAt', ends_at),
+        ("how many the machine's bytes are", 'size', size),
+    ]
     named = [
         ('the class of each byte', 'classes', 'List ℕ', antt_wrapped(classes)),
         ('a byte of each class', 'reps', 'List ℕ', antt_wrapped(reps)),
         ('for each state the state that each class leads to', 'rows', 'List (List ℕ)', antt_lists(rows)),
         ('1 for each state in which a line may end', 'accepts', 'List ℕ', antt_wrapped(accepts)),
         ('for each state a word that leads to it', 'words', 'List (List ℕ)', antt_lists(paths)),
+        ("the machine's bytes: classes, rows, accepts, each row and mark that no state has 0; eight to a number, the lowest first", 'packed', 'List ℕ',
+         antt_wrapped(packed(machine_bytes(classes, rows, accepts)), 8)),
     ]
-    out = ['-- The scan\'s tables. Made by tools/tables.py; nothing is trusted of it: proofs/Certificate.antt tests them. Assumes nothing.',
-           'use Prim.Native.Nat.{ℕ}', 'use mathlib.Core.List.{List, [], _∷_}', '',
-           'abbrev pub states : ℕ', f'states = {len(rows)}', '', 'abbrev pub kinds : ℕ', f'kinds = {len(reps)}', '',
-           '-- the rows of the first of two tables', 'abbrev pub half : ℕ', f'half = {HALF}']
+    out = ['-- The scan\'s tables. Made by tools/tables.py; nothing is trusted of it: proofs/Certificate.antt and proofs/Cells.antt test them. Assumes nothing.',
+           'use Prim.Native.Nat.{ℕ}', 'use mathlib.Core.List.{List, [], _∷_}']
+    for comment, name, value in numbers:
+        out += ['', f'-- {comment}', f'abbrev pub {name} : ℕ', f'{name} = {value}']
     for comment, name, kind, value in named:
         out += ['', f'-- {comment}', f'unfoldable pub {name} : {kind}', f'{name} =', f'    {value}']
     return '\n'.join(out) + '\n'
@@ -232,7 +259,7 @@ def rows_antt(rows):
            'use Rattle.rules.specs.Elements.{symbols}',
            'use Rattle.shape.specs.Tables.{classes, reps, rows, words, states}',
            'use Rattle.shape.proofs.Grammar.{symbolRe}',
-           'use Rattle.shape.proofs.Machine.{machine}', '',
+           'use Rattle.shape.proofs.TableMachine.{machine}', '',
            'row : ℕ → Bool', 'unfolding machine', 'row q = rowT machine q']
     for a in starts:
         out += ['', f'rows{a} : T (allB (λ i. row ({a} + i)) {min(CHUNK, n - a)})', 'unfolding row machine words rows classes reps symbolRe symbols', f'rows{a} = tt']
@@ -244,13 +271,19 @@ def rows_antt(rows):
 
 
 def tables_rt(classes, rows, accepts):
-    flat = [q for row in rows for q in row]
-    cut = HALF * len(rows[0])
-    named = [('The class of each byte.', 'CLASS', classes), ('The state that each class leads to, for the first states.', 'FIRST', flat[:cut]),
-             ('The same for the others.', 'OTHER', flat[cut:]), ('1 for each state in which a line may end.', 'ACCEPT', accepts)]
+    rows_at, ends_at, size = layout(classes, rows, accepts)
+    words = packed(machine_bytes(classes, rows, accepts))
+    numbers = [
+        ('How many states there are; the state of this number is where no shape goes on.', 'STATES', len(rows)),
+        ('How many classes of bytes there are.', 'KINDS', len(rows[0])),
+        ("Where the rows begin in the machine's bytes.", 'ROWS_AT', rows_at),
+        ('Where the marks of the states in which a line may end begin.', 'ENDS_AT', ends_at),
+        ("How many the machine's bytes are.", 'SIZE', size),
+    ]
     out = ['// The scan\'s tables. Made by tools/tables.py; nothing is trusted of it.']
-    for comment, name, xs in named:
-        out += ['', f'// {comment}', f'pub const {name}: [u8; {len(xs)}] = [', f'    {rt_lines(xs)},', '];']
+    for comment, name, value in numbers:
+        out += ['', f'// {comment}', f'pub const {name}: usize = {value};']
+    out += ['', "// The machine's bytes, eight to a number, the lowest first.", f'pub const PACKED: [u64; {len(words)}] = [', f'    {rt_lines(words)},', '];']
     return '\n'.join(out) + '\n'
 
 

@@ -1,12 +1,14 @@
 -- Laws of what is put at a cursor, for whoever puts one thing after the other. Assumes nothing.
-use Prim.Native.Nat.{ℕ, zero, suc, _+_, _-_, _≤_, min}
+use Prim.Native.Nat.{ℕ, zero, suc, _+_, _-_, _*_, _≤_, min}
 use mathlib.Core.Path.{_≡_, refl, sym, ap, ap₂, _∙_, subst}
-use mathlib.Core.List.{List, [], _∷_, _++_}
+use mathlib.Core.List.{List, [], _∷_, _++_, append-nil}
 use native.Mathlib.Omega.{arith}
 use native.Mathlib.Nat.{add-zero, zero-add, sub-zero}
 use native.Mathlib.Decide.{decLe}
 use lib.ListN.{length, take, drop, set, replicate, length-append, length-replicate, length-set}
 use lib.Seq.{sets, sets-eq, set-out, length-sets}
+use Rattle.lang.specs.Parts.{flat}
+use Rattle.rules.specs.Stored.{little}
 use Rattle.puts.specs.Puts.{maxPlace, Put}
 
 -- ---- stores
@@ -74,3 +76,14 @@ put-place p h = omega (arith, p .next)
 pub over-zeros : {n r : ℕ} {l e : List ℕ} → Put (replicate n 0) 0 l e r → length l ≤ n → e ≡ l ++ replicate (n - length l) 0
 over-zeros {n} {r} {l} {e} p h =
     p .made ∙ sets-eq l (replicate n 0) 0 (omega (arith, length-replicate {A = ℕ} n 0)) ∙ simp (zero-add, drop-zeros)
+
+-- a cleared output, filled
+pub filled : {n r : ℕ} {l e : List ℕ} → Put (replicate n 0) 0 l e r → length l ≡ n → e ≡ l
+filled {n} {r} {l} {e} p h =
+    let z : n - length l ≡ 0 = omega arith in
+    over-zeros p (omega arith) ∙ ap (λ (k : ℕ). l ++ replicate k 0) z ∙ append-nil l
+
+-- words are of eight bytes
+pub words-length : (s : List ℕ) → length (flat (little 8) s) ≡ length s * 8
+words-length [] = refl
+words-length (v ∷ s) = omega (arith, length-append (little 8 v) (flat (little 8) s), words-length s)

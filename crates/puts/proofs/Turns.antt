@@ -6,6 +6,7 @@ use native.Mathlib.Omega.{arith}
 use native.Mathlib.Numerals.{add-one}
 use lib.ListN.{length, getD, drop, drop-of-length-le}
 use lib.Seq.{drop-cons}
+use Rattle.lang.specs.Parts.{flat}
 use Rattle.rules.specs.Stored.{little}
 use Rattle.puts.specs.Puts.{maxPlace, Put}
 use Rattle.puts.proofs.Laws.{put-none, put-then, put-as, put-length}
@@ -44,3 +45,10 @@ little-none i n v h = let e : n - i ≡ 0 = omega arith in rw e
 -- the bytes of a run that are left
 pub run-more : (s : List ℕ) (i : ℕ) → i < length s → drop i s ≡ getD s i 0 ∷ drop (i + 1) s
 run-more s i h = drop-cons s i 0 h ∙ ap (λ (n : ℕ). getD s i 0 ∷ drop n s) (sym (add-one i))
+
+-- the words of a run that are left
+pub words-more : (s : List ℕ) (i : ℕ) → i < length s → flat (little 8) (drop i s) ≡ little 8 (getD s i 0) ++ flat (little 8) (drop (i + 1) s)
+words-more s i h = ap (flat (little 8)) (run-more s i h)
+
+pub words-none : (s : List ℕ) (i : ℕ) → length s ≤ i → flat (little 8) (drop i s) ≡ []
+words-none s i h = ap (flat (little 8)) (drop-of-length-le s h)

@@ -3,6 +3,7 @@
 ghost use mathlib.Core.Path.{_≡_};
 ghost use mathlib.Core.List.{_∷_, []};
 ghost use lib.ListN.{length, replicate};
+ghost use Rattle.lang.specs.Parts.{flat};
 ghost use Rattle.rules.specs.Stored.{little};
 ghost use Rattle.puts.specs.Puts.{Put};
 
@@ -44,6 +45,19 @@ pub fn put_run(out: &mut [u8], at: usize, s: &[u8]) -> usize
     while from < s.len() {
         to = put8(out, to, s[from]);
         from += 1;
+    }
+    to
+}
+
+// All of `words`, eight bytes each, the lowest first.
+pub fn put_words(out: &mut [u8], at: usize, words: &[u64]) -> usize
+    ensures { λ r. ⌜ Put (now (out .entry)) at (flat (little 8) (now (words .entry))) (now (out .exit)) r ⌝ }
+{
+    let mut to = at;
+    let mut taken: usize = 0;
+    while taken < words.len() {
+        to = put_le(out, to, words[taken], 8);
+        taken += 1;
     }
     to
 }

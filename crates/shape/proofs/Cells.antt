@@ -1,33 +1,110 @@
--- The code's tables are the machine's rows, laid out one after the other in two constants. Assumes nothing.
-use Prim.Native.Nat.{ℕ, _+_, _-_, _*_, _<_, _≤_}
-use mathlib.Core.Path.{_≡_, ap, _∙_}
-use mathlib.Core.List.{List, []}
+-- The machine's bytes are its tables, laid out one after the other. Assumes nothing.
+use Prim.Native.Nat.{ℕ, _+_, _*_, _<_, _≤_}
+use mathlib.Core.Path.{_≡_, refl, ap, _∙_}
+use mathlib.Core.List.{List, [], _++_}
 use native.Mathlib.Omega.{arith}
-use native.Mathlib.Nat.{add-sub-of-le}
-use lib.ListN.{length, getD, take, drop}
-use lib.Seq.{getD-take, getD-drop}
+use lib.Dec.{eqb}
+use lib.ListN.{length, getD, replicate, List·getD-append}
+use lib.Seq.{getD-append-add}
 use Rattle.lang.proofs.Flat.{laid, laid-at}
-use Rattle.lang.proofs.Certify.{kind-lt, step-le}
-use Rattle.shape.specs.Tables.{states, kinds, half, classes, rows}
-use Rattle.shape.specs.Steps.{step}
-use Rattle.shape.proofs.Machine.{machine}
+use Rattle.lang.proofs.Certify.{step, accepting, kind-lt}
+use Rattle.puts.specs.Puts.{Put}
+use Rattle.puts.proofs.Laws.{filled}
+use Rattle.shape.specs.Tables.{states, kinds, rowsAt, endsAt, size, classes, rows, accepts, packed}
+use Rattle.shape.specs.Steps.{machineBytes, stepBy, endsBy}
+use Rattle.shape.proofs.TableMachine.{machine}
 use Rattle.shape.proofs.Certificate.{certified}
 
-pub class-small : (b : ℕ) → b < 256 → getD classes b 0 < kinds
-unfolding machine
-class-small b h = kind-lt machine certified b h
+-- bytes that step and end as the machine does
+pub record Steps (m : List ℕ) : Type 0 where
+  pub long : size ≤ length m
+  pub steps : (q b : ℕ) → q < states → b < 256 → stepBy m q b ≡ step machine q b
+  pub ends : (q : ℕ) → q < states → endsBy m q ≡ accepting machine q
 
-pub step-small : (q b : ℕ) → q < states → b < 256 → step q b ≤ states
-unfolding machine step
-step-small q b hq hb = step-le machine certified q b hq hb
+-- ---- five lists one after the other: what stands in the first, the second and the fourth
 
--- the cell of a state and a class, in the first constant and in the other
-pub first-cell : (q c : ℕ) → q < half → c < kinds → getD (laid (take half rows)) (q * kinds + c) 0 ≡ getD (getD rows q []) c 0
-unfolding rows
-first-cell q c h g = laid-at kinds (take half rows) tt q c h g ∙ ap (λ (r : List ℕ). getD r c 0) (getD-take half rows q [] h)
+module _ (cs ls zs es ys : List ℕ) where
+  abbrev parts : List ℕ
+  parts = cs ++ (ls ++ (zs ++ (es ++ ys)))
 
-pub other-cell : (q c : ℕ) → half ≤ q → q < states → c < kinds → getD (laid (drop half rows)) ((q - half) * kinds + c) 0 ≡ getD (getD rows q []) c 0
-unfolding rows
-other-cell q c l h g =
-    laid-at kinds (drop half rows) tt (q - half) c (omega arith) g
-    ∙ ap (λ (r : List ℕ). getD r c 0) (getD-drop half rows (q - half) [] ∙ ap (λ (n : ℕ). getD rows n []) (add-sub-of-le l))
+  in-first : (i : ℕ) → i < length cs → getD parts i 0 ≡ getD cs i 0
+  in-first i h = List·getD-append cs (ls ++ (zs ++ (es ++ ys))) 0 i h
+
+  in-second : (i : ℕ) → i < length ls → getD parts (length cs + i) 0 ≡ getD ls i 0
+  in-second i h = getD-append-add cs (ls ++ (zs ++ (es ++ ys))) i 0 ∙ List·getD-append ls (zs ++ (es ++ ys)) 0 i h
+
+  in-fourth : (i : ℕ) → i < length es → getD parts (length cs + (length ls + (length zs + i))) 0 ≡ getD es i 0
+  in-fourth i h =
+      getD-append-add cs (ls ++ (zs ++ (es ++ ys))) (length ls + (length zs + i)) 0 ∙ getD-append-add ls (zs ++ (es ++ ys)) (length zs + i) 0
+      ∙ getD-append-add zs (es ++ ys) i 0 ∙ List·getD-append es ys 0 i h
+
+-- ---- the machine's: 26 rows and 26 marks belong to no state
+
+unfoldable noRows : List ℕ
+noRows = replicate 1846 0
+
+unfoldable noMarks : List ℕ
+noMarks = replicate 26 0
+
+unfoldable allRows : List ℕ
+allRows = laid rows
+
+laid-out : machineBytes ≡ parts classes allRows noRows accepts noMarks
+unfolding machineBytes packed classes rows accepts allRows noRows noMarks
+laid-out = refl
+
+classes-length : length classes ≡ rowsAt
+unfolding classes
+classes-length = refl
+
+rows-length : length allRows ≡ states * kinds
+unfolding allRows rows
+rows-length = refl
+
+none-length : length noRows ≡ 26 * kinds
+unfolding noRows
+none-length = refl
+
+accepts-length : length accepts ≡ states
+unfolding accepts
+accepts-length = refl
+
+size-is : length machineBytes ≡ size
+unfolding machineBytes packed
+size-is = refl
+
+-- what is put over that many zeros
+pub made : {e : List ℕ} {r : ℕ} → Put (replicate size 0) 0 machineBytes e r → e ≡ machineBytes
+made p = filled p size-is
+
+class-at : (b : ℕ) → b < 256 → getD machineBytes b 0 ≡ getD classes b 0
+class-at b h =
+    ap (λ (m : List ℕ). getD m b 0) laid-out ∙ in-first classes allRows noRows accepts noMarks b (omega (arith, classes-length))
+
+row-at : (q c : ℕ) → q < states → c < kinds → getD allRows (q * kinds + c) 0 ≡ getD (getD rows q []) c 0
+unfolding allRows rows
+row-at q c h g = laid-at kinds rows tt q c h g
+
+cell-at : (q c : ℕ) → q < states → c < kinds → getD machineBytes (rowsAt + q * kinds + c) 0 ≡ getD (getD rows q []) c 0
+cell-at q c h g =
+    let e : rowsAt + q * kinds + c ≡ length classes + (q * kinds + c) = omega (arith, classes-length) in
+    ap (λ (m : List ℕ). getD m (rowsAt + q * kinds + c) 0) laid-out
+    ∙ ap (λ (i : ℕ). getD (parts classes allRows noRows accepts noMarks) i 0) e
+    ∙ in-second classes allRows noRows accepts noMarks (q * kinds + c) (omega (arith, rows-length)) ∙ row-at q c h g
+
+mark-at : (q : ℕ) → q < states → getD machineBytes (endsAt + q) 0 ≡ getD accepts q 0
+mark-at q h =
+    let e : endsAt + q ≡ length classes + (length allRows + (length noRows + q)) = omega (arith, classes-length, rows-length, none-length) in
+    ap (λ (m : List ℕ). getD m (endsAt + q) 0) laid-out
+    ∙ ap (λ (i : ℕ). getD (parts classes allRows noRows accepts noMarks) i 0) e
+    ∙ in-fourth classes allRows noRows accepts noMarks q (omega (arith, accepts-length))
+
+pub machine-steps : Steps machineBytes
+unfolding machine stepBy endsBy
+machine-steps =
+    record {
+      long = omega (arith, size-is);
+      steps = λ q b h g.
+          ap (λ (c : ℕ). getD machineBytes (rowsAt + q * kinds + c) 0) (class-at b g) ∙ cell-at q (getD classes b 0) h (kind-lt machine certified b g);
+      ends = λ q h. ap (λ (x : ℕ). eqb x 1) (mark-at q h);
+    }

@@ -9,7 +9,7 @@ use Rattle.lang.proofs.Certify.{Certified, byteT, stateT}
 use Rattle.rules.specs.Elements.{symbols}
 use Rattle.shape.specs.Tables.{states, classes, reps, accepts, words}
 use Rattle.shape.proofs.Grammar.{symbolRe}
-use Rattle.shape.proofs.Machine.{machine}
+use Rattle.shape.proofs.TableMachine.{machine}
 use Rattle.shape.proofs.Rows.{all-rows}
 
 all-bytes : T (allB (byteT machine) 256)

@@ -1,5 +1,5 @@
 pub mod Grammar
-pub mod Machine
+pub mod TableMachine
 pub mod Rows
 pub mod Certificate
 pub mod MeansNumbers
@@ -11,3 +11,4 @@ pub mod Cells
 pub mod Unambiguous
 pub mod Walks
 pub mod Scans
+pub mod Parts

@@ -9,7 +9,7 @@ use Rattle.lang.proofs.Certify.{res, one-tree}
 use Rattle.lang.proofs.Whole as Whole
 use Rattle.rules.specs.Lines.{Spelling, lineText, Shape}
 use Rattle.shape.specs.Tables.{words}
-use Rattle.shape.proofs.Machine.{machine}
+use Rattle.shape.proofs.TableMachine.{machine}
 use Rattle.shape.proofs.Certificate.{certified}
 use Rattle.shape.proofs.MeansLine.{means-line}
 

@@ -7,7 +7,7 @@ use Rattle.lang.proofs.Certify.{rowT, Below, none-yet, chunk}
 use Rattle.rules.specs.Elements.{symbols}
 use Rattle.shape.specs.Tables.{classes, reps, rows, words, states}
 use Rattle.shape.proofs.Grammar.{symbolRe}
-use Rattle.shape.proofs.Machine.{machine}
+use Rattle.shape.proofs.TableMachine.{machine}
 
 row : ℕ → Bool
 unfolding machine

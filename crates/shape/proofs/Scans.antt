@@ -1,43 +1,50 @@
--- A scan of a whole line, in one part, comes to the verdict that the rules say. Assumes nothing.
+-- A scan of a whole line, in one part, by the machine's bytes comes to the verdict that the rules say. Assumes nothing.
 use Prim.Native.Nat.{ℕ, _+_, _-_, _<_, _≤_, _^_}
 use mathlib.Core.Path.{_≡_, refl, sym, ap, _∙_, subst}
 use mathlib.Core.Bool.{Bool, true, false, cond}
-use mathlib.Core.List.{List, [], _∷_, head-eq-of-cons-eq, tail-eq-of-cons-eq, nil≢cons, cons≢nil}
+use mathlib.Core.List.{List, [], _∷_, head-eq-of-cons-eq, tail-eq-of-cons-eq, nil≢cons}
 use native.Mathlib.Omega.{arith}
-use native.Mathlib.Decide.{decLe, ℕ-discrete}
-use lib.Dec.{eqb, ltb}
+use native.Mathlib.Decide.{decLe}
+use lib.Dec.{ltb, leb}
 use lib.ListN.{length, length-drop, getD, drop, drop-of-length-le}
-use borrow.Author.Tests.{lt-ltb, le-ltb}
+use borrow.Author.Tests.{lt-ltb, le-ltb, le-leb, lt-leb}
+use Rattle.lang.proofs.Certify.{step, step-le}
 use Rattle.lang.proofs.Loop as Loop
 use Rattle.lang.proofs.Loop.{Reading}
 use Rattle.rules.specs.Lines.{Shape, Judged, stray, short, fine, misshapen}
-use Rattle.shape.specs.Tables.{states}
+use Rattle.shape.specs.Tables.{states, size}
 use Rattle.shape.specs.declared.Progress.{Progress}
 use Rattle.shape.specs.declared.Verdict.the-variants.{Fine, Short, Stray}
-use Rattle.shape.specs.Steps.{step, accepting, standing, run, taken, verdictOf}
+use Rattle.shape.specs.Steps.{machineBytes, stepBy, endsBy, standing, runBy, takenBy, verdictBy, scannedBy}
 use Rattle.shape.specs.Verdicts.{JudgedBy}
-use Rattle.shape.proofs.Machine.{machine}
+use Rattle.shape.proofs.TableMachine.{machine}
 use Rattle.shape.proofs.Certificate.{certified}
 use Rattle.shape.proofs.OneSpelling.{from-start}
+use Rattle.shape.proofs.Cells.{Steps, machine-steps}
 use Rattle.shape.proofs.Walks.{run-on, run-stops, taken-run, from-byte}
 
 -- ---- the verdict of a scan that stands somewhere
 
-pub verdict-fine : (s : Progress) → s .state < states → accepting (s .state) ≡ true → verdictOf s ≡ Fine
-unfolding verdictOf
-verdict-fine s h a = simp (lt-ltb (s .state) states h, a)
+module _ (m : List ℕ) (s : Progress) where
+  pub verdict-few : length m < size → verdictBy m s ≡ Stray 0
+  unfolding verdictBy
+  verdict-few l = simp (lt-leb size (length m) l)
 
-pub verdict-short : (s : Progress) → s .state < states → accepting (s .state) ≡ false → verdictOf s ≡ Short
-unfolding verdictOf
-verdict-short s h a = simp (lt-ltb (s .state) states h, a)
+  pub verdict-fine : size ≤ length m → s .state < states → endsBy m (s .state) ≡ true → verdictBy m s ≡ Fine
+  unfolding verdictBy
+  verdict-fine l h a = simp (le-leb size (length m) l, lt-ltb (s .state) states h, a)
 
-pub verdict-stray : (s : Progress) → states ≤ s .state → verdictOf s ≡ Stray (s .at)
-unfolding verdictOf
-verdict-stray s h = simp (le-ltb (s .state) states h)
+  pub verdict-short : size ≤ length m → s .state < states → endsBy m (s .state) ≡ false → verdictBy m s ≡ Short
+  unfolding verdictBy
+  verdict-short l h a = simp (le-leb size (length m) l, lt-ltb (s .state) states h, a)
 
--- ---- over a line of bytes
+  pub verdict-stray : size ≤ length m → states ≤ s .state → verdictBy m s ≡ Stray (s .at)
+  unfolding verdictBy
+  verdict-stray l h = simp (le-leb size (length m) l, le-ltb (s .state) states h)
 
-module _ (line : List ℕ) (bytes : (i : ℕ) → i < length line → getD line i 0 < 256) where
+-- ---- by bytes that step and end as the machine does, over a line of bytes
+
+module _ (m : List ℕ) (o : Steps m) (line : List ℕ) (bytes : (i : ℕ) → i < length line → getD line i 0 < 256) where
   abbrev Reads : ℕ → ℕ → Type 0
   Reads q i = Reading Shape machine line q i
 
@@ -45,13 +52,13 @@ module _ (line : List ℕ) (bytes : (i : ℕ) → i < length line → getD line 
   unfolding machine
   small r = r .small
 
-  at-end : (q i : ℕ) → Reads q i → length line ≤ i → (a : Bool) → accepting q ≡ a → JudgedBy line (verdictOf (standing q i))
-  unfolding machine accepting
+  at-end : (q i : ℕ) → Reads q i → length line ≤ i → (a : Bool) → endsBy m q ≡ a → JudgedBy line (verdictBy m (standing q i))
   at-end q i r h true e =
-      subst (JudgedBy line) (sym (verdict-fine (standing q i) (small r) e)) (fine (Loop.fine Shape machine certified line q i r h true (sym e) refl))
+      subst (JudgedBy line) (sym (verdict-fine m (standing q i) (o .long) (small r) e))
+      (fine (Loop.fine Shape machine certified line q i r h true (sym e ∙ o .ends q (small r)) refl))
   at-end q i r h false e =
-      let x = Loop.short Shape machine certified line q i r h false (sym e) refl in
-      subst (JudgedBy line) (sym (verdict-short (standing q i) (small r) e)) (misshapen (short (x .0) (x .1)))
+      let x = Loop.short Shape machine certified line q i r h false (sym e ∙ o .ends q (small r)) refl in
+      subst (JudgedBy line) (sym (verdict-short m (standing q i) (o .long) (small r) e)) (misshapen (short (x .0) (x .1)))
 
   past : (i : ℕ) → drop i line ≡ [] → length line ≤ i
   past i e = let p : length line - i ≡ 0 = sym (length-drop i line) ∙ ap length e in omega arith
@@ -60,10 +67,15 @@ module _ (line : List ℕ) (bytes : (i : ℕ) → i < length line → getD line 
   inside i b w e (yes h) = absurd (nil≢cons (sym (drop-of-length-le line h) ∙ e))
   inside i b w e (no h) = omega arith
 
-  walk : (w : List ℕ) (q i : ℕ) → drop i line ≡ w → Reads q i → JudgedBy line (verdictOf (run q i w))
-  unfolding run machine step
-  walk [] q i e r = at-end q i r (past i e) (accepting q) refl
-  walk (b ∷ w) q i e r = by (λ q′ r′. walk w q′ (i + 1) t r′) (ℕ-discrete (step q b) states)
+  -- a step from a state is to a state, or stops
+  small-step : (q b : ℕ) → q < states → b < 256 → stepBy m q b ≤ states
+  unfolding machine
+  small-step q b h g = subst (λ (x : ℕ). x ≤ states) (sym (o .steps q b h g)) (step-le machine certified q b h g)
+
+  walk : (w : List ℕ) (q i : ℕ) → drop i line ≡ w → Reads q i → JudgedBy line (verdictBy m (runBy m q i w))
+  unfolding runBy machine
+  walk [] q i e r = at-end q i r (past i e) (endsBy m q) refl
+  walk (b ∷ w) q i e r = by (λ q′ r′. walk w q′ (i + 1) t r′) (decLe states (stepBy m q b))
     where
       h : i < length line
       h = inside i b w e (decLe (length line) i)
@@ -71,19 +83,30 @@ module _ (line : List ℕ) (bytes : (i : ℕ) → i < length line → getD line 
       t : drop (i + 1) line ≡ w
       t = tail-eq-of-cons-eq (sym (from-byte line i h) ∙ e)
 
-      p : step q b ≡ step q (getD line i 0)
-      p = ap (step q) (sym (head-eq-of-cons-eq (sym (from-byte line i h) ∙ e)))
+      same : getD line i 0 ≡ b
+      same = head-eq-of-cons-eq (sym (from-byte line i h) ∙ e)
 
-      by : ((q′ : ℕ) → Reads q′ (i + 1) → JudgedBy line (verdictOf (run q′ (i + 1) w))) → Dec (step q b ≡ states) → JudgedBy line (verdictOf (run q i (b ∷ w)))
+      p : stepBy m q b ≡ step machine q (getD line i 0)
+      p = ap (stepBy m q) (sym same) ∙ o .steps q (getD line i 0) (small r) (bytes i h)
+
+      most : stepBy m q b ≤ states
+      most = small-step q b (small r) (subst (λ (x : ℕ). x < 256) same (bytes i h))
+
+      by : ((q′ : ℕ) → Reads q′ (i + 1) → JudgedBy line (verdictBy m (runBy m q′ (i + 1) w))) → Dec (states ≤ stepBy m q b) → JudgedBy line (verdictBy m (runBy m q i (b ∷ w)))
       by ih (yes d) =
-          subst (λ (s : Progress). JudgedBy line (verdictOf s)) (sym (run-stops q i b w d))
-          (subst (JudgedBy line) (sym (verdict-stray (standing states i) (omega arith))) (misshapen (stray i (Loop.dies Shape machine certified line q i (step q b) r h (bytes i h) p d))))
+          subst (λ (s : Progress). JudgedBy line (verdictBy m s)) (sym (run-stops m q i b w d))
+          (subst (JudgedBy line) (sym (verdict-stray m (standing states i) (o .long) (omega arith)))
+          (misshapen (stray i (Loop.dies Shape machine certified line q i (stepBy m q b) r h (bytes i h) p (omega (arith, most))))))
       by ih (no d) =
-          subst (λ (s : Progress). JudgedBy line (verdictOf s)) (sym (run-on q i b w d))
-          (ih (step q b) (Loop.turn Shape machine certified line q i (step q b) r h (bytes i h) p d))
+          subst (λ (s : Progress). JudgedBy line (verdictBy m s)) (sym (run-on m q i b w (omega arith)))
+          (ih (stepBy m q b) (Loop.turn Shape machine certified line q i (stepBy m q b) r h (bytes i h) p (omega arith)))
 
-  pub judged : length line < 2 ^ 64 → JudgedBy line (verdictOf (taken (standing 0 0) line))
-  unfolding machine
+  judged : length line < 2 ^ 64 → JudgedBy line (scannedBy m line)
+  unfolding machine scannedBy
   judged h =
-      subst (λ (s : Progress). JudgedBy line (verdictOf s)) (sym (taken-run (standing 0 0) line (omega arith) (omega arith)))
+      subst (λ (s : Progress). JudgedBy line (verdictBy m s)) (sym (taken-run m (standing 0 0) line (o .long) (omega arith) (omega arith)))
       (walk line 0 0 refl (Loop.begin Shape machine certified line (omega arith) from-start))
+
+-- the verdicts by the machine's bytes are what the rules say
+pub by-machine : (line : List ℕ) → ((i : ℕ) → i < length line → getD line i 0 < 256) → length line < 2 ^ 64 → JudgedBy line (scannedBy machineBytes line)
+by-machine line bytes h = judged machineBytes machine-steps line bytes h

@@ -1,36 +1,47 @@
--- What the functions of the scan mean: a step of its machine by the tables, a walk over bytes, and the verdict at a line's end.
--- That these verdicts are what the rules say is a law (proofs/Scans.antt). Assumes nothing.
-use Prim.Native.Nat.{ℕ, _+_, _^_}
+-- What the functions of the scan mean, for a machine of any bytes: a step, a walk over a part of a line, and the verdict at its end.
+-- That the verdicts by `machineBytes` are what the rules say is a law (proofs/Scans.antt). Assumes nothing.
+use Prim.Native.Nat.{ℕ, _+_, _*_, _^_}
 use mathlib.Core.Bool.{Bool, cond, _&&_}
 use mathlib.Core.List.{List, [], _∷_}
-use lib.Dec.{ltb, eqb}
+use lib.Dec.{ltb, leb, eqb}
 use lib.ListN.{length, getD}
-use Rattle.shape.specs.Tables.{states, classes, rows, accepts}
+use Rattle.lang.specs.Parts.{flat}
+use Rattle.rules.specs.Stored.{little}
+use Rattle.shape.specs.Tables.{states, kinds, rowsAt, endsAt, size, packed}
 use Rattle.shape.specs.declared.Progress.{Progress}
 use Rattle.shape.specs.declared.Verdict.{Verdict}
 use Rattle.shape.specs.declared.Verdict.the-variants.{Fine, Short, Stray}
 
--- from state q by the byte b
-unfoldable pub step : ℕ → ℕ → ℕ
-step q b = getD (getD rows q []) (getD classes b 0) 0
+-- the bytes of the machine that decides shapes
+unfoldable pub machineBytes : List ℕ
+machineBytes = flat (little 8) packed
 
-unfoldable pub accepting : ℕ → Bool
-accepting q = eqb (getD accepts q 0) 1
+-- from state q by the byte b
+unfoldable pub stepBy : List ℕ → ℕ → ℕ → ℕ
+stepBy m q b = getD m (rowsAt + q * kinds + getD m b 0) 0
+
+unfoldable pub endsBy : List ℕ → ℕ → Bool
+endsBy m q = eqb (getD m (endsAt + q) 0) 1
 
 abbrev pub standing : ℕ → ℕ → Progress
 standing q at = record { state = q; at = at }
 
 -- from state q at a place, over bytes: the walk stops where no shape goes on
-unfoldable pub run : ℕ → ℕ → List ℕ → Progress
-run q at [] = standing q at
-run q at (b ∷ w) = let more = run (step q b) (at + 1) w in cond (eqb (step q b) states) (standing states at) more
+unfoldable pub runBy : List ℕ → ℕ → ℕ → List ℕ → Progress
+runBy m q at [] = standing q at
+runBy m q at (b ∷ w) = let more = runBy m (stepBy m q b) (at + 1) w in cond (ltb (stepBy m q b) states) more (standing states at)
 
--- a scan that stopped stays, and so does one whose place would not fit a usize
-abbrev pub goesOn : Progress → List ℕ → Bool
-goesOn s part = ltb (s .state) states && ltb (s .at + length part) (2 ^ 64)
+-- a scan that stopped stays, and so does one by too few bytes, and one whose place would not fit a usize
+abbrev pub goesOn : List ℕ → Progress → List ℕ → Bool
+goesOn m s part = leb size (length m) && (ltb (s .state) states && ltb (s .at + length part) (2 ^ 64))
 
-unfoldable pub taken : Progress → List ℕ → Progress
-taken s part = cond (goesOn s part) (run (s .state) (s .at) part) s
+unfoldable pub takenBy : List ℕ → Progress → List ℕ → Progress
+takenBy m s part = cond (goesOn m s part) (runBy m (s .state) (s .at) part) s
 
-unfoldable pub verdictOf : Progress → Verdict
-verdictOf s = cond (ltb (s .state) states) (cond (accepting (s .state)) Fine Short) (Stray (s .at))
+-- by too few bytes everything is stray
+unfoldable pub verdictBy : List ℕ → Progress → Verdict
+verdictBy m s = cond (leb size (length m)) (cond (ltb (s .state) states) (cond (endsBy m (s .state)) Fine Short) (Stray (s .at))) (Stray 0)
+
+-- a line in one part
+unfoldable pub scannedBy : List ℕ → List ℕ → Verdict
+scannedBy m line = verdictBy m (takenBy m (standing 0 0) line)

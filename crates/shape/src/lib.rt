@@ -1,16 +1,21 @@
 // The shape of a line, decided by one walk of a table machine. Document 01, "Numbers of refusal", 2 and 3.
+// The machine is made once, by `machine`, and lent to whatever scans by it: a constant would be made anew by each function that names it.
 ghost use mathlib.Core.Path.{_≡_};
-ghost use Prim.Native.Nat.{_<_};
-ghost use Rattle.shape.specs.Tables.{states};
-ghost use Rattle.shape.specs.Steps.{step, accepting, standing, taken, verdictOf};
+ghost use Prim.Native.Nat.{_<_, _≤_};
+ghost use lib.ListN.{length};
+ghost use Rattle.shape.specs.Tables.{states, size};
+ghost use Rattle.shape.specs.Steps.{machineBytes, stepBy, endsBy, standing, takenBy, verdictBy, scannedBy};
 ghost use Rattle.shape.specs.Verdicts.{JudgedBy};
 
 mod tables;
 
-use crate::tables::ACCEPT;
-use crate::tables::CLASS;
-use crate::tables::FIRST;
-use crate::tables::OTHER;
+use crate::tables::ENDS_AT;
+use crate::tables::KINDS;
+use crate::tables::PACKED;
+use crate::tables::ROWS_AT;
+use crate::tables::SIZE;
+use crate::tables::STATES;
+use puts::put_words;
 
 // What the shape of a line is.
 pub enum Verdict {
@@ -22,25 +27,31 @@ pub enum Verdict {
     Stray(usize),
 }
 
-// The state after a byte; 230 where no shape goes on with it.
-fn next(q: usize, b: u8) -> usize
-    requires { ⌜ q < states ⌝ }
-    ensures { λ r. ⌜ r ≡ step q b ⌝ }
+// The bytes of the machine: the class of each byte, a row for each state, a mark for each state in which a line may end.
+pub fn machine() -> [u8; SIZE]
+    ensures { λ r. ⌜ r ≡ machineBytes ⌝ }
 {
-    let c = CLASS[b as usize] as usize;
-    if q < 115 {
-        return FIRST[q * 71 + c] as usize;
-    }
-    let p = q - 115;
-    OTHER[p * 71 + c] as usize
+    let words = PACKED;
+    let mut bytes = [0u8; SIZE];
+    put_words(&mut bytes, 0, &words);
+    bytes
+}
+
+// The state after a byte; at least 230 where no shape goes on with it.
+fn next(machine: &[u8], q: usize, b: u8) -> usize
+    requires { ⌜ (size ≤ length (now machine)) × (q < states) ⌝ }
+    ensures { λ r. ⌜ r ≡ stepBy (now (machine .entry)) q b ⌝ }
+{
+    let c = machine[b as usize] as usize;
+    machine[ROWS_AT + q * KINDS + c] as usize
 }
 
 // Whether a line may end in a state.
-fn accepts(q: usize) -> bool
-    requires { ⌜ q < states ⌝ }
-    ensures { λ r. ⌜ r ≡ accepting q ⌝ }
+fn ends(machine: &[u8], q: usize) -> bool
+    requires { ⌜ (size ≤ length (now machine)) × (q < states) ⌝ }
+    ensures { λ r. ⌜ r ≡ endsBy (now (machine .entry)) q ⌝ }
 {
-    ACCEPT[q] == 1
+    machine[ENDS_AT + q] == 1
 }
 
 // How far a scan has come, after some bytes of a line, which may come in parts: the machine's state, and how many bytes begin a shape.
@@ -58,12 +69,16 @@ impl Progress {
     }
 
     // After a further part of the line.
-    pub fn over(self, part: &[u8]) -> Progress
-        ensures { λ r. ⌜ r ≡ taken self (now (part .entry)) ⌝ }
+    pub fn over(self, machine: &[u8], part: &[u8]) -> Progress
+        ensures { λ r. ⌜ r ≡ takenBy (now (machine .entry)) self (now (part .entry)) ⌝ }
     {
         let start = self.at;
         let mut q = self.state;
-        if q >= 230 {
+        // With a state and a class below 256 every index is inside so many bytes.
+        if machine.len() < SIZE {
+            return self;
+        }
+        if q >= STATES {
             return self;
         }
         // A place past the last usize could not be told.
@@ -72,10 +87,10 @@ impl Progress {
         }
         let mut i: usize = 0;
         while i < part.len() {
-            q = next(q, part[i]);
-            if q == 230 {
+            q = next(machine, q, part[i]);
+            if q >= STATES {
                 return Progress {
-                    state: 230,
+                    state: STATES,
                     at: start + i,
                 };
             }
@@ -88,25 +103,36 @@ impl Progress {
     }
 
     // The verdict, where the line ends here.
-    pub fn verdict(self) -> Verdict
-        ensures { λ r. ⌜ r ≡ verdictOf self ⌝ }
+    pub fn verdict(self, machine: &[u8]) -> Verdict
+        ensures { λ r. ⌜ r ≡ verdictBy (now (machine .entry)) self ⌝ }
     {
+        if machine.len() < SIZE {
+            return Verdict::Stray(0);
+        }
         let q = self.state;
-        if q >= 230 {
+        if q >= STATES {
             return Verdict::Stray(self.at);
         }
-        if accepts(q) {
+        if ends(machine, q) {
             return Verdict::Fine;
         }
         Verdict::Short
     }
 }
 
-// The shape of a line of any bytes and any length.
+// The verdict of a machine on a line, in one part.
+pub fn scan_by(machine: &[u8], line: &[u8]) -> Verdict
+    ensures { λ r. ⌜ r ≡ scannedBy (now (machine .entry)) (now (line .entry)) ⌝ }
+{
+    let begun = Progress::begin();
+    let whole = begun.over(machine, line);
+    whole.verdict(machine)
+}
+
+// The shape of a line of any bytes and any length. Whoever has many lines makes the machine once, and calls `scan_by`.
 pub fn scan(line: &[u8]) -> Verdict
     ensures { λ r. ⌜ JudgedBy (now (line .entry)) r ⌝ }
 {
-    let begun = Progress::begin();
-    let whole = begun.over(line);
-    whole.verdict()
+    let made = machine();
+    scan_by(&made, line)
 }

@@ -3,21 +3,28 @@
 use feeds::line_end;
 use libc::STDIN_FILENO;
 use libc::STDOUT_FILENO;
+use puts::put_run;
+use puts::put8;
 use shape::Progress;
 use shape::Verdict;
 
+// The longest answer: a number, a blank, a place of 20 digits, a line feed.
+const ANSWER: usize = 23;
+
 fn main() {
+    let machine = shape::machine();
     let mut buf = io::large_buffer();
-    all(&mut buf);
+    let mut out = io::large_buffer();
+    all(&machine, &mut buf, &mut out);
 }
 
 // Input until nothing comes. A proved loop has to end, so it counts down from a number that no run uses up.
-fn all(buf: &mut [u8]) {
+fn all(machine: &[u8], buf: &mut [u8], out: &mut [u8]) {
     let mut p = Progress::begin();
     let mut turns = u64::MAX;
     while turns > 0 {
-        let Came::More(q) = one_read(buf, p) else {
-            last(p);
+        let Came::More(q) = one_read(machine, buf, out, p) else {
+            last(machine, out, p);
             return;
         };
         p = q;
@@ -31,61 +38,97 @@ enum Came {
     End,
 }
 
-fn one_read(buf: &mut [u8], p: Progress) -> Came {
+fn one_read(machine: &[u8], buf: &mut [u8], out: &mut [u8], p: Progress) -> Came {
     let got = libc::read(STDIN_FILENO, buf);
     if got <= 0 {
         return Came::End;
     }
     let n = io::count(got, buf);
-    Came::More(lines_of(&buf[..n], p))
+    Came::More(lines_of(machine, &buf[..n], out, p))
 }
 
-// The lines that end in these bytes; the scan of the one that goes on.
-fn lines_of(buf: &[u8], begun: Progress) -> Progress {
-    let mut p = begun;
+// The lines that end in these bytes are answered; the scan of the one that goes on. Answers are collected, and written here at the
+// latest, so that whoever types lines is answered at once.
+fn lines_of(machine: &[u8], buf: &[u8], out: &mut [u8], begun: Progress) -> Progress {
+    let mut w = Work {
+        scan: begun,
+        waiting: 0,
+    };
     let mut from: usize = 0;
     while from < buf.len() {
         let n = line_end(&buf[from..]);
         let end = from + n;
-        p = one_part(&buf[from..end], p, end < buf.len());
+        w = one_part(machine, &buf[from..end], out, w, end < buf.len());
         from = end + 1;
     }
-    p
+    flush(out, w.waiting);
+    w.scan
+}
+
+// The scan of the line that goes on, and how many bytes of answers wait.
+struct Work {
+    scan: Progress,
+    waiting: usize,
 }
 
 // A part of a line, which may be its last.
-fn one_part(part: &[u8], begun: Progress, ends: bool) -> Progress {
-    let p = begun.over(part);
+fn one_part(machine: &[u8], part: &[u8], out: &mut [u8], w: Work, ends: bool) -> Work {
+    let begun = w.scan;
+    let p = begun.over(machine, part);
     if ends {
-        report(p);
-        return Progress::begin();
+        let n = answer(machine, out, w.waiting, p);
+        let fresh = Progress::begin();
+        return Work {
+            scan: fresh,
+            waiting: n,
+        };
     }
-    p
+    Work {
+        scan: p,
+        waiting: w.waiting,
+    }
 }
 
 // A last line without line feed.
-fn last(p: Progress) {
+fn last(machine: &[u8], out: &mut [u8], p: Progress) {
     if p.state != 0 || p.at != 0 {
-        report(p);
+        let waiting = answer(machine, out, 0, p);
+        flush(out, waiting);
     }
 }
 
-fn report(p: Progress) {
-    let v = p.verdict();
+// The answer for a line, behind those that wait; how many bytes wait then.
+fn answer(machine: &[u8], out: &mut [u8], waiting: usize, p: Progress) -> usize {
+    let at = room(out, waiting);
+    let v = p.verdict(machine);
     match v {
-        Verdict::Fine => say(b"fine"),
-        Verdict::Short => say_place(b"3 ", p.at),
-        Verdict::Stray(k) => say_place(b"2 ", k),
+        Verdict::Fine => put_run(out, at, b"fine\n"),
+        Verdict::Short => put_place(out, at, b"3 ", p.at),
+        Verdict::Stray(k) => put_place(out, at, b"2 ", k),
     }
 }
 
-fn say_place(number: &[u8], place: usize) {
-    io::write_all(STDOUT_FILENO, number);
-    io::print_decimal(STDOUT_FILENO, place as u64);
-    say(b"");
+// Where the next answer goes: what waits is written first where an answer more might not fit.
+fn room(out: &[u8], waiting: usize) -> usize {
+    if waiting < out.len() {
+        if out.len() - waiting >= ANSWER {
+            return waiting;
+        }
+    }
+    flush(out, waiting);
+    0
 }
 
-fn say(text: &[u8]) {
-    io::write_all(STDOUT_FILENO, text);
-    io::write_all(STDOUT_FILENO, b"\n");
+fn put_place(out: &mut [u8], at: usize, number: &[u8], place: usize) -> usize {
+    let mut text = [0u8; 20];
+    let n = io::decimal(place as u64, &mut text);
+    let behind = put_run(out, at, number);
+    let end = put_run(out, behind, &text[..n]);
+    put8(out, end, b'\n')
+}
+
+fn flush(out: &[u8], n: usize) {
+    if n <= out.len() {
+        io::write_all(STDOUT_FILENO, &out[..n]);
+    }
 }

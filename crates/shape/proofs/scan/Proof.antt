@@ -1,35 +1,30 @@
--- `shape::scan` meets its contract: a scan of the whole line in one part. Assumes nothing.
-use borrow.Author.Needs.{needs}
-use native.Mathlib.Omega.{arith}
-use mathlib.Core.Path.{sym, ap, _∙_, subst}
-use Rattle.shape.specs.declared.Progress.{Progress}
-use Rattle.shape.specs.Steps.{taken, verdictOf}
+-- `shape::scan` meets its contract: the scan by the machine's bytes is what the rules say. Assumes nothing.
+use Rattle.shape.proofs.Scans.{by-machine}
 use Rattle.shape.specs.Verdicts.{JudgedBy}
-use Rattle.shape.proofs.Scans.{judged}
+use Rattle.shape.specs.Steps.{scannedBy}
+use mathlib.Core.Path.{sym, ap, _∙_, subst}
+use mathlib.Core.List.{List}
+use Prim.Native.Nat.{ℕ}
+use native.Mathlib.Omega.{arith}
+use borrow.Author.Needs.{needs}
 use Rattle.shape.proofs.scan.Statement.{statement}
 use Rattle.shape.proofs.scan.Tie as tie
-use Rattle.shape.proofs.scan.Reads as reads
-use Rattle.shape.proofs.scan.Lts as lts
-use Rattle.shape.proofs.Progress.begin.Reads as begin-reads
-use Rattle.shape.proofs.Progress.over.Reads as over-reads
-use Rattle.shape.proofs.Progress.verdict.Reads as verdict-reads
 
-begin-requires : tie.Need-begin-requires
-begin-requires c κs = search needs
+machine-requires : tie.Need-machine-requires
+machine-requires c κs = search needs
 
-over-requires : tie.Need-over-requires
-over-requires c κs = search needs
+slice-aggregate-scan-by : tie.Need-slice-aggregate-scan-by
+slice-aggregate-scan-by c = search needs
 
-verdict-requires : tie.Need-verdict-requires
-verdict-requires c κs = search needs
+scan-by-requires : tie.Need-scan-by-requires
+scan-by-requires c κs = search needs
 
 returns : tie.Need-returns
 returns c =
     let b = c .before .before in
     let line = b .before .before .args .line .now in
-    subst (JudgedBy line)
-    (sym (c .verdict .ensures ∙ ap verdictOf (c .before .over .ensures ∙ ap (λ (s : Progress). taken s line) (b .begin .ensures))))
-    (judged line (λ i h. b .before .shared-slice-known .given i .fits) (omega arith))
+    subst (JudgedBy line) (sym (c .scan-by .ensures ∙ ap (λ (m : List ℕ). scannedBy m line) (b .machine .ensures)))
+    (by-machine line (λ i h. b .before .shared-slice-known .given i .fits) (omega arith))
 
 pub scan-spec : {M : Type 1} → statement M
-scan-spec = tie.close (tie.spec begin-requires over-requires verdict-requires returns)
+scan-spec = tie.close (tie.spec machine-requires slice-aggregate-scan-by scan-by-requires returns)

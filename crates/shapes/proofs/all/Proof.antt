@@ -1,70 +1,59 @@
-use native.Mathlib.Omega.{arith}
-use lib.ListN.{length}
-use mathlib.Core.Path.{_≡_, refl}
+-- `shapes::all` is safe and ends. Assumes nothing.
 use borrow.Author.Needs.{needs}
+use mathlib.Core.Path.{_≡_, refl}
+use lib.ListN.{length}
+use native.Mathlib.Omega.{arith}
 use Rattle.shapes.proofs.all.Statement.{statement}
 use Rattle.shapes.proofs.all.Tie as tie
-use Rattle.shapes.proofs.all.Reads as reads
-use Rattle.shapes.proofs.all.Lts as lts
-use Rattle.shape.proofs.Progress.begin.Reads as begin-reads
-use Rattle.shapes.proofs.last.Reads as last-reads
-use Rattle.shapes.proofs.one_read.Reads as one-read-reads
 
 abbrev Inv-loop : tie.InvT-loop
-Inv-loop buf₀ p₀ turns₀ buf p turns = length buf ≡ length buf₀
+Inv-loop machine buf₀ out₀ p₀ turns₀ buf out p turns = (length buf ≡ length buf₀) × (length out ≡ length out₀)
 
 abbrev μ-loop : tie.MeasureT-loop
-μ-loop buf₀ p₀ turns₀ buf p turns = turns
+μ-loop machine buf₀ out₀ p₀ turns₀ buf out p turns = turns
 
--- src/main.rt:16:9
 begin-requires : tie.Need-begin-requires Inv-loop μ-loop
 begin-requires c κs = search needs
 
--- src/main.rt:18:5
 loop-holds : tie.Need-loop-holds Inv-loop μ-loop
-loop-holds c = refl
+loop-holds c = (refl, refl)
 
--- src/main.rt:19:29
 one-read-requires : tie.Need-one-read-requires Inv-loop μ-loop
 one-read-requires c κs = search needs
 
--- src/main.rt:19:24
 enum-known-q : tie.Need-enum-known-q Inv-loop μ-loop
 enum-known-q c = search needs
 
--- src/main.rt:20:13
 enum-told : tie.Need-enum-told Inv-loop μ-loop
 enum-told c = search needs
 
--- src/main.rt:20:13
 last-requires : tie.Need-last-requires Inv-loop μ-loop
 last-requires c κs = search needs
 
--- src/main.rt:21:13
 same-length : tie.Need-same-length Inv-loop μ-loop
 same-length c = omega arith
 
--- src/main.rt:21:13
+same-length-2 : tie.Need-same-length-2 Inv-loop μ-loop
+same-length-2 c = omega arith
+
 returns : tie.Need-returns Inv-loop μ-loop
 returns c = tt
 
--- src/main.rt:24:9
 sub-turns : tie.Need-sub-turns Inv-loop μ-loop
 sub-turns c = search needs
 
--- src/main.rt:18:5
 loop-less : tie.Need-loop-less Inv-loop μ-loop
 loop-less c = search needs
 
--- src/main.rt:18:5
 loop-again : tie.Need-loop-again Inv-loop μ-loop
-loop-again c = omega arith
+loop-again c = (omega arith, omega arith)
 
--- src/main.rt:15:1
-same-length-2 : tie.Need-same-length-2 Inv-loop μ-loop
-same-length-2 c = search needs
+same-length-3 : tie.Need-same-length-3 Inv-loop μ-loop
+same-length-3 c = search needs
 
--- src/main.rt:15:1
+same-length-4 : tie.Need-same-length-4 Inv-loop μ-loop
+same-length-4 c = search needs
+
 returns-2 : tie.Need-returns-2 Inv-loop μ-loop
 returns-2 c = tt
 
@@ -81,9 +70,11 @@ all-spec =
     enum-told
     last-requires
     same-length
+    same-length-2
     returns
     sub-turns
     loop-less
     loop-again
-    same-length-2
+    same-length-3
+    same-length-4
     returns-2)

@@ -1,24 +1,24 @@
 -- `shape::Progress::verdict` meets its contract. Assumes nothing.
-use borrow.Author.Needs.{needs}
+use Rattle.shape.proofs.Scans.{verdict-few, verdict-fine, verdict-short, verdict-stray}
 use mathlib.Core.Path.{sym, _∙_}
-use Rattle.shape.proofs.Scans.{verdict-fine, verdict-short, verdict-stray}
+use borrow.Author.Needs.{needs}
 use Rattle.shape.proofs.Progress.verdict.Statement.{statement}
 use Rattle.shape.proofs.Progress.verdict.Tie as tie
-use Rattle.shape.proofs.Progress.verdict.Reads as reads
-use Rattle.shape.proofs.Progress.verdict.Lts as lts
-use Rattle.shape.proofs.accepts.Reads as accepts-reads
 
 returns : tie.Need-returns
-returns c = sym (verdict-stray _ (c .if1 .taken))
-
-accepts-requires : tie.Need-accepts-requires
-accepts-requires c κs = search needs
+returns c = sym (verdict-few _ _ (c .if1 .taken))
 
 returns-2 : tie.Need-returns-2
-returns-2 c = sym (verdict-fine _ (c .before .before .if1 .left) (sym (c .before .accepts .ensures) ∙ c .if2 .taken))
+returns-2 c = sym (verdict-stray _ _ (c .before .if1 .left) (c .if2 .taken))
+
+ends-requires : tie.Need-ends-requires
+ends-requires c κs = search needs
 
 returns-3 : tie.Need-returns-3
-returns-3 c = sym (verdict-short _ (c .before .before .if1 .left) (sym (c .before .accepts .ensures) ∙ c .if2 .left))
+returns-3 c = sym (verdict-fine _ _ (c .before .before .before .if1 .left) (c .before .before .if2 .left) (sym (c .before .ends .ensures) ∙ c .if3 .taken))
+
+returns-4 : tie.Need-returns-4
+returns-4 c = sym (verdict-short _ _ (c .before .before .before .if1 .left) (c .before .before .if2 .left) (sym (c .before .ends .ensures) ∙ c .if3 .left))
 
 pub verdict-spec : {M : Type 1} → statement M
-verdict-spec = tie.close (tie.spec returns accepts-requires returns-2 returns-3)
+verdict-spec = tie.close (tie.spec returns returns-2 ends-requires returns-3 returns-4)
