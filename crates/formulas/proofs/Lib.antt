@@ -1,2 +1,4 @@
 pub mod Turns
 pub mod Pieces
+pub mod Chains
+pub mod Laws

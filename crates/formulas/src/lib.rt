@@ -4,14 +4,13 @@ ghost use Prim.Native.Nat.{_+_, min};
 ghost use Rattle.puts.specs.Puts.{Put};
 ghost use Rattle.formulas.specs.Records.{recordOf, recordsOf, wordOf, storedUnit};
 ghost use Rattle.formulas.specs.Preferred.{symbolText, plainText, labelledText, preferredUnit, preferredUnits, printedUnits};
-
 use elements::letters_of;
 use numbers::put_number;
-use puts::put8;
 use puts::put_le;
+use puts::put8;
+use terms::UnitRead;
 use terms::rest;
 use terms::unit;
-use terms::UnitRead;
 
 // n bytes further in a part of `all` bytes, as far as it goes.
 fn ahead(at: usize, n: usize, all: usize) -> usize

@@ -10,16 +10,16 @@ use formulas::put_preferred;
 use formulas::put_symbol;
 use libc::STDIN_FILENO;
 use libc::STDOUT_FILENO;
+use numbers::Made;
 use numbers::put_decimal;
 use numbers::put_number;
 use numbers::read_decimal;
 use numbers::read_number;
-use numbers::Made;
-use puts::put8;
 use puts::put_run;
+use puts::put8;
+use terms::Fault;
 use terms::formula;
 use terms::rest;
-use terms::Fault;
 
 fn main() {
     let mut buf = io::large_buffer();
@@ -102,7 +102,10 @@ fn say_symbol(text: &[u8], out: &mut [u8]) -> usize {
 }
 
 fn say_formula(text: &[u8], out: &mut [u8]) -> usize {
-    let none = Fault { number: 0, place: 0 };
+    let none = Fault {
+        number: 0,
+        place: 0,
+    };
     let f = formula(text, text.len(), none);
     let p = put_field(out, 0, f.units as u64);
     let q = put_field(out, p, f.len as u64);
