@@ -1,5 +1,5 @@
 -- A worked line: one of its spellings, which breaks no limit and no rule, the bytes of its table, and the line that the table is
--- written as. The bytes in the rows were worked out apart from these definitions, from document 01 alone. Assumes nothing.
+-- written as. The bytes in the rows are those of an independent implementation of document 01. Assumes nothing.
 use Prim.Native.Nat.{ℕ}
 use Prim.Native.String.{String}
 use mathlib.Core.Path.{_≡_}
