@@ -1,3 +1,4 @@
+pub mod Others
 pub mod Events
 pub mod Turns
 pub mod Sheets

@@ -1,7 +1,8 @@
 // The page of a stored table: six sections, each with a cursor of its own, and the header that says where they begin.
 ghost use mathlib.Core.Path.{_≡_};
 ghost use Rattle.puts.specs.Puts.{Put};
-ghost use Rattle.pages.specs.Headers.{behind, startsOf, pair, Headed};
+ghost use Rattle.pages.specs.Pages.{at, moved};
+ghost use Rattle.pages.specs.Headers.{behind, startsOf, endAt, pair, Headed};
 
 // Where the next byte of each section goes.
 pub struct Cursors {
@@ -21,6 +22,38 @@ pub struct Counts {
     pub items: usize,
     pub units: usize,
     pub text: usize,
+}
+
+// The cursor of section j, in the order of the sections; that of a section that there is not stands behind every output.
+pub fn cursor(c: Cursors, j: usize) -> usize
+    ensures { λ r. ⌜ r ≡ at j c ⌝ }
+{
+    match j {
+        0 => c.annotations,
+        1 => c.losses,
+        2 => c.isotopes,
+        3 => c.items,
+        4 => c.units,
+        5 => c.text,
+        _ => usize::MAX,
+    }
+}
+
+// The cursors, with that of section j set to r.
+pub fn with_cursor(c: Cursors, j: usize, r: usize) -> Cursors
+    ensures { λ k. ⌜ k ≡ moved j r c ⌝ }
+{
+    let mut k = c;
+    match j {
+        0 => k.annotations = r,
+        1 => k.losses = r,
+        2 => k.isotopes = r,
+        3 => k.items = r,
+        4 => k.units = r,
+        5 => k.text = r,
+        _ => {}
+    }
+    k
 }
 
 // The place behind `n` things of a size, or the largest place where that would not fit.
@@ -53,6 +86,14 @@ pub fn starts(n: Counts) -> Cursors
         units: units,
         text: text,
     }
+}
+
+// How many bytes the whole table has.
+pub fn size_of(n: Counts) -> usize
+    ensures { λ r. ⌜ r ≡ endAt n ⌝ }
+{
+    let c = starts(n);
+    past(c.text, n.text, 1)
 }
 
 // Two numbers of two bytes.

@@ -1,0 +1,109 @@
+-- The walks over isotopes. Assumes nothing.
+use Prim.Native.Nat.{ℕ, _+_, _-_, _≤_}
+use mathlib.Core.Path.{_≡_, refl, sym, ap, ap₂, _∙_}
+use mathlib.Core.Bool.{true, false}
+use mathlib.Core.List.{List, [], _++_}
+use native.Mathlib.Omega.{arith}
+use lib.ListN.{length, drop, length-drop}
+use lib.Seq.{drop-drop}
+use Rattle.lang.specs.Walk.{Walked, walked, walk}
+use Rattle.lang.proofs.Walks.{walk-on, walk-ends}
+use Rattle.puts.specs.Puts.{maxPlace, Put}
+use Rattle.puts.proofs.Laws.{put-none, put-then, put-as}
+use Rattle.terms.specs.declared.Fault.{Fault}
+use Rattle.terms.specs.Faults.{fault}
+use Rattle.terms.specs.Formulas.{Counted, counted}
+use Rattle.openings.specs.Heads.{beginsIsotope}
+use Rattle.isotopes.specs.declared.IsotopeRead.{IsotopeRead}
+use Rattle.isotopes.specs.Isotopes.{isotopeOf}
+use Rattle.isotopes.specs.Rows.{isotopeSize, countIsotope, isotopesOf}
+use Rattle.isotopes.specs.Records.{recordOf, Filed, fileIsotope, filedIsotopes, StoresIsotopes}
+use Rattle.isotopes.proofs.Measures.{isotope-len, isotope-moves}
+
+-- the first `at` bytes are n isotopes, and b is known after them where a was known before
+pub record Passed {S : Type 0} (step : S → List ℕ → S) (s : List ℕ) (a : S) (at n : ℕ) (b : S) : Type 0 where
+  pub inside : at ≤ length s
+  pub few : n ≤ at
+  pub is : walk beginsIsotope isotopeSize step s a ≡ walk beginsIsotope isotopeSize step (drop at s) b
+
+pub begin : {S : Type 0} {step : S → List ℕ → S} {s : List ℕ} {a : S} → Passed step s a 0 0 a
+begin = record { inside = omega arith; few = omega arith; is = refl }
+
+module _ {S : Type 0} {step : S → List ℕ → S} {s : List ℕ} {a : S} {at n : ℕ} {b : S} (p : Passed step s a at n b) {r : List ℕ} (pr : r ≡ drop at s) where
+  -- an isotope stands here, and takes up a byte or more of what is left
+  module _ (i end : ℕ) (f : Fault) {q : List ℕ} {x : IsotopeRead} (e : beginsIsotope r ≡ true) (pq : q ≡ drop at s) (px : x ≡ isotopeOf i end q f) where
+    long : x .len ≡ isotopeSize (drop at s)
+    long = ap (λ (x : IsotopeRead). x .len) px ∙ isotope-len i end q f ∙ ap isotopeSize pq
+
+    pub moves : (at + 1 ≤ at + x .len) × (at + x .len ≤ length s)
+    moves =
+        let m = isotope-moves (drop at s) (rw pr at e) in
+        let l = long in
+        let i = p .inside in
+        (omega arith, omega (arith, length-drop at s))
+
+    pub turn : {c : S} → c ≡ step b (drop at s) → Passed step s a (at + x .len) (n + 1) c
+    turn {c} pc =
+        let t = drop at s in
+        let m = moves in
+        let o = p .few in
+        record {
+          inside = m .1;
+          few = omega arith;
+          is = p .is ∙ walk-on beginsIsotope isotopeSize step isotope-moves t b (rw pr at e)
+              ∙ ap₂ (λ (z : List ℕ) (c : S). walk beginsIsotope isotopeSize step z c) (drop-drop (isotopeSize t) at s ∙ ap (λ (l : ℕ). drop (at + l) s) (sym long)) (sym pc);
+        }
+
+  stops : beginsIsotope r ≡ false → walk beginsIsotope isotopeSize step s a ≡ walked (drop at s) b
+  stops e = p .is ∙ walk-ends beginsIsotope isotopeSize step isotope-moves (drop at s) b (rw pr at e)
+
+  behind : length s - length (drop at s) ≡ at
+  behind = let i = p .inside in omega (arith, length-drop at s)
+
+-- ---- measured
+
+module _ (end : ℕ) {s : List ℕ} {f : Fault} {at n : ℕ} {g : Fault} (p : Passed (countIsotope end) s (counted 0 f) at n (counted n g)) {r : List ℕ} (pr : r ≡ drop at s) where
+  pub counts : {q : List ℕ} {x : IsotopeRead} → beginsIsotope r ≡ true → q ≡ drop at s → x ≡ isotopeOf n end q g
+      → Passed (countIsotope end) s (counted 0 f) (at + x .len) (n + 1) (counted (n + 1) (x .fault))
+  unfolding countIsotope
+  counts {q} {x} e pq px = turn p pr n end g e pq px (ap (λ (x : IsotopeRead). counted (n + 1) (x .fault)) (px ∙ ap (λ (q : List ℕ). isotopeOf n end q g) pq))
+
+  pub counted-all : beginsIsotope r ≡ false → record { n = n; len = at; fault = g } ≡ isotopesOf end s f
+  unfolding isotopesOf
+  counted-all e = sym (rw (stops p pr e) (ap (λ (k : ℕ). record { n = n; len = k; fault = g }) (behind p pr)))
+
+-- ---- stored
+
+abbrev pub filed : ℕ → List ℕ → Filed
+filed n b = record { n = n; bytes = b }
+
+-- the records of the first isotopes are put
+pub record Filing (s d : List ℕ) (to at n : ℕ) (e : List ℕ) (next : ℕ) : Type 0 where
+  pub done : List ℕ
+  pub passed : Passed fileIsotope s (filed 0 []) at n (filed n done)
+  pub put : Put d to done e next
+
+pub files-none : {s d : List ℕ} {to : ℕ} → length d ≤ maxPlace → to ≤ maxPlace → Filing s d to 0 0 d to
+files-none h g = record { done = []; passed = begin; put = put-none h g }
+
+module _ {s d : List ℕ} {to at n : ℕ} {e : List ℕ} {next : ℕ} (p : Filing s d to at n e next) {r : List ℕ} (pr : r ≡ drop at s) where
+  pub files : {q : List ℕ} {x : IsotopeRead} {e₂ : List ℕ} {next₂ : ℕ} → beginsIsotope r ≡ true → q ≡ drop at s → x ≡ isotopeOf 0 0 q (fault 0 0) → Put e next (recordOf x) e₂ next₂
+      → Filing s d to (at + x .len) (n + 1) e₂ next₂
+  unfolding fileIsotope
+  files {q} {x} b pq px u =
+      let y = px ∙ ap (λ (q : List ℕ). isotopeOf 0 0 q (fault 0 0)) pq in
+      record {
+        done = p .done ++ recordOf x;
+        passed = turn (p .passed) pr 0 0 (fault 0 0) b pq px (ap (λ (x : IsotopeRead). filed (n + 1) (p .done ++ recordOf x)) y);
+        put = put-then (p .put) u;
+      }
+
+  pub filed-all : beginsIsotope r ≡ false → StoresIsotopes s d to e (record { n = n; len = at; next = next })
+  unfolding filedIsotopes
+  filed-all b =
+      let w = stops (p .passed) pr b in
+      record {
+        n = sym (ap (λ (w : Walked Filed). w .known .n) w);
+        len = sym (ap (λ (w : Walked Filed). length s - length (w .rest)) w ∙ behind (p .passed) pr);
+        put = put-as (p .put) (sym (ap (λ (w : Walked Filed). w .known .bytes) w));
+      }

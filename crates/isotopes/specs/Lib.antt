@@ -1,0 +1,3 @@
+pub mod Isotopes
+pub mod Rows
+pub mod Records

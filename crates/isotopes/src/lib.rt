@@ -1,0 +1,146 @@
+// Isotopes, read from the rest of a line: measured, and stored.
+ghost use mathlib.Core.Path.{_≡_};
+ghost use Rattle.puts.specs.Puts.{Put};
+ghost use Rattle.isotopes.specs.Isotopes.{isotopeFault, isotopeOf};
+ghost use Rattle.isotopes.specs.Rows.{isotopesOf};
+ghost use Rattle.isotopes.specs.Records.{recordOf, StoresIsotopes};
+use elements::read_element;
+use numbers::read_number;
+use openings::Head;
+use openings::ahead;
+use openings::begins_isotope;
+use openings::read_head;
+use puts::put8;
+use puts::put_le;
+use terms::Fault;
+use terms::MAX_COUNT;
+use terms::begins_in;
+use terms::begins_with;
+use terms::less;
+use terms::many;
+use terms::past;
+use terms::rest;
+
+// How many isotopes an annotation may have.
+pub const MAX_ISOTOPES: usize = 4;
+
+// An isotope. Kind 0: plain; 1: average, `A` behind the `i`; 2: specific, with nucleon number and symbol behind the `i`.
+pub struct IsotopeRead {
+    pub sign: u8,
+    pub kind: u8,
+    pub count: u32,
+    pub nucleons: u32,
+    pub element: u16,
+    pub len: usize,
+    pub fault: Fault,
+}
+
+// Isotopes: how many, how many bytes, and the first broken limit.
+pub struct IsotopesRead {
+    pub n: usize,
+    pub len: usize,
+    pub fault: Fault,
+}
+
+// Isotopes that are stored: how many, how many bytes they have in the line, and the place behind their records.
+pub struct IsotopesStored {
+    pub n: usize,
+    pub len: usize,
+    pub next: usize,
+}
+
+// The limits of isotope number i, whose nucleon number stands `at` bytes behind its sign.
+fn isotope_fault(i: usize, h: Head, nucleons: u32, at: usize, end: usize, left: usize, f: Fault) -> Fault
+    ensures { λ r. ⌜ r ≡ isotopeFault i h nucleons at end left f ⌝ }
+{
+    let g = many(f, MAX_ISOTOPES, i, less(end, left));
+    let e = past(g, MAX_COUNT, h.count, less(end, less(left, 1)));
+    past(e, MAX_COUNT, nucleons, less(end, less(left, at)))
+}
+
+// The isotope that a part begins with.
+pub fn isotope(i: usize, s: &[u8], end: usize, f: Fault) -> IsotopeRead
+    ensures { λ r. ⌜ r ≡ isotopeOf i end (now (s .entry)) f ⌝ }
+{
+    let h = read_head(s);
+    let at = ahead(h.len, 1, s.len());
+    let t = rest(s, at);
+    if begins_in(t, b'0', b'9') {
+        let a = read_number(t);
+        let e = read_element(rest(t, a.len));
+        return IsotopeRead {
+            sign: h.sign,
+            kind: 2,
+            count: h.count,
+            nucleons: a.value,
+            element: e.number,
+            len: ahead(ahead(at, a.len, s.len()), e.len, s.len()),
+            fault: isotope_fault(i, h, a.value, at, end, s.len(), f),
+        };
+    }
+    let fault = isotope_fault(i, h, 0, at, end, s.len(), f);
+    if begins_with(t, b'A') {
+        return IsotopeRead {
+            sign: h.sign,
+            kind: 1,
+            count: h.count,
+            nucleons: 0,
+            element: 0,
+            len: ahead(at, 1, s.len()),
+            fault,
+        };
+    }
+    IsotopeRead {
+        sign: h.sign,
+        kind: 0,
+        count: h.count,
+        nucleons: 0,
+        element: 0,
+        len: at,
+        fault,
+    }
+}
+
+// All isotopes that a part begins with.
+pub fn isotopes(s: &[u8], end: usize, f: Fault) -> IsotopesRead
+    ensures { λ r. ⌜ r ≡ isotopesOf end (now (s .entry)) f ⌝ }
+{
+    let mut at: usize = 0;
+    let mut n: usize = 0;
+    let mut fault = f;
+    while begins_isotope(rest(s, at)) {
+        let x = isotope(n, rest(s, at), end, fault);
+        fault = x.fault;
+        at += x.len;
+        n += 1;
+    }
+    IsotopesRead { n, len: at, fault }
+}
+
+// The record of an isotope: sign, kind, n, nucleons, atomic number.
+pub fn put_isotope(out: &mut [u8], to: usize, x: IsotopeRead) -> usize
+    ensures { λ r. ⌜ Put (now (out .entry)) to (recordOf x) (now (out .exit)) r ⌝ }
+{
+    let a = put8(out, to, x.sign);
+    let b = put8(out, a, x.kind);
+    let c = put_le(out, b, x.count as u64, 2);
+    let d = put_le(out, c, x.nucleons as u64, 2);
+    put_le(out, d, x.element as u64, 2)
+}
+
+// The records of all isotopes that a part begins with.
+pub fn store_isotopes(s: &[u8], out: &mut [u8], to: usize) -> IsotopesStored
+    ensures { λ r. ⌜ StoresIsotopes (now (s .entry)) (now (out .entry)) to (now (out .exit)) r ⌝ }
+{
+    let none = Fault { number: 0, place: 0 };
+    let mut at: usize = 0;
+    let mut n: usize = 0;
+    let mut next = to;
+    while begins_isotope(rest(s, at)) {
+        let x = isotope(0, rest(s, at), 0, none);
+        next = put_isotope(out, next, x);
+        at += x.len;
+        n += 1;
+    }
+    IsotopesStored { n, len: at, next }
+}

@@ -1,0 +1,37 @@
+use borrow.Author.Tests.{not-true, not-false}
+use mathlib.Core.Path.{sym, _∙_}
+use Rattle.openings.specs.Heads.{beginsPiece}
+use borrow.Author.Needs.{needs}
+use Rattle.openings.proofs.begins_piece.Statement.{statement}
+use Rattle.openings.proofs.begins_piece.Tie as tie
+
+begins-sign-requires : tie.Need-begins-sign-requires
+begins-sign-requires c κs = search needs
+
+returns : tie.Need-returns
+unfolding beginsPiece
+returns c = rw (sym (c .before .begins-sign .ensures) ∙ not-true _ (c .if1 .taken))
+
+read-head-requires : tie.Need-read-head-requires
+read-head-requires c κs = search needs
+
+rest-requires : tie.Need-rest-requires
+rest-requires c κs = search needs
+
+begins-with-requires : tie.Need-begins-with-requires
+begins-with-requires c κs = search needs
+
+returns-2 : tie.Need-returns-2
+unfolding beginsPiece
+returns-2 c = rw (sym (c .before .before .before .before .begins-sign .ensures) ∙ not-false _ (c .before .before .before .if1 .left), ← c .before .before .read-head .ensures, ← c .before .rest .ensures, c .begins-with .ensures)
+
+pub begins-piece-spec : {M : Type 1} → statement M
+begins-piece-spec =
+    tie.close
+    (tie.spec
+    begins-sign-requires
+    returns
+    read-head-requires
+    rest-requires
+    begins-with-requires
+    returns-2)

@@ -1,0 +1,37 @@
+use borrow.Author.Tests.{not-true, not-false}
+use mathlib.Core.Path.{sym, _∙_}
+use Rattle.openings.specs.Closed.{nameOf}
+use borrow.Author.Needs.{needs}
+use Rattle.openings.proofs.name_in_brackets.Statement.{statement}
+use Rattle.openings.proofs.name_in_brackets.Tie as tie
+
+begins-with-requires : tie.Need-begins-with-requires
+begins-with-requires c κs = search needs
+
+returns : tie.Need-returns
+unfolding nameOf
+returns c = rw (sym (c .before .begins-with .ensures) ∙ not-true _ (c .if1 .taken))
+
+rest-requires : tie.Need-rest-requires
+rest-requires c κs = search needs
+
+name-len-requires : tie.Need-name-len-requires
+name-len-requires c κs = search needs
+
+enclosed-requires : tie.Need-enclosed-requires
+enclosed-requires c κs = search needs
+
+returns-2 : tie.Need-returns-2
+unfolding nameOf
+returns-2 c = rw (sym (c .before .before .before .before .begins-with .ensures) ∙ not-false _ (c .before .before .before .if1 .left), ← c .before .before .rest .ensures, ← c .before .name-len .ensures) (c .enclosed .ensures)
+
+pub name-in-brackets-spec : {M : Type 1} → statement M
+name-in-brackets-spec =
+    tie.close
+    (tie.spec
+    begins-with-requires
+    returns
+    rest-requires
+    name-len-requires
+    enclosed-requires
+    returns-2)

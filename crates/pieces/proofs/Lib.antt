@@ -1,0 +1,3 @@
+pub mod Walks
+pub mod Measures
+pub mod Turns

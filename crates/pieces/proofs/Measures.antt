@@ -1,0 +1,128 @@
+-- How far a loss or adduct item goes, whatever its limits, and that it stores no more than its bytes. Assumes nothing.
+use Prim.Native.Nat.{ℕ, _+_, _-_, _≤_, min}
+use mathlib.Core.Path.{_≡_, refl, sym, ap, _∙_}
+use mathlib.Core.Bool.{Bool, true, false, cond}
+use mathlib.Core.List.{List}
+use native.Mathlib.Omega.{arith}
+use lib.Dec.{eqb}
+use lib.ListN.{length, drop, length-drop}
+use borrow.Author.Tests.{eqb-true}
+use Rattle.lang.specs.Walk.{Walked}
+use Rattle.lang.proofs.Walks.{walk-rest}
+use Rattle.rules.specs.Bytes.{bytes, nameByte}
+use Rattle.rules.specs.Texts.{startsWith}
+use Rattle.texts.specs.Leading.{leadingIn}
+use Rattle.texts.proofs.Laws.{leading-within}
+use Rattle.terms.specs.declared.Fault.{Fault}
+use Rattle.terms.specs.declared.FormulaRead.{FormulaRead}
+use Rattle.terms.specs.Units.{beginsUnit, unitOf}
+use Rattle.terms.specs.Formulas.{Counted, counted, unitSize, countUnit, unitsFrom, formulaOf}
+use Rattle.terms.proofs.Measures.{unit-moves}
+use Rattle.terms.proofs.Formulas.{formula-within}
+use Rattle.openings.specs.declared.Head.{Head}
+use Rattle.openings.specs.declared.Closed.{Closed}
+use Rattle.openings.specs.Heads.{headOf, beginsPiece}
+use Rattle.openings.specs.Closed.{closedOf, nothing, nameOf}
+use Rattle.openings.proofs.Measures.{name-within, piece-some}
+use Rattle.pieces.specs.declared.Piece.{Piece}
+use Rattle.pieces.specs.Pieces.{headFault, pieceWith, formulaPiece, namePiece, whatOf, pieceOf, unitsIn, textIn}
+use Rattle.pieces.proofs.Walks.{rest-same, held-within}
+
+-- ---- formulas and names
+
+pub formula-long : (end last : ℕ) (s : List ℕ) (f g : Fault) → formulaOf end s f .len ≡ formulaOf last s g .len
+unfolding formulaOf
+formula-long end last s f g = ap (λ (r : List ℕ). length s - length r) (rest-same beginsUnit unitSize (countUnit end) (countUnit last) s (counted 0 f) (counted 0 g))
+
+unit-grows : (end : ℕ) (a : Counted) (s : List ℕ) → beginsUnit s ≡ true → (countUnit end a s .units ≤ a .units + unitSize s) × (unitSize s ≤ length s)
+unfolding countUnit
+unit-grows end a s e = let m = unit-moves s e in (omega arith, m .1)
+
+formula-few : (end : ℕ) (s : List ℕ) (f : Fault) → formulaOf end s f .units ≤ formulaOf end s f .len
+unfolding formulaOf
+formula-few end s f =
+    omega (
+      arith,
+      held-within beginsUnit unitSize (countUnit end) (λ (a : Counted). a .units) (unit-grows end) s (counted 0 f),
+      walk-rest beginsUnit unitSize (countUnit end) unit-moves s (counted 0 f),
+    )
+
+name-long : (end last : ℕ) (s : List ℕ) (f g : Fault) → nameOf end s f .len ≡ nameOf last s g .len
+unfolding nameOf closedOf
+name-long end last s f g = by (startsWith (bytes "[") s)
+  where
+    by : (t : Bool) → cond t (closedOf (leadingIn nameByte (drop 1 s)) (length s) end f) (nothing f) .len ≡ cond t (closedOf (leadingIn nameByte (drop 1 s)) (length s) last g) (nothing g) .len
+    by true = refl
+    by false = refl
+
+name-few : (end : ℕ) (s : List ℕ) (f : Fault) → nameOf end s f .size ≤ nameOf end s f .len
+unfolding nameOf closedOf
+name-few end s f = by (startsWith (bytes "[") s)
+  where
+    by : (t : Bool) → cond t (closedOf (leadingIn nameByte (drop 1 s)) (length s) end f) (nothing f) .size ≤ cond t (closedOf (leadingIn nameByte (drop 1 s)) (length s) end f) (nothing f) .len
+    by true = omega (arith, leading-within nameByte (drop 1 s), length-drop 1 s)
+    by false = omega arith
+
+-- ---- losses and adduct items
+
+module _ (end last : ℕ) (s : List ℕ) (h : Head) (f g : Fault) where
+  what-long : whatOf end s h f .len ≡ whatOf last s h g .len
+  unfolding whatOf
+  what-long = by (beginsUnit (drop (h .len) s)) (startsWith (bytes "[") (drop (h .len) s))
+    where
+      by : (u v : Bool) → cond u (formulaPiece s h (formulaOf end (drop (h .len) s) f)) (cond v (namePiece s h (nameOf end (drop (h .len) s) f)) (pieceWith s h 2 0 1 f)) .len
+          ≡ cond u (formulaPiece s h (formulaOf last (drop (h .len) s) g)) (cond v (namePiece s h (nameOf last (drop (h .len) s) g)) (pieceWith s h 2 0 1 g)) .len
+      by true v = ap (λ (n : ℕ). min (h .len + n) (length s)) (formula-long end last (drop (h .len) s) f g)
+      by false true = ap (λ (n : ℕ). min (h .len + n) (length s)) (name-long end last (drop (h .len) s) f g)
+      by false false = refl
+
+-- how long it is does not depend on its limits
+pub piece-long : (bound i end b j last : ℕ) (s : List ℕ) (f g : Fault) → pieceOf bound i end s f .len ≡ pieceOf b j last s g .len
+unfolding pieceOf
+piece-long bound i end b j last s f g = what-long end last s (headOf s) (headFault bound i (headOf s) end (length s) f) (headFault b j (headOf s) last (length s) g)
+
+-- no more units or name bytes than bytes, and no more bytes than there are
+pub record Fits (s : List ℕ) (x : Piece) : Type 0 where
+  pub some : 1 ≤ length s → 1 ≤ x .len
+  pub len : x .len ≤ length s
+  pub size : x .size ≤ x .len
+
+what-fits : (end : ℕ) (s : List ℕ) (h : Head) (f : Fault) → 1 ≤ h .len → Fits s (whatOf end s h f)
+unfolding whatOf
+what-fits end s h f o = by (beginsUnit (drop (h .len) s)) (startsWith (bytes "[") (drop (h .len) s))
+  where
+    by : (u v : Bool) → Fits s (cond u (formulaPiece s h (formulaOf end (drop (h .len) s) f)) (cond v (namePiece s h (nameOf end (drop (h .len) s) f)) (pieceWith s h 2 0 1 f)))
+    by true v =
+        record {
+          some = λ l. omega arith;
+          len = omega arith;
+          size = omega (arith, formula-few end (drop (h .len) s) f, formula-within end (drop (h .len) s) f, length-drop (h .len) s);
+        }
+    by false true =
+        let w = name-within end (drop (h .len) s) f in
+        record { some = λ l. omega arith; len = omega arith; size = omega (arith, name-few end (drop (h .len) s) f, w .len, length-drop (h .len) s) }
+    by false false = record { some = λ l. omega arith; len = omega arith; size = omega arith }
+
+head-some : (s : List ℕ) → 1 ≤ headOf s .len
+unfolding headOf
+head-some s = omega arith
+
+pub piece-fits : (bound i end : ℕ) (s : List ℕ) (f : Fault) → Fits s (pieceOf bound i end s f)
+unfolding pieceOf
+piece-fits bound i end s f = what-fits end s (headOf s) (headFault bound i (headOf s) end (length s) f) (head-some s)
+
+pub piece-moves : (bound i end : ℕ) (f : Fault) (s : List ℕ) → beginsPiece s ≡ true → (1 ≤ pieceOf bound i end s f .len) × (pieceOf bound i end s f .len ≤ length s)
+piece-moves bound i end f s e = let p = piece-fits bound i end s f in (p .some (piece-some s e .0), p .len)
+
+-- units or name bytes: one of the two has none
+pub stored-in : (x : Piece) → unitsIn x + textIn x ≤ x .size
+stored-in x = by (eqb (x .kind) 0) (eqb (x .kind) 1) refl refl
+  where
+    by : (t u : Bool) → eqb (x .kind) 0 ≡ t → eqb (x .kind) 1 ≡ u → cond t (x .size) 0 + cond u (x .size) 0 ≤ x .size
+    by true true p q = let a = eqb-true (x .kind) 0 p in let b = eqb-true (x .kind) 1 q in absurd (omega arith)
+    by true false p q = omega arith
+    by false true p q = omega arith
+    by false false p q = omega arith
+
+pub piece-stored : (bound i end : ℕ) (s : List ℕ) (f : Fault) → unitsIn (pieceOf bound i end s f) + textIn (pieceOf bound i end s f) ≤ pieceOf bound i end s f .len
+piece-stored bound i end s f = let p = piece-fits bound i end s f in omega (arith, stored-in (pieceOf bound i end s f), p .size)

@@ -1,0 +1,57 @@
+use mathlib.Core.Path.{sym, _∙_}
+use Rattle.pieces.specs.Pieces.{whatOf}
+use borrow.Author.Needs.{needs}
+use Rattle.pieces.proofs.what.Statement.{statement}
+use Rattle.pieces.proofs.what.Tie as tie
+
+rest-requires : tie.Need-rest-requires
+rest-requires c κs = search needs
+
+begins-unit-requires : tie.Need-begins-unit-requires
+begins-unit-requires c κs = search needs
+
+formula-requires : tie.Need-formula-requires
+formula-requires c κs = search needs
+
+with-head-requires : tie.Need-with-head-requires
+with-head-requires c κs = search needs
+
+returns : tie.Need-returns
+unfolding whatOf
+returns c = rw (← c .before .before .before .before .before .rest .ensures, sym (c .before .before .before .before .begins-unit .ensures) ∙ c .before .before .before .if1 .taken, ← c .before .before .formula .ensures) (c .with-head .ensures)
+
+begins-with-requires : tie.Need-begins-with-requires
+begins-with-requires c κs = search needs
+
+name-in-brackets-requires : tie.Need-name-in-brackets-requires
+name-in-brackets-requires c κs = search needs
+
+with-head-requires-2 : tie.Need-with-head-requires-2
+with-head-requires-2 c κs = search needs
+
+returns-2 : tie.Need-returns-2
+unfolding whatOf
+returns-2 c = rw (← c .before .before .before .before .before .before .before .rest .ensures, sym (c .before .before .before .before .before .before .begins-unit .ensures) ∙ c .before .before .before .before .before .if1 .left, sym (c .before .before .before .before .begins-with .ensures) ∙ c .before .before .before .if2 .taken, ← c .before .before .name-in-brackets .ensures) (c .with-head2 .ensures)
+
+with-head-requires-3 : tie.Need-with-head-requires-3
+with-head-requires-3 c κs = search needs
+
+returns-3 : tie.Need-returns-3
+unfolding whatOf
+returns-3 c = rw (← c .before .before .before .before .before .rest .ensures, sym (c .before .before .before .before .begins-unit .ensures) ∙ c .before .before .before .if1 .left, sym (c .before .before .begins-with .ensures) ∙ c .before .if2 .left) (c .with-head3 .ensures)
+
+pub what-spec : {M : Type 1} → statement M
+what-spec =
+    tie.close
+    (tie.spec
+    rest-requires
+    begins-unit-requires
+    formula-requires
+    with-head-requires
+    returns
+    begins-with-requires
+    name-in-brackets-requires
+    with-head-requires-2
+    returns-2
+    with-head-requires-3
+    returns-3)
