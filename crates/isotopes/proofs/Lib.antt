@@ -1,3 +1,9 @@
 pub mod Parts
 pub mod Measures
 pub mod Turns
+pub mod Ends
+pub mod Spelled
+pub mod Limits
+pub mod Rows
+pub mod Laws
+pub mod Stores

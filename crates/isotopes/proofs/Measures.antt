@@ -26,24 +26,24 @@ sizeIn s at d a =
     let l = length s in
     cond d (min (min (at + numberOf t .len) l + elementOf (drop (numberOf t .len) t) .len) l) (cond a (min (at + 1) l) at)
 
-abbrev behindI : List ℕ → ℕ
-behindI s = min (headOf s .len + 1) (length s)
+abbrev placeBehind : List ℕ → ℕ
+placeBehind s = min (headOf s .len + 1) (length s)
 
 size-is : (i end : ℕ) (s : List ℕ) (f : Fault)
-    → isotopeOf i end s f .len ≡ sizeIn s (behindI s) (firstIn digit (drop (behindI s) s)) (startsWith (bytes "A") (drop (behindI s) s))
+    → isotopeOf i end s f .len ≡ sizeIn s (placeBehind s) (firstIn digit (drop (placeBehind s) s)) (startsWith (bytes "A") (drop (placeBehind s) s))
 unfolding isotopeOf isotopeIn
-size-is i end s f = by (firstIn digit (drop (behindI s) s)) (startsWith (bytes "A") (drop (behindI s) s))
+size-is i end s f = by (firstIn digit (drop (placeBehind s) s)) (startsWith (bytes "A") (drop (placeBehind s) s))
   where
     by : (d a : Bool)
         → (let h = headOf s in
-        let at = behindI s in
+        let at = placeBehind s in
         let t = drop at s in
         let n = numberOf t in
         let e = elementOf (drop (n .len) t) in
         let l = length s in
         cond d (isotopeWith h 2 (n .value) (e .number) (min (min (at + n .len) l + e .len) l) (isotopeFault i h (n .value) at end l f))
         (cond a (isotopeWith h 1 0 0 (min (at + 1) l) (isotopeFault i h 0 at end l f)) (isotopeWith h 0 0 0 at (isotopeFault i h 0 at end l f)))) .len
-        ≡ sizeIn s (behindI s) d a
+        ≡ sizeIn s (placeBehind s) d a
     by true a = refl
     by false true = refl
     by false false = refl
@@ -64,12 +64,12 @@ size-some s at false false h g = h
 
 pub isotope-within : (s : List ℕ) → isotopeSize s ≤ length s
 isotope-within s =
-    rw (size-is 0 0 s (fault 0 0)) (size-in s (behindI s) (firstIn digit (drop (behindI s) s)) (startsWith (bytes "A") (drop (behindI s) s)) (omega arith))
+    rw (size-is 0 0 s (fault 0 0)) (size-in s (placeBehind s) (firstIn digit (drop (placeBehind s) s)) (startsWith (bytes "A") (drop (placeBehind s) s)) (omega arith))
 
 pub isotope-moves : (s : List ℕ) → beginsIsotope s ≡ true → (1 ≤ isotopeSize s) × (isotopeSize s ≤ length s)
 isotope-moves s e =
     let m = isotope-some s e in
-    (rw (size-is 0 0 s (fault 0 0)) (size-some s (behindI s) (firstIn digit (drop (behindI s) s)) (startsWith (bytes "A") (drop (behindI s) s)) (omega arith) (omega arith)), isotope-within s)
+    (rw (size-is 0 0 s (fault 0 0)) (size-some s (placeBehind s) (firstIn digit (drop (placeBehind s) s)) (startsWith (bytes "A") (drop (placeBehind s) s)) (omega arith) (omega arith)), isotope-within s)
 
 -- ---- all isotopes of a text
 

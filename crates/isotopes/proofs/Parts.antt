@@ -1,5 +1,5 @@
 -- What the code finds of an isotope is what its model says. Assumes nothing.
-use Prim.Native.Nat.{ℕ, _+_, _%_, _≤_, min}
+use Prim.Native.Nat.{ℕ, _+_, _≤_, min}
 use mathlib.Core.Path.{_≡_, sym, ap, ap₂, _∙_}
 use mathlib.Core.Bool.{true, false}
 use mathlib.Core.List.{List, [], _∷_}

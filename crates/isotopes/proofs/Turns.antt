@@ -12,7 +12,7 @@ use Rattle.puts.specs.Puts.{maxPlace, Put}
 use Rattle.puts.proofs.Laws.{put-none, put-then, put-as}
 use Rattle.terms.specs.declared.Fault.{Fault}
 use Rattle.terms.specs.Faults.{fault}
-use Rattle.terms.specs.Formulas.{Counted, counted}
+use Rattle.terms.specs.Formulas.{counted}
 use Rattle.openings.specs.Heads.{beginsIsotope}
 use Rattle.isotopes.specs.declared.IsotopeRead.{IsotopeRead}
 use Rattle.isotopes.specs.Isotopes.{isotopeOf}

@@ -10,8 +10,8 @@ use openings::Head;
 use openings::ahead;
 use openings::begins_isotope;
 use openings::read_head;
-use puts::put8;
 use puts::put_le;
+use puts::put8;
 use terms::Fault;
 use terms::MAX_COUNT;
 use terms::begins_in;
@@ -50,7 +50,15 @@ pub struct IsotopesStored {
 }
 
 // The limits of isotope number i, whose nucleon number stands `at` bytes behind its sign.
-fn isotope_fault(i: usize, h: Head, nucleons: u32, at: usize, end: usize, left: usize, f: Fault) -> Fault
+fn isotope_fault(
+    i: usize,
+    h: Head,
+    nucleons: u32,
+    at: usize,
+    end: usize,
+    left: usize,
+    f: Fault,
+) -> Fault
     ensures { λ r. ⌜ r ≡ isotopeFault i h nucleons at end left f ⌝ }
 {
     let g = many(f, MAX_ISOTOPES, i, less(end, left));
@@ -132,7 +140,10 @@ pub fn put_isotope(out: &mut [u8], to: usize, x: IsotopeRead) -> usize
 pub fn store_isotopes(s: &[u8], out: &mut [u8], to: usize) -> IsotopesStored
     ensures { λ r. ⌜ StoresIsotopes (now (s .entry)) (now (out .entry)) to (now (out .exit)) r ⌝ }
 {
-    let none = Fault { number: 0, place: 0 };
+    let none = Fault {
+        number: 0,
+        place: 0,
+    };
     let mut at: usize = 0;
     let mut n: usize = 0;
     let mut next = to;

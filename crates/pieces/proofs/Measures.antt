@@ -1,26 +1,23 @@
 -- How far a loss or adduct item goes, whatever its limits, and that it stores no more than its bytes. Assumes nothing.
 use Prim.Native.Nat.{ℕ, _+_, _-_, _≤_, min}
-use mathlib.Core.Path.{_≡_, refl, sym, ap, _∙_}
+use mathlib.Core.Path.{_≡_, refl, ap}
 use mathlib.Core.Bool.{Bool, true, false, cond}
 use mathlib.Core.List.{List}
 use native.Mathlib.Omega.{arith}
 use lib.Dec.{eqb}
 use lib.ListN.{length, drop, length-drop}
 use borrow.Author.Tests.{eqb-true}
-use Rattle.lang.specs.Walk.{Walked}
 use Rattle.lang.proofs.Walks.{walk-rest}
 use Rattle.rules.specs.Bytes.{bytes, nameByte}
 use Rattle.rules.specs.Texts.{startsWith}
 use Rattle.texts.specs.Leading.{leadingIn}
 use Rattle.texts.proofs.Laws.{leading-within}
 use Rattle.terms.specs.declared.Fault.{Fault}
-use Rattle.terms.specs.declared.FormulaRead.{FormulaRead}
-use Rattle.terms.specs.Units.{beginsUnit, unitOf}
-use Rattle.terms.specs.Formulas.{Counted, counted, unitSize, countUnit, unitsFrom, formulaOf}
+use Rattle.terms.specs.Units.{beginsUnit}
+use Rattle.terms.specs.Formulas.{Counted, counted, unitSize, countUnit, formulaOf}
 use Rattle.terms.proofs.Measures.{unit-moves}
 use Rattle.terms.proofs.Formulas.{formula-within}
 use Rattle.openings.specs.declared.Head.{Head}
-use Rattle.openings.specs.declared.Closed.{Closed}
 use Rattle.openings.specs.Heads.{headOf, beginsPiece}
 use Rattle.openings.specs.Closed.{closedOf, nothing, nameOf}
 use Rattle.openings.proofs.Measures.{name-within, piece-some}

@@ -11,7 +11,6 @@ use Rattle.terms.specs.declared.Fault.{Fault}
 use Rattle.terms.specs.Faults.{fault}
 use Rattle.openings.specs.Heads.{beginsPiece}
 use Rattle.pieces.specs.declared.Piece.{Piece}
-use Rattle.pieces.specs.declared.Row.{Row}
 use Rattle.pieces.specs.Pieces.{pieceOf, unitsIn, textIn}
 use Rattle.pieces.specs.Rows.{Sums, sums, pieceSize, added, countPiece, piecesFrom, piecesOf}
 use Rattle.pieces.proofs.Measures.{piece-long, piece-moves, piece-stored}

@@ -1,12 +1,12 @@
 -- Two laws of any walk: what is left depends on nothing that is known, and what is known grows no faster than the bytes passed.
 -- Assumes nothing.
 use Prim.Native.Nat.{ℕ, zero, suc, _+_, _≤_}
-use mathlib.Core.Path.{_≡_, refl, ap}
+use mathlib.Core.Path.{_≡_, refl}
 use mathlib.Core.Bool.{Bool, true, false, cond}
 use mathlib.Core.List.{List}
 use native.Mathlib.Omega.{arith}
 use lib.ListN.{length, drop, length-drop}
-use Rattle.lang.specs.Walk.{Walked, walked, walkIn, walk}
+use Rattle.lang.specs.Walk.{walked, walkIn, walk}
 
 module _ {S R : Type 0} (here : List ℕ → Bool) (size : List ℕ → ℕ) (step : S → List ℕ → S) (other : R → List ℕ → R) where
   same-in : (n : ℕ) (s : List ℕ) (a : S) (b : R) → walkIn here size step n s a .rest ≡ walkIn here size other n s b .rest

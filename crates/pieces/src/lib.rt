@@ -20,6 +20,7 @@ use terms::rest;
 
 // How many losses, and how many adduct items, an annotation may have.
 pub const MAX_LOSSES: usize = 8;
+
 pub const MAX_ITEMS: usize = 4;
 
 // A loss or an adduct item. Kind 0: a formula of `size` units; 1: a name of `size` bytes; 2: an electron. The formula, or the bracket

@@ -3,78 +3,52 @@ use Rattle.isotopes.proofs.Parts.{specific-is, average-is, plain-is}
 use borrow.Author.Needs.{needs}
 use Rattle.isotopes.proofs.isotope.Statement.{statement}
 use Rattle.isotopes.proofs.isotope.Tie as tie
-use Rattle.isotopes.proofs.isotope.Reads as reads
-use Rattle.isotopes.proofs.isotope.Lts as lts
-use Rattle.elements.proofs.read_element.Reads as read-element-reads
-use Rattle.isotopes.proofs.isotope_fault.Reads as isotope-fault-reads
-use Rattle.numbers.proofs.read_number.Reads as read-number-reads
-use Rattle.openings.proofs.ahead.Reads as ahead-reads
-use Rattle.openings.proofs.read_head.Reads as read-head-reads
-use Rattle.terms.proofs.begins_in.Reads as begins-in-reads
-use Rattle.terms.proofs.begins_with.Reads as begins-with-reads
-use Rattle.terms.proofs.rest.Reads as rest-reads
 
--- src/lib.rt:65:9
 read-head-requires : tie.Need-read-head-requires
 read-head-requires c κs = search needs
 
--- src/lib.rt:66:9
 ahead-requires : tie.Need-ahead-requires
 ahead-requires c κs = search needs
 
--- src/lib.rt:67:9
 rest-requires : tie.Need-rest-requires
 rest-requires c κs = search needs
 
--- src/lib.rt:68:8
 begins-in-requires : tie.Need-begins-in-requires
 begins-in-requires c κs = search needs
 
--- src/lib.rt:69:13
 read-number-requires : tie.Need-read-number-requires
 read-number-requires c κs = search needs
 
--- src/lib.rt:70:30
 rest-requires-2 : tie.Need-rest-requires-2
 rest-requires-2 c κs = search needs
 
--- src/lib.rt:70:13
 read-element-requires : tie.Need-read-element-requires
 read-element-requires c κs = search needs
 
--- src/lib.rt:77:24
 ahead-requires-2 : tie.Need-ahead-requires-2
 ahead-requires-2 c κs = search needs
 
--- src/lib.rt:77:18
 ahead-requires-3 : tie.Need-ahead-requires-3
 ahead-requires-3 c κs = search needs
 
--- src/lib.rt:78:20
 isotope-fault-requires : tie.Need-isotope-fault-requires
 isotope-fault-requires c κs = search needs
 
--- src/lib.rt:71:9
 returns : tie.Need-returns
 returns c = specific-is (c .before .before .before .before .before .before .before .before .before .before .before .before .args .i) (c .before .before .before .before .before .before .before .before .before .before .before .before .args .end) (c .before .before .before .before .before .before .before .before .before .before .before .before .args .s .now) (c .before .before .before .before .before .before .before .before .before .before .before .before .args .f) (c .before .before .before .before .before .before .before .before .before .before .read-head .ensures) (c .before .before .before .before .before .before .before .before .before .ahead .ensures) (c .before .before .before .before .before .before .before .before .rest .ensures) (sym (c .before .before .before .before .before .before .before .begins-in .ensures) ∙ c .before .before .before .before .before .before .if1 .taken) (c .before .before .before .before .before .read-number .ensures) (c .before .before .before .before .rest2 .ensures) (c .before .before .before .read-element .ensures) (c .before .before .ahead2 .ensures) (c .before .ahead3 .ensures) (c .isotope-fault .ensures)
 
--- src/lib.rt:81:9
 isotope-fault-requires-2 : tie.Need-isotope-fault-requires-2
 isotope-fault-requires-2 c κs = search needs
 
--- src/lib.rt:82:8
 begins-with-requires : tie.Need-begins-with-requires
 begins-with-requires c κs = search needs
 
--- src/lib.rt:89:18
 ahead-requires-4 : tie.Need-ahead-requires-4
 ahead-requires-4 c κs = search needs
 
--- src/lib.rt:83:9
 returns-2 : tie.Need-returns-2
 returns-2 c = average-is (c .before .before .before .before .before .before .before .before .before .before .args .i) (c .before .before .before .before .before .before .before .before .before .before .args .end) (c .before .before .before .before .before .before .before .before .before .before .args .s .now) (c .before .before .before .before .before .before .before .before .before .before .args .f) (c .before .before .before .before .before .before .before .before .read-head .ensures) (c .before .before .before .before .before .before .before .ahead .ensures) (c .before .before .before .before .before .before .rest .ensures) (sym (c .before .before .before .before .before .begins-in .ensures) ∙ c .before .before .before .before .if1 .left) (sym (c .before .before .begins-with .ensures) ∙ c .before .if2 .taken) (c .ahead4 .ensures) (c .before .before .before .isotope-fault2 .ensures)
 
--- src/lib.rt:62:1
 returns-3 : tie.Need-returns-3
 returns-3 c = plain-is (c .before .before .before .before .before .before .before .before .before .args .i) (c .before .before .before .before .before .before .before .before .before .args .end) (c .before .before .before .before .before .before .before .before .before .args .s .now) (c .before .before .before .before .before .before .before .before .before .args .f) (c .before .before .before .before .before .before .before .read-head .ensures) (c .before .before .before .before .before .before .ahead .ensures) (c .before .before .before .before .before .rest .ensures) (sym (c .before .before .before .before .begins-in .ensures) ∙ c .before .before .before .if1 .left) (sym (c .before .begins-with .ensures) ∙ c .if2 .left) (c .before .before .isotope-fault2 .ensures)
 

@@ -2,45 +2,31 @@ use Rattle.isotopes.specs.Isotopes.{isotopeFault}
 use borrow.Author.Needs.{needs}
 use Rattle.isotopes.proofs.isotope_fault.Statement.{statement}
 use Rattle.isotopes.proofs.isotope_fault.Tie as tie
-use Rattle.isotopes.proofs.isotope_fault.Reads as reads
-use Rattle.isotopes.proofs.isotope_fault.Lts as lts
-use Rattle.terms.proofs.less.Reads as less-reads
-use Rattle.terms.proofs.many.Reads as many-reads
-use Rattle.terms.proofs.past.Reads as past-reads
 
--- src/lib.rt:56:38
 less-requires : tie.Need-less-requires
 less-requires c κs = search needs
 
--- src/lib.rt:56:9
 many-requires : tie.Need-many-requires
 many-requires c κs = search needs
 
--- src/lib.rt:57:51
 less-requires-2 : tie.Need-less-requires-2
 less-requires-2 c κs = search needs
 
--- src/lib.rt:57:41
 less-requires-3 : tie.Need-less-requires-3
 less-requires-3 c κs = search needs
 
--- src/lib.rt:57:9
 past-requires : tie.Need-past-requires
 past-requires c κs = search needs
 
--- src/lib.rt:58:44
 less-requires-4 : tie.Need-less-requires-4
 less-requires-4 c κs = search needs
 
--- src/lib.rt:58:34
 less-requires-5 : tie.Need-less-requires-5
 less-requires-5 c κs = search needs
 
--- src/lib.rt:58:5
 past-requires-2 : tie.Need-past-requires-2
 past-requires-2 c κs = search needs
 
--- src/lib.rt:53:1
 returns : tie.Need-returns
 unfolding isotopeFault
 returns c = simp (c .past2 .ensures, c .before .before .before .past .ensures, c .before .before .before .before .before .before .many .ensures, c .before .before .before .before .before .before .before .less .ensures, c .before .before .before .before .before .less2 .ensures, c .before .before .before .before .less3 .ensures, c .before .before .less4 .ensures, c .before .less5 .ensures)

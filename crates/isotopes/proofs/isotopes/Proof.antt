@@ -8,11 +8,6 @@ use native.Mathlib.Omega.{arith}
 use mathlib.Core.Path.{sym, _∙_}
 use Rattle.isotopes.proofs.isotopes.Statement.{statement}
 use Rattle.isotopes.proofs.isotopes.Tie as tie
-use Rattle.isotopes.proofs.isotopes.Reads as reads
-use Rattle.isotopes.proofs.isotopes.Lts as lts
-use Rattle.isotopes.proofs.isotope.Reads as isotope-reads
-use Rattle.openings.proofs.begins_isotope.Reads as begins-isotope-reads
-use Rattle.terms.proofs.rest.Reads as rest-reads
 
 abbrev Inv-loop : tie.InvT-loop
 Inv-loop s end at₀ n₀ fault₀ at n fault = Passed (countIsotope end) s (counted 0 fault₀) at n (counted n fault)
@@ -20,43 +15,33 @@ Inv-loop s end at₀ n₀ fault₀ at n fault = Passed (countIsotope end) s (cou
 abbrev μ-loop : tie.MeasureT-loop
 μ-loop s end at₀ n₀ fault₀ at n fault = length s - at
 
--- src/lib.rt:111:5
 loop-holds : tie.Need-loop-holds Inv-loop μ-loop
 loop-holds c = begin
 
--- src/lib.rt:111:26
 rest-requires : tie.Need-rest-requires Inv-loop μ-loop
 rest-requires c κs = search needs
 
--- src/lib.rt:111:11
 begins-isotope-requires : tie.Need-begins-isotope-requires Inv-loop μ-loop
 begins-isotope-requires c κs = search needs
 
--- src/lib.rt:112:28
 rest-requires-2 : tie.Need-rest-requires-2 Inv-loop μ-loop
 rest-requires-2 c κs = search needs
 
--- src/lib.rt:112:13
 isotope-requires : tie.Need-isotope-requires Inv-loop μ-loop
 isotope-requires c κs = search needs
 
--- src/lib.rt:114:9
 add-at : tie.Need-add-at Inv-loop μ-loop
 add-at c = omega (arith, moves (c .before .before .before .before .before .before .before .loop .inv) (c .before .before .before .before .before .before .rest .ensures) (c .before .before .before .before .before .before .before .loop .n) (c .before .before .before .before .before .before .before .before .before .args .end) (c .before .before .before .before .before .before .before .loop .fault) (sym (c .before .before .before .before .before .begins-isotope .ensures) ∙ c .before .before .before .before .if1 .taken) (c .before .before .before .rest2 .ensures) (c .before .before .isotope .ensures))
 
--- src/lib.rt:115:9
 add-n : tie.Need-add-n Inv-loop μ-loop
 add-n c = omega (arith, c .before .before .before .before .before .before .before .loop .inv .few, moves (c .before .before .before .before .before .before .before .loop .inv) (c .before .before .before .before .before .before .rest .ensures) (c .before .before .before .before .before .before .before .loop .n) (c .before .before .before .before .before .before .before .before .before .args .end) (c .before .before .before .before .before .before .before .loop .fault) (sym (c .before .before .before .before .before .begins-isotope .ensures) ∙ c .before .before .before .before .if1 .taken) (c .before .before .before .rest2 .ensures) (c .before .before .isotope .ensures))
 
--- src/lib.rt:111:5
 loop-less : tie.Need-loop-less Inv-loop μ-loop
 loop-less c = omega (arith, moves (c .before .before .before .before .before .before .before .loop .inv) (c .before .before .before .before .before .before .rest .ensures) (c .before .before .before .before .before .before .before .loop .n) (c .before .before .before .before .before .before .before .before .before .args .end) (c .before .before .before .before .before .before .before .loop .fault) (sym (c .before .before .before .before .before .begins-isotope .ensures) ∙ c .before .before .before .before .if1 .taken) (c .before .before .before .rest2 .ensures) (c .before .before .isotope .ensures))
 
--- src/lib.rt:111:5
 loop-again : tie.Need-loop-again Inv-loop μ-loop
 loop-again c = counts (c .before .before .before .before .before .before .before .before .before .args .end) (c .before .before .before .before .before .before .before .loop .inv) (c .before .before .before .before .before .before .rest .ensures) (sym (c .before .before .before .before .before .begins-isotope .ensures) ∙ c .before .before .before .before .if1 .taken) (c .before .before .before .rest2 .ensures) (c .before .before .isotope .ensures)
 
--- src/lib.rt:105:1
 returns : tie.Need-returns Inv-loop μ-loop
 returns c = counted-all (c .before .before .before .before .before .args .end) (c .before .before .before .loop .inv) (c .before .before .rest .ensures) (sym (c .before .begins-isotope .ensures) ∙ c .if1 .left)
 

@@ -7,48 +7,34 @@ use Rattle.puts.proofs.Laws.{put-then, put-as}
 use Rattle.isotopes.proofs.Parts.{byte-kept}
 use Rattle.isotopes.proofs.put_isotope.Statement.{statement}
 use Rattle.isotopes.proofs.put_isotope.Tie as tie
-use Rattle.isotopes.proofs.put_isotope.Reads as reads
-use Rattle.isotopes.proofs.put_isotope.Lts as lts
-use Rattle.puts.proofs.put8.Reads as put8-reads
-use Rattle.puts.proofs.put_le.Reads as put-le-reads
 
--- src/lib.rt:124:9
 put8-requires : tie.Need-put8-requires
 put8-requires c κs = search needs
 
--- src/lib.rt:125:9
 put8-requires-2 : tie.Need-put8-requires-2
 put8-requires-2 c κs = search needs
 
--- src/lib.rt:126:28
 cast-put-le : tie.Need-cast-put-le
 cast-put-le c = search needs
 
--- src/lib.rt:126:9
 put-le-requires : tie.Need-put-le-requires
 put-le-requires c κs = search needs
 
--- src/lib.rt:127:28
 cast-put-le-2 : tie.Need-cast-put-le-2
 cast-put-le-2 c = search needs
 
--- src/lib.rt:127:9
 put-le-requires-2 : tie.Need-put-le-requires-2
 put-le-requires-2 c κs = search needs
 
--- src/lib.rt:128:20
 cast-put-le-3 : tie.Need-cast-put-le-3
 cast-put-le-3 c = search needs
 
--- src/lib.rt:128:5
 put-le-requires-3 : tie.Need-put-le-requires-3
 put-le-requires-3 c κs = search needs
 
--- src/lib.rt:121:1
 same-length : tie.Need-same-length
 same-length c = search needs
 
--- src/lib.rt:121:1
 returns : tie.Need-returns
 returns c = put-then (put-as (c .before .before .before .before .before .before .before .before .before .before .before .before .before .before .before .before .before .before .before .before .before .put8 .ensures) (byte-kept _ (omega arith))) (put-then (put-as (c .before .before .before .before .before .before .before .before .before .before .before .before .before .before .before .before .before .put82 .ensures) (byte-kept _ (omega arith))) (put-then (c .before .before .before .before .before .before .before .before .before .before .before .before .put-le .ensures) (put-then (c .before .before .before .before .before .before .before .put-le2 .ensures) (put-as (c .before .before .put-le3 .ensures) (sym (append-nil (little 2 (c .before .before .before .before .before .before .before .before .before .before .before .before .before .before .before .before .before .before .before .before .before .before .before .before .args .x .element))))))))
 

@@ -8,12 +8,6 @@ use mathlib.Core.Path.{sym, _∙_}
 use borrow.Author.Needs.{needs}
 use Rattle.isotopes.proofs.store_isotopes.Statement.{statement}
 use Rattle.isotopes.proofs.store_isotopes.Tie as tie
-use Rattle.isotopes.proofs.store_isotopes.Reads as reads
-use Rattle.isotopes.proofs.store_isotopes.Lts as lts
-use Rattle.isotopes.proofs.isotope.Reads as isotope-reads
-use Rattle.isotopes.proofs.put_isotope.Reads as put-isotope-reads
-use Rattle.openings.proofs.begins_isotope.Reads as begins-isotope-reads
-use Rattle.terms.proofs.rest.Reads as rest-reads
 
 abbrev Inv-loop : tie.InvT-loop
 Inv-loop s out₀ to none at₀ n₀ next₀ out at n next = Filing s out₀ to at n out next
@@ -21,51 +15,39 @@ Inv-loop s out₀ to none at₀ n₀ next₀ out at n next = Filing s out₀ to 
 abbrev μ-loop : tie.MeasureT-loop
 μ-loop s out₀ to none at₀ n₀ next₀ out at n next = length s - at
 
--- src/lib.rt:139:5
 loop-holds : tie.Need-loop-holds Inv-loop μ-loop
 loop-holds c = files-none (omega arith) (omega arith)
 
--- src/lib.rt:139:26
 rest-requires : tie.Need-rest-requires Inv-loop μ-loop
 rest-requires c κs = search needs
 
--- src/lib.rt:139:11
 begins-isotope-requires : tie.Need-begins-isotope-requires Inv-loop μ-loop
 begins-isotope-requires c κs = search needs
 
--- src/lib.rt:140:28
 rest-requires-2 : tie.Need-rest-requires-2 Inv-loop μ-loop
 rest-requires-2 c κs = search needs
 
--- src/lib.rt:140:13
 isotope-requires : tie.Need-isotope-requires Inv-loop μ-loop
 isotope-requires c κs = search needs
 
--- src/lib.rt:141:9
 put-isotope-requires : tie.Need-put-isotope-requires Inv-loop μ-loop
 put-isotope-requires c κs = search needs
 
--- src/lib.rt:142:9
 add-at : tie.Need-add-at Inv-loop μ-loop
 add-at c = omega (arith, moves (c .before .before .before .before .before .before .before .before .before .before .loop .inv .passed) (c .before .before .before .before .before .before .before .before .before .rest .ensures) 0 0 (fault 0 0) (sym (c .before .before .before .before .before .before .before .before .begins-isotope .ensures) ∙ c .before .before .before .before .before .before .before .if1 .taken) (c .before .before .before .before .before .before .rest2 .ensures) (c .before .before .before .before .before .isotope .ensures))
 
--- src/lib.rt:143:9
 add-n : tie.Need-add-n Inv-loop μ-loop
 add-n c = omega (arith, c .before .before .before .before .before .before .before .before .before .before .loop .inv .passed .few, moves (c .before .before .before .before .before .before .before .before .before .before .loop .inv .passed) (c .before .before .before .before .before .before .before .before .before .rest .ensures) 0 0 (fault 0 0) (sym (c .before .before .before .before .before .before .before .before .begins-isotope .ensures) ∙ c .before .before .before .before .before .before .before .if1 .taken) (c .before .before .before .before .before .before .rest2 .ensures) (c .before .before .before .before .before .isotope .ensures))
 
--- src/lib.rt:139:5
 loop-less : tie.Need-loop-less Inv-loop μ-loop
 loop-less c = omega (arith, moves (c .before .before .before .before .before .before .before .before .before .before .loop .inv .passed) (c .before .before .before .before .before .before .before .before .before .rest .ensures) 0 0 (fault 0 0) (sym (c .before .before .before .before .before .before .before .before .begins-isotope .ensures) ∙ c .before .before .before .before .before .before .before .if1 .taken) (c .before .before .before .before .before .before .rest2 .ensures) (c .before .before .before .before .before .isotope .ensures))
 
--- src/lib.rt:139:5
 loop-again : tie.Need-loop-again Inv-loop μ-loop
 loop-again c = files (c .before .before .before .before .before .before .before .before .before .before .loop .inv) (c .before .before .before .before .before .before .before .before .before .rest .ensures) (sym (c .before .before .before .before .before .before .before .before .begins-isotope .ensures) ∙ c .before .before .before .before .before .before .before .if1 .taken) (c .before .before .before .before .before .before .rest2 .ensures) (c .before .before .before .before .before .isotope .ensures) (c .before .before .before .put-isotope .ensures)
 
--- src/lib.rt:132:1
 same-length : tie.Need-same-length Inv-loop μ-loop
 same-length c = put-length (c .before .before .before .loop .inv .put)
 
--- src/lib.rt:132:1
 returns : tie.Need-returns Inv-loop μ-loop
 returns c = filed-all (c .before .before .before .loop .inv) (c .before .before .rest .ensures) (sym (c .before .begins-isotope .ensures) ∙ c .if1 .left)
 

@@ -1,0 +1,12 @@
+pub mod Parts
+pub mod Ends
+pub mod Chains
+pub mod Tails
+pub mod Adducts
+pub mod Middles
+pub mod Follows
+pub mod Begins
+pub mod Prefixes
+pub mod Fronts
+pub mod Rules
+pub mod Sizes

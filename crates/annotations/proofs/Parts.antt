@@ -1,0 +1,90 @@
+-- What a part begins with, and the groups of parts, from what the readers of each tell. Assumes nothing.
+use Prim.Native.Nat.{ℕ, _-_, min, _+_}
+use mathlib.Core.Path.{_≡_, refl, sym, _∙_}
+use mathlib.Core.Bool.{Bool, true, false, _&&_}
+use mathlib.Core.List.{List, [], _∷_}
+use lib.Dec.{eqb}
+use lib.ListN.{length, drop}
+use Rattle.lang.proofs.Tests.{not-t}
+use Rattle.rules.specs.Bytes.{bytes}
+use Rattle.rules.specs.Texts.{startsWith}
+use Rattle.rules.specs.Limits.{maxLosses, maxAnnotations, manyMark}
+use Rattle.puts.specs.Puts.{maxPlace}
+use Rattle.terms.specs.declared.Fault.{Fault}
+use Rattle.terms.specs.Faults.{join}
+use Rattle.ions.specs.declared.IonRead.{IonRead}
+use Rattle.ions.specs.Ions.{ionOf}
+use Rattle.pieces.specs.declared.Row.{Row}
+use Rattle.pieces.specs.Rows.{piecesOf}
+use Rattle.isotopes.specs.declared.IsotopesRead.{IsotopesRead}
+use Rattle.isotopes.specs.Rows.{isotopesOf}
+use Rattle.tails.specs.declared.ChargeRead.{ChargeRead}
+use Rattle.tails.specs.declared.DecimalPart.{DecimalPart}
+use Rattle.tails.specs.Charges.{chargeOf}
+use Rattle.tails.specs.Decimals.{deviationOf, confidenceOf}
+use Rattle.annotations.specs.declared.PrefixRead.{PrefixRead}
+use Rattle.annotations.specs.declared.Front.{Front}
+use Rattle.annotations.specs.declared.Middle.{Middle}
+use Rattle.annotations.specs.declared.Tail.{Tail}
+use Rattle.annotations.specs.Parts.{prefixOf, adductOf}
+use Rattle.annotations.specs.Groups.{frontOf, middleOf, tailOf}
+use Rattle.annotations.specs.House.{rulesOf, shareOf}
+use Rattle.annotations.specs.Measured.{measureOf}
+
+-- ---- `[M`
+
+pub adduct-apart : (s : List ℕ) → startsWith (bytes "[") s ≡ false → false ≡ startsWith (bytes "[M") s
+adduct-apart [] e = refl
+adduct-apart (b ∷ s) e = by (eqb 91 b) e
+  where
+    by : (x : Bool) → x && true ≡ false → false ≡ (x && startsWith (bytes "M") s)
+    by true e = absurd (not-t {x = true} e tt)
+    by false e = refl
+
+pub adduct-behind : (s : List ℕ) → startsWith (bytes "[") s ≡ true → startsWith (bytes "M") (drop 1 s) ≡ startsWith (bytes "[M") s
+adduct-behind [] e = absurd (not-t {x = true} (sym e) tt)
+adduct-behind (b ∷ s) e = by (eqb 91 b) e
+  where
+    by : (x : Bool) → x && true ≡ true → startsWith (bytes "M") s ≡ (x && startsWith (bytes "M") s)
+    by true e = refl
+    by false e = absurd (not-t {x = true} (sym e) tt)
+
+-- ---- groups
+
+module _ (end : ℕ) (s : List ℕ) (f : Fault) {t v : List ℕ} {q : ℕ} where
+  pub front-is : {p : PrefixRead} {x : IonRead} → p ≡ prefixOf end s f → t ≡ drop (p .len) s → x ≡ ionOf end t (p .fault) → v ≡ drop (x .len) t → q ≡ length s - length v
+      → record { marked = p .marked; present = p .present; analyte = p .analyte; at = p .len; ion = x; len = q } ≡ frontOf end s f
+  unfolding frontOf
+  front-is pp pt px pv pq = rw (← pp, ← pt, ← px, ← pv, ← pq)
+
+module _ (end : ℕ) (s : List ℕ) (f : Fault) {t u v : List ℕ} {q : ℕ} where
+  pub middle-is : {l a : Row} {y : IsotopesRead} {n : ℕ} → l ≡ piecesOf maxLosses end s f → t ≡ drop (l .len) s → y ≡ isotopesOf end t (l .fault) → u ≡ drop (y .len) t
+      → a ≡ adductOf end u (y .fault) → n ≡ min (l .units + a .units) maxPlace → v ≡ drop (a .len) u → q ≡ length s - length v
+      → record { losses = l .n; isotopes = y .n; items = a .n; units = n; text = l .text; len = q; fault = a .fault } ≡ middleOf end s f
+  unfolding middleOf
+  middle-is pl pt py pu pa pn pv pq = rw (← pl, ← pt, ← py, ← pu, ← pa, ← pn, ← pv, ← pq)
+
+  pub tail-is : {c : ChargeRead} {d e : DecimalPart} → c ≡ chargeOf end s f → t ≡ drop (c .len) s → d ≡ deviationOf end t (c .fault) → u ≡ drop (d .len) t
+      → e ≡ confidenceOf end u (d .fault) → v ≡ drop (e .len) u → q ≡ length s - length v
+      → record { charge = c .value; deviation = d; confidence = e; len = q } ≡ tailOf end s f
+  unfolding tailOf
+  tail-is pc pt pd pu pe pv pq = rw (← pc, ← pt, ← pd, ← pu, ← pe, ← pv, ← pq)
+
+  pub measure-is : (i : ℕ) {place : ℕ} {g : Fault} {a : Front} {m : Middle} {b : Tail} {n w share : ℕ} {kept : Bool} → place ≡ end - length s → g ≡ join f (manyMark maxAnnotations i place)
+      → a ≡ frontOf end s g → t ≡ drop (a .len) s → m ≡ middleOf end t (a .ion .fault) → u ≡ drop (m .len) t → b ≡ tailOf end u (m .fault)
+      → share ≡ shareOf (b .confidence) → n ≡ min (a .ion .units + m .units) maxPlace → w ≡ min (a .ion .text + m .text) maxPlace
+      → kept ≡ rulesOf (a .ion) (m .items) (b .deviation) share → v ≡ drop (b .len) u → q ≡ length s - length v
+      → record {
+        losses = m .losses;
+        isotopes = m .isotopes;
+        items = m .items;
+        units = n;
+        text = w;
+        share = share;
+        kept = kept;
+        len = q;
+        fault = b .confidence .fault;
+      }
+      ≡ measureOf i end s f
+  unfolding measureOf
+  measure-is i pp pg pa pt pm pu pb ps pn pw pk pv pq = rw (← pp, ← pg, ← pa, ← pt, ← pm, ← pu, ← pb, ← ps, ← pn, ← pw, ← pk, ← pv, ← pq)

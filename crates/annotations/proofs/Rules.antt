@@ -1,0 +1,47 @@
+-- The rules for one annotation, of what is read of spelled parts within their limits. Assumes nothing.
+use Prim.Native.Nat.{ℕ, _-_, min}
+use mathlib.Core.Path.{_≡_, refl, sym, ap, ap₂, _∙_}
+use mathlib.Core.Bool.{Bool, true, false, cond, not, _&&_, _||_}
+use mathlib.Core.List.{List, [], _∷_}
+use native.Mathlib.Omega.{arith}
+use lib.Dec.{T, leb}
+use borrow.Author.Tests.{leb-true, leb-false, le-leb, lt-leb}
+use Rattle.lang.specs.Parts.{Opt, silent, written}
+use Rattle.lang.specs.Mark.{Kept, here, later}
+use Rattle.rules.specs.Bytes.{bytes}
+use Rattle.rules.specs.Decimals.{Decimal}
+use Rattle.rules.specs.Annotations.{Deviation, flagText}
+use Rattle.rules.specs.House.{deviationRule, billionths, confidenceOf, one}
+use Rattle.rules.specs.Limits.{fits, bare, decimalMark, decimalPart, optPart, deviationPart, confidencePart}
+use Rattle.rules.proofs.Keeps.{kept-part}
+use Rattle.numbers.specs.Shares.{largest, billionthsOf}
+use Rattle.terms.specs.declared.Fault.{Fault}
+use Rattle.tails.proofs.Laws.{deviationRead, confidenceRead}
+use Rattle.annotations.specs.House.{deviationRuleOf, shareOf}
+
+fits-kept : (d : Decimal) (at : ℕ) → Kept (decimalMark d at) → fits d ≡ true
+fits-kept d at k = by (fits d) (λ t. k _ here t)
+  where
+    by : (b : Bool) → (T (not b) → ⊥) → b ≡ true
+    by true h = refl
+    by false h = absurd (h tt)
+
+pub deviation-rule : (d : Opt Deviation) (at : ℕ) (g : Fault) → Kept (optPart deviationPart d .marks at) → deviationRuleOf (deviationRead d g) ≡ deviationRule d
+unfolding deviationRuleOf
+deviation-rule silent at g k = refl
+deviation-rule (written d) at g k =
+    let p = kept-part at (bare (bytes "/") ∷ bare (flagText (bytes "-") (d .minus)) ∷ decimalPart (d .size) ∷ []) k (decimalPart (d .size)) (later (later here)) in
+    ap (λ (t : Bool). not (d .minus) || leb 1 (cond t (d .size .value) 0)) (fits-kept (d .size) (p .0) (p .1))
+
+pub share-told : (c : Opt Decimal) (at : ℕ) (g : Fault) → Kept (optPart confidencePart c .marks at) → shareOf (confidenceRead c g) ≡ min (confidenceOf c) largest
+unfolding shareOf billionthsOf
+share-told silent at g k = omega arith
+share-told (written d) at g k = ap (λ (t : Bool). billionthsOf (record { value = cond t (d .value) 0; places = cond t (d .places) 0 })) (fits-kept d _ k)
+
+-- as much as a u64 holds is past 1 where the confidence is
+pub share-test : (n : ℕ) → leb (min n largest) one ≡ leb n one
+share-test n = by (leb n one) refl
+  where
+    by : (t : Bool) → leb n one ≡ t → leb (min n largest) one ≡ t
+    by true e = let l = leb-true n one e in le-leb (min n largest) one (omega arith)
+    by false e = let l = leb-false n one e in lt-leb (min n largest) one (omega arith)

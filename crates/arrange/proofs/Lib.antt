@@ -1,0 +1,9 @@
+pub mod Steps
+pub mod Grown
+pub mod Gathers
+pub mod Told
+pub mod Fed
+pub mod Sections
+pub mod Rows
+pub mod Laws
+pub mod Fits

@@ -1,0 +1,71 @@
+-- Losses, or adduct items, gathered in preferred order from the bytes that begin with them. Assumes nothing.
+use Prim.Native.Nat.{ℕ, _+_, _-_, min}
+use mathlib.Core.Path.{_≡_}
+use mathlib.Core.Bool.{cond}
+use mathlib.Core.List.{List, []}
+use lib.Dec.{ltb}
+use lib.ListN.{length, drop}
+use lib.Seq.{sets}
+use Rattle.lang.specs.Walk.{Walked, walk}
+use Rattle.lang.proofs.Sort.{insert}
+use Rattle.puts.specs.Puts.{maxPlace}
+use Rattle.terms.specs.Faults.{fault}
+use Rattle.openings.specs.Heads.{beginsPiece}
+use Rattle.pieces.specs.declared.Piece.{Piece}
+use Rattle.pieces.specs.Pieces.{pieceOf}
+use Rattle.pieces.specs.Rows.{pieceSize}
+use Rattle.order.specs.declared.Slot.{Slot}
+use Rattle.order.specs.Slots.{slotLe, slotsOf}
+use Rattle.arrange.specs.declared.Gathered.{Gathered}
+use Rattle.arrange.specs.Keys.{keyText}
+
+-- the slots in order, the buffer of keys, how many bytes of it are used, how many bytes of `all` were read
+pub record Got : Type 0 where
+  pub slots : List Slot
+  pub keys : List ℕ
+  pub used : ℕ
+  pub at : ℕ
+
+-- a slot is inserted where there is room
+abbrev pub kept : List ℕ → Slot → List Slot → List Slot
+kept keys y l = cond (ltb (length l) 8) (insert (slotLe keys) y l) l
+
+abbrev pub slotOf : ℕ → Got → Piece → ℕ → Slot
+slotOf all a x next =
+    record { sign = x .sign; kind = x .kind; count = x .count; size = x .size; start = min (a .at + x .start) all; key = a .used; len = next - a .used }
+
+abbrev pub gotWith : ℕ → Got → Piece → List ℕ → Got
+gotWith all a x t =
+    let next = min (a .used + length t) maxPlace in
+    let keys = sets (a .keys) (a .used) t in
+    record { slots = kept keys (slotOf all a x next) (a .slots); keys = keys; used = next; at = min (a .at + x .len) all }
+
+-- the first of the bytes s; its limits are not asked for
+abbrev pub pieceHere : List ℕ → Piece
+pieceHere s = pieceOf 0 0 (length s) s (fault 0 0)
+
+-- one more, where the bytes s begin with it
+unfoldable pub gatherOne : ℕ → Got → List ℕ → Got
+gatherOne all a s = gotWith all a (pieceHere s) (keyText s (pieceHere s))
+
+abbrev pub gotNone : List ℕ → Got
+gotNone keys = record { slots = []; keys = keys; used = 0; at = 0 }
+
+-- all that the bytes s begin with
+unfoldable pub gathered : List ℕ → List ℕ → Got
+gathered keys s = walk beginsPiece pieceSize (gatherOne (length s)) s (gotNone keys) .known
+
+-- the code's answer and its buffer are what was got
+pub record Is (a : Got) (keys : List ℕ) (g : Gathered) : Type 0 where
+  pub slots : slotsOf (g .slots) ≡ a .slots
+  pub n : g .slots .n ≡ length (a .slots)
+  pub buffer : keys ≡ a .keys
+  pub used : g .used ≡ a .used
+  pub at : g .at ≡ a .at
+
+-- one more than there was
+pub record Grows (g : Gathered) (s keys keys′ : List ℕ) (r : Gathered) : Type 0 where
+  pub is : (a : Got) → Is a keys g → Is (gatherOne (length s) a (drop (g .at) s)) keys′ r
+
+abbrev pub Gathers : List ℕ → List ℕ → List ℕ → Gathered → Type 0
+Gathers s keys keys′ g = Is (gathered keys s) keys′ g

@@ -1,0 +1,174 @@
+// Losses, or adduct items, stored in preferred order: read from the rest of a line into slots, and from the slots to the page.
+ghost use mathlib.Core.Path.{_≡_};
+ghost use Prim.Native.Nat.{_+_, min};
+ghost use lib.ListN.{take, drop};
+ghost use Rattle.puts.specs.Puts.{Put};
+ghost use Rattle.pages.specs.Pages.{Ran};
+ghost use Rattle.arrange.specs.Keys.{keyText};
+ghost use Rattle.arrange.specs.Gathered.{Grows, Gathers};
+ghost use Rattle.arrange.specs.Events.{slotRecord, slotEvents, slotsEvents, StoresPieces};
+use formulas::put_preferred;
+use formulas::put_records;
+use openings::begins_piece;
+use order::Slot;
+use order::Slots;
+use order::none;
+use order::with;
+use pages::Cursors;
+use pages::cursor;
+use pages::with_cursor;
+use pieces::Piece;
+use pieces::read_piece;
+use puts::put_le;
+use puts::put_run;
+use terms::Fault;
+use terms::rest;
+
+// Eight names of 255 bytes in their brackets: no keys of one annotation have more bytes.
+pub const KEYS: usize = 2056;
+
+// The slots of what was read, in preferred order; how many bytes of keys are used, and how many bytes of the line were read.
+pub struct Gathered {
+    pub slots: Slots,
+    pub used: usize,
+    pub at: usize,
+}
+
+// What was stored: how many, how many bytes of the line, and the cursors behind it.
+pub struct Arranged {
+    pub n: usize,
+    pub len: usize,
+    pub cursors: Cursors,
+}
+
+// The n bytes of a part that begin at a place, as far as they are there.
+fn part<'a>(s: &'a [u8], at: usize, n: usize) -> &'a [u8]
+    ensures { λ r. ⌜ now r ≡ take n (drop at (now (s .entry))) ⌝ }
+{
+    let t = rest(s, at);
+    if n < t.len() {
+        return &t[..n];
+    }
+    t
+}
+
+// The text of a loss or an adduct item by which it is put in order: preferred units, a name in its brackets, or `e`.
+fn put_key(keys: &mut [u8], to: usize, s: &[u8], x: Piece) -> usize
+    ensures { λ r. ⌜ Put (now (keys .entry)) to (keyText (now (s .entry)) x) (now (keys .exit)) r ⌝ }
+{
+    if x.kind == 0 {
+        return put_preferred(keys, to, rest(s, x.start), x.size);
+    }
+    put_run(keys, to, part(s, x.start, terms::less(x.len, x.start)))
+}
+
+// One more.
+fn grow(g: Gathered, s: &[u8], keys: &mut [u8]) -> Gathered
+    ensures { λ r. ⌜ Grows g (now (s .entry)) (now (keys .entry)) (now (keys .exit)) r ⌝ }
+{
+    let none = Fault { number: 0, place: 0 };
+    let t = rest(s, g.at);
+    let x = read_piece(0, 0, t, t.len(), none);
+    let next = put_key(keys, g.used, t, x);
+    let y = Slot {
+        sign: x.sign,
+        kind: x.kind,
+        count: x.count,
+        size: x.size,
+        start: openings::ahead(g.at, x.start, s.len()),
+        key: g.used,
+        len: terms::less(next, g.used),
+    };
+    let old = g.slots;
+    let slots = with(old, keys, y);
+    Gathered {
+        slots,
+        used: next,
+        at: openings::ahead(g.at, x.len, s.len()),
+    }
+}
+
+// All losses, or adduct items, that a part begins with.
+fn gather(s: &[u8], keys: &mut [u8]) -> Gathered
+    ensures { λ r. ⌜ Gathers (now (s .entry)) (now (keys .entry)) (now (keys .exit)) r ⌝ }
+{
+    let empty = none();
+    let mut g = Gathered {
+        slots: empty,
+        used: 0,
+        at: 0,
+    };
+    while begins_piece(rest(s, g.at)) {
+        let more = grow(g, s, keys);
+        g = more;
+    }
+    g
+}
+
+// The record of a loss or an adduct item: sign, kind, count, units or name bytes.
+fn put_slot_record(out: &mut [u8], to: usize, x: Slot) -> usize
+    ensures { λ r. ⌜ Put (now (out .entry)) to (slotRecord x) (now (out .exit)) r ⌝ }
+{
+    let a = put_le(out, to, x.sign as u64, 1);
+    let b = put_le(out, a, x.kind as u64, 1);
+    let c = put_le(out, b, x.count as u64, 2);
+    put_le(out, c, x.size as u64, 2)
+}
+
+// A loss or an adduct item: its record in section j, and its units or its name.
+fn put_slot(out: &mut [u8], c: Cursors, j: usize, s: &[u8], x: Slot) -> Cursors
+    ensures { λ r. ⌜ Ran (now (out .entry)) c (slotEvents j (now (s .entry)) x) (now (out .exit)) r ⌝ }
+{
+    let a = put_slot_record(out, cursor(c, j), x);
+    let d = with_cursor(c, j, a);
+    if x.kind == 0 {
+        let b = put_records(out, cursor(d, 4), rest(s, x.start), x.size);
+        return with_cursor(d, 4, b);
+    }
+    if x.kind == 1 {
+        let b = put_run(out, cursor(d, 5), part(rest(s, x.start), 1, x.size));
+        return with_cursor(d, 5, b);
+    }
+    d
+}
+
+// All slots.
+fn put_slots(out: &mut [u8], c: Cursors, j: usize, s: &[u8], slots: Slots) -> Cursors
+    ensures { λ r. ⌜ Ran (now (out .entry)) c (slotsEvents j (now (s .entry)) slots) (now (out .exit)) r ⌝ }
+{
+    let at = slots.at;
+    let mut to = c;
+    let mut i: usize = 0;
+    while i < slots.n {
+        if 8 <= i {
+            return to;
+        }
+        let x = at[i];
+        let next = put_slot(out, to, j, s, x);
+        to = next;
+        i += 1;
+    }
+    to
+}
+
+// All losses (section 1), or adduct items (section 3), that a part begins with, in preferred order.
+pub fn store_pieces(out: &mut [u8], c: Cursors, j: usize, s: &[u8]) -> Arranged
+    ensures { λ r. ⌜ StoresPieces (now (s .entry)) j (now (out .entry)) c (now (out .exit)) r ⌝ }
+{
+    if !begins_piece(s) {
+        return Arranged {
+            n: 0,
+            len: 0,
+            cursors: c,
+        };
+    }
+    let mut keys = [0u8; KEYS];
+    let g = gather(s, &mut keys);
+    let slots = g.slots;
+    let cursors = put_slots(out, c, j, s, slots);
+    Arranged {
+        n: slots.n,
+        len: g.at,
+        cursors,
+    }
+}

@@ -1,0 +1,55 @@
+use Rattle.ions.proofs.Found.{no-bracket, no-m, m-plus, m-other}
+use mathlib.Core.Path.{sym, _∙_}
+use borrow.Author.Tests.{not-true, not-false}
+use borrow.Author.Needs.{needs}
+use Rattle.ions.proofs.opens_modification.Statement.{statement}
+use Rattle.ions.proofs.opens_modification.Tie as tie
+
+begins-with-requires : tie.Need-begins-with-requires
+begins-with-requires c κs = search needs
+
+returns : tie.Need-returns
+returns c = no-bracket (c .before .before .before .args .s .now) (sym (c .before .begins-with .ensures) ∙ not-true _ (c .if1 .taken))
+
+rest-requires : tie.Need-rest-requires
+rest-requires c κs = search needs
+
+begins-with-requires-2 : tie.Need-begins-with-requires-2
+begins-with-requires-2 c κs = search needs
+
+returns-2 : tie.Need-returns-2
+returns-2 c = no-m (c .before .before .before .before .before .before .args .s .now) (sym (c .before .before .before .before .begins-with .ensures) ∙ not-false _ (c .before .before .before .if1 .left)) (c .before .before .rest .ensures) (sym (c .before .begins-with2 .ensures) ∙ not-true _ (c .if2 .taken))
+
+rest-requires-2 : tie.Need-rest-requires-2
+rest-requires-2 c κs = search needs
+
+begins-with-requires-3 : tie.Need-begins-with-requires-3
+begins-with-requires-3 c κs = search needs
+
+returns-3 : tie.Need-returns-3
+returns-3 c = m-plus (c .before .before .before .before .before .before .before .before .before .args .s .now) (sym (c .before .before .before .before .before .before .before .begins-with .ensures) ∙ not-false _ (c .before .before .before .before .before .before .if1 .left)) (c .before .before .before .before .before .rest .ensures) (sym (c .before .before .before .before .begins-with2 .ensures) ∙ not-false _ (c .before .before .before .if2 .left)) (c .before .before .rest2 .ensures) (sym (c .before .begins-with3 .ensures) ∙ c .if3 .taken)
+
+rest-requires-3 : tie.Need-rest-requires-3
+rest-requires-3 c κs = search needs
+
+begins-with-requires-4 : tie.Need-begins-with-requires-4
+begins-with-requires-4 c κs = search needs
+
+returns-4 : tie.Need-returns-4
+returns-4 c = m-other (c .before .before .before .before .before .before .before .before .before .before .before .args .s .now) (sym (c .before .before .before .before .before .before .before .before .before .begins-with .ensures) ∙ not-false _ (c .before .before .before .before .before .before .before .before .if1 .left)) (c .before .before .before .before .before .before .before .rest .ensures) (sym (c .before .before .before .before .before .before .begins-with2 .ensures) ∙ not-false _ (c .before .before .before .before .before .if2 .left)) (c .before .before .before .before .rest2 .ensures) (sym (c .before .before .before .begins-with3 .ensures) ∙ c .before .before .if3 .left) (c .before .rest3 .ensures) (c .begins-with4 .ensures)
+
+pub opens-modification-spec : {M : Type 1} → statement M
+opens-modification-spec =
+    tie.close
+    (tie.spec
+    begins-with-requires
+    returns
+    rest-requires
+    begins-with-requires-2
+    returns-2
+    rest-requires-2
+    begins-with-requires-3
+    returns-3
+    rest-requires-3
+    begins-with-requires-4
+    returns-4)

@@ -1,0 +1,37 @@
+use Rattle.ions.proofs.Found.{letters-two, letters-one, letters-none}
+use borrow.Author.Needs.{needs}
+use Rattle.ions.proofs.series_name.Statement.{statement}
+use Rattle.ions.proofs.series_name.Tie as tie
+
+byte-at-requires : tie.Need-byte-at-requires
+byte-at-requires c κs = search needs
+
+byte-at-requires-2 : tie.Need-byte-at-requires-2
+byte-at-requires-2 c κs = search needs
+
+two-letters-requires : tie.Need-two-letters-requires
+two-letters-requires c κs = search needs
+
+returns : tie.Need-returns
+returns c = letters-two (c .before .before .before .before .before .args .s .now) (c .before .before .before .byte-at .ensures) (c .before .before .byte-at2 .ensures) (c .before .two-letters .ensures) (c .if1 .taken)
+
+one-letter-requires : tie.Need-one-letter-requires
+one-letter-requires c κs = search needs
+
+returns-2 : tie.Need-returns-2
+returns-2 c = letters-one (c .before .before .before .before .before .before .before .args .s .now) (c .before .before .before .before .before .byte-at .ensures) (c .before .before .before .before .byte-at2 .ensures) (c .before .before .before .two-letters .ensures) (c .before .before .if1 .left) (c .before .one-letter .ensures) (c .if2 .taken)
+
+returns-3 : tie.Need-returns-3
+returns-3 c = letters-none (c .before .before .before .before .before .before .before .args .s .now) (c .before .before .before .before .before .byte-at .ensures) (c .before .before .before .before .byte-at2 .ensures) (c .before .before .before .two-letters .ensures) (c .before .before .if1 .left) (c .before .one-letter .ensures) (c .if2 .left)
+
+pub series-name-spec : {M : Type 1} → statement M
+series-name-spec =
+    tie.close
+    (tie.spec
+    byte-at-requires
+    byte-at-requires-2
+    two-letters-requires
+    returns
+    one-letter-requires
+    returns-2
+    returns-3)
