@@ -1,15 +1,13 @@
 -- What is read of an adduct that is spelled. Assumes nothing.
 use Prim.Native.Nat.{ℕ, _+_, _-_, _≤_}
-use mathlib.Core.Path.{_≡_, refl, sym, ap, ap₂, _∙_, subst}
+use mathlib.Core.Path.{_≡_, refl, sym, ap, ap₂, _∙_}
 use mathlib.Core.Bool.{false}
 use mathlib.Core.List.{List, [], _∷_, _++_, map, append-assoc, append-nil}
 use native.Mathlib.Omega.{arith}
 use lib.ListN.{length, length-append}
 use Rattle.lang.specs.Parts.{flat}
-use Rattle.lang.specs.Mark.{Mark}
 use Rattle.rules.specs.Bytes.{bytes}
 use Rattle.rules.specs.Texts.{startsWith}
-use Rattle.rules.specs.Numbers.{Number}
 use Rattle.rules.specs.Formulas.{Written}
 use Rattle.rules.specs.Adducts.{Item, itemText, itemMap, adductText}
 use Rattle.rules.specs.Fields.{filled}
@@ -22,7 +20,7 @@ use Rattle.openings.proofs.Laws.{no-sign}
 use Rattle.pieces.specs.declared.Row.{Row}
 use Rattle.pieces.specs.Rows.{piecesOf}
 use Rattle.pieces.proofs.Laws.{EndsPieces, items-read}
-use Rattle.annotations.specs.Parts.{adductLen, adductWith, adductOf}
+use Rattle.annotations.specs.Parts.{adductWith, adductOf}
 
 abbrev pub adductRead : List (Item Written) → Fault → Row
 adductRead xs g =

@@ -1,7 +1,7 @@
 -- Parts one after the other: what is left behind each, and the first broken limit of all. Assumes nothing.
 use Prim.Native.Nat.{ℕ, _+_, _-_, _≤_}
-use mathlib.Core.Path.{_≡_, refl, sym, ap, ap₂, _∙_}
-use mathlib.Core.List.{List, [], _∷_, _++_}
+use mathlib.Core.Path.{_≡_, refl, sym, ap, _∙_}
+use mathlib.Core.List.{List, _∷_, _++_, append-assoc}
 use native.Mathlib.Omega.{arith}
 use lib.ListN.{length, drop, length-append}
 use lib.Seq.{drop-append-seam}
@@ -31,3 +31,9 @@ module _ (w k : List ℕ) where
       let at = end - length (w ++ k) in
       let q : at + length (p .text) ≡ end - length k = omega (arith, length-append w k, ap length e) in
       after-append f (p .marks at) (marksOf (at + length (p .text)) ps) ∙ ap (λ (z : ℕ). after (after f (p .marks at)) (marksOf z ps)) q
+
+-- what is left behind three texts
+pub drop-three : (u v w k : List ℕ) → drop (length u + length v + length w) (u ++ (v ++ (w ++ k))) ≡ k
+drop-three u v w k =
+    let n : length u + length v + length w ≡ length ((u ++ v) ++ w) = omega (arith, length-append (u ++ v) w, length-append u v) in
+    ap (drop (length u + length v + length w)) (sym (append-assoc (u ++ v) w k ∙ append-assoc u v (w ++ k))) ∙ drop-is ((u ++ v) ++ w) k n

@@ -1,24 +1,16 @@
 -- What may follow each part of an annotation. Assumes nothing.
 use Prim.Native.Nat.{ℕ}
-use mathlib.Core.Path.{_≡_, refl, sym, subst, _∙_}
-use mathlib.Core.Bool.{false}
+use mathlib.Core.Path.{sym, subst, _∙_}
 use mathlib.Core.List.{List, [], _∷_, _++_, append-assoc}
 use Rattle.lang.specs.Parts.{Opt, silent, written, optText, flat, wordOf}
 use Rattle.rules.specs.Bytes.{bytes}
-use Rattle.rules.specs.Texts.{startsWith}
 use Rattle.rules.specs.Numbers.{From, numberText}
 use Rattle.rules.specs.Decimals.{Decimal}
 use Rattle.rules.specs.Formulas.{Written, writtenText}
-use Rattle.rules.specs.Losses.{Sign, minus, plus, signText, Loss, lostText, lossText}
-use Rattle.rules.specs.Isotopes.{Shift, shiftText, Specific, specificText, Isotopes, no-isotope, plain-isotope, average-isotope, specific-isotopes, isotopesText}
+use Rattle.rules.specs.Losses.{Sign, signText, Loss, lostText, lossText}
+use Rattle.rules.specs.Isotopes.{Shift, shiftText, specificText, Isotopes, no-isotope, plain-isotope, average-isotope, specific-isotopes, isotopesText}
 use Rattle.rules.specs.Adducts.{Item, addedText, itemText, adductText}
 use Rattle.rules.specs.Annotations.{Deviation, chargeText, deviationText, confidenceText}
-use Rattle.terms.proofs.Ends.{EndsFormula, ends-apart, ends-adduct}
-use Rattle.openings.specs.Heads.{beginsPiece}
-use Rattle.openings.proofs.Laws.{no-sign}
-use Rattle.pieces.proofs.Laws.{EndsPieces}
-use Rattle.isotopes.proofs.Ends.{EndsIsotopes, ends-sign}
-use Rattle.isotopes.proofs.Laws.{isotopes-begin}
 
 -- an annotation ends at the end of the line, or at a comma
 pub data EndsAnnotation : List ℕ → Type 0 where

@@ -16,6 +16,7 @@ use Rattle.rules.specs.Annotations.{Deviation}
 use Rattle.terms.proofs.Ends.{EndsFormula, ends-apart}
 use Rattle.isotopes.proofs.Ends.{EndsIsotopes}
 use Rattle.ions.specs.Kinds.{opensModification}
+use Rattle.ions.proofs.Laws.{EndsIon}
 use Rattle.annotations.proofs.Ends.{EndsAnnotation, behindAdduct, charge-keep, losses-keep, isotopes-keep, adduct-keep}
 use Rattle.annotations.proofs.Middles.{EndsMiddle, behindIon, behindLosses, behindIsotopes}
 
@@ -36,14 +37,14 @@ module _ (g : Opt (From 2)) (d : Opt Deviation) (c : Opt Decimal) {k : List ℕ}
         losses-keep P sign ls (behindLosses ls y xs (behindAdduct g d c k))
         (isotopes-keep P sign y (behindIsotopes ls y xs (behindAdduct g d c k)) (adduct-keep P adduct xs (behindAdduct g d c k) p))
 
-    pub ion-no-digit : firstIn digit (behindIon ls y xs (behindAdduct g d c k)) ≡ false
+    ion-no-digit : firstIn digit (behindIon ls y xs (behindAdduct g d c k)) ≡ false
     ion-no-digit = behind-keep (λ s. firstIn digit s ≡ false) by (λ h s. refl) (charge-keep g d c k (λ s. firstIn digit s ≡ false) refl (λ s. refl) e (λ s. refl) (λ s. refl) (λ s. refl))
       where
         by : (h : Sign) (s : List ℕ) → firstIn digit (signText h ++ s) ≡ false
         by minus s = refl
         by plus s = refl
 
-    pub ion-no-brace : startsWith (bytes "{") (behindIon ls y xs (behindAdduct g d c k)) ≡ false
+    ion-no-brace : startsWith (bytes "{") (behindIon ls y xs (behindAdduct g d c k)) ≡ false
     ion-no-brace = behind-keep (λ s. startsWith (bytes "{") s ≡ false) by (λ h s. refl) (charge-keep g d c k (λ s. startsWith (bytes "{") s ≡ false) refl (λ s. refl) e (λ s. refl) (λ s. refl) (λ s. refl))
       where
         by : (h : Sign) (s : List ℕ) → startsWith (bytes "{") (signText h ++ s) ≡ false
@@ -51,7 +52,7 @@ module _ (g : Opt (From 2)) (d : Opt Deviation) (c : Opt Decimal) {k : List ℕ}
         by plus s = refl
 
     -- an adduct is no modification: a sign stands behind its `[M`
-    pub ion-no-modification : opensModification (behindIon ls y xs (behindAdduct g d c k)) ≡ false
+    ion-no-modification : opensModification (behindIon ls y xs (behindAdduct g d c k)) ≡ false
     unfolding opensModification
     ion-no-modification =
         behind-keep (λ s. opensModification s ≡ false) by also
@@ -64,3 +65,6 @@ module _ (g : Opt (From 2)) (d : Opt Deviation) (c : Opt Decimal) {k : List ℕ}
         also : (h : Sign) (s : List ℕ) → opensModification (91 ∷ 77 ∷ (signText h ++ s)) ≡ false
         also minus s = refl
         also plus s = refl
+
+    pub ends-ion : EndsIon (behindIon ls y xs (behindAdduct g d c k))
+    ends-ion = record { no-digit = ion-no-digit; no-brace = ion-no-brace; no-modification = ion-no-modification }

@@ -1,6 +1,6 @@
 -- What is read of prefix and ion that are spelled. Assumes nothing.
 use Prim.Native.Nat.{ℕ, _+_, _-_, _≤_}
-use mathlib.Core.Path.{_≡_, refl, sym, ap, _∙_}
+use mathlib.Core.Path.{_≡_, sym, ap, _∙_}
 use mathlib.Core.Bool.{Bool}
 use mathlib.Core.List.{List, _++_, append-assoc}
 use native.Mathlib.Omega.{arith}
@@ -17,12 +17,13 @@ use Rattle.terms.specs.declared.Fault.{Fault}
 use Rattle.terms.specs.Faults.{after}
 use Rattle.terms.proofs.Spelled.{told}
 use Rattle.ions.specs.declared.IonRead.{IonRead}
-use Rattle.ions.specs.Ions.{ionOf}
+use Rattle.ions.proofs.Laws.{EndsIon, ionRead, ion-read}
 use Rattle.annotations.specs.declared.Front.{Front}
 use Rattle.annotations.specs.Groups.{frontOf}
 use Rattle.annotations.proofs.Parts.{front-is}
-use Rattle.annotations.proofs.Chains.{drop-is}
+use Rattle.annotations.proofs.Chains.{drop-is, inside}
 use Rattle.annotations.proofs.Begins.{ion-begins-apart, ion-no-mark}
+use Rattle.annotations.proofs.Ions.{ion-told}
 use Rattle.annotations.proofs.Prefixes.{prefixLength, prefix-read}
 
 module _ (m : Bool) (n : Opt ℕ) (x : Ion Written) (k : List ℕ) where
@@ -49,8 +50,10 @@ module _ (m : Bool) (n : Opt ℕ) (x : Ion Written) (k : List ℕ) where
     frontRead r =
         record { marked = flag m; present = present n; analyte = valueOr0 told n; at = prefixLength m n; ion = r; len = prefixLength m n + length (ionText x) }
 
-    pub front-with : {r : IonRead} → ionOf end (ionText x ++ k) prefixFault ≡ r → r .len ≡ length (ionText x) → length frontText ≤ end → frontOf end frontText f ≡ frontRead r
-    front-with e l h =
+    pub front-read : EndsIon k → length frontText ≤ end → frontOf end frontText f ≡ frontRead (ionRead x ionFault)
+    front-read e h =
+        let hx = inside (optText analyteText n) (ionText x ++ k) (inside (flagText (bytes "&") m) behindFlag h) in
         let q : prefixLength m n + length (ionText x) ≡ length frontText - length k =
         omega (arith, length-append (flagText (bytes "&") m) behindFlag, length-append (optText analyteText n) (ionText x ++ k), length-append (ionText x) k) in
-        sym (front-is end frontText f (sym (prefix-read (ionText x ++ k) (ion-no-mark x k) (ion-begins-apart x k) m n end f h)) (sym behind-prefix) (sym e) (sym (drop-is (ionText x) k l)) q)
+        sym (front-is end frontText f (sym (prefix-read (ionText x ++ k) (ion-no-mark x k) (ion-begins-apart x k) m n end f h)) (sym behind-prefix)
+        (sym (ion-read x k end prefixFault e hx)) (sym (drop-is (ionText x) k (ion-told x ionFault .len))) q)

@@ -7,6 +7,10 @@ pub mod Middles
 pub mod Follows
 pub mod Begins
 pub mod Prefixes
+pub mod Ions
 pub mod Fronts
 pub mod Rules
 pub mod Sizes
+pub mod Wholes
+pub mod Spelled
+pub mod Laws

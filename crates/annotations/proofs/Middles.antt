@@ -1,13 +1,13 @@
 -- What is read of losses, isotopes and adduct that are spelled. Assumes nothing.
 use Prim.Native.Nat.{ℕ, _+_, _-_, _≤_}
-use mathlib.Core.Path.{_≡_, refl, sym, ap, ap₂, _∙_}
+use mathlib.Core.Path.{_≡_, refl, sym}
 use mathlib.Core.Bool.{false}
-use mathlib.Core.List.{List, [], _∷_, _++_, map}
+use mathlib.Core.List.{List, _∷_, _++_, map}
 use native.Mathlib.Omega.{arith}
 use lib.ListN.{length, length-append}
 use Rattle.lang.specs.Parts.{flat}
 use Rattle.rules.specs.Bytes.{bytes}
-use Rattle.rules.specs.Texts.{firstIn, startsWith}
+use Rattle.rules.specs.Texts.{startsWith}
 use Rattle.rules.specs.Formulas.{Written}
 use Rattle.rules.specs.Losses.{Sign, minus, plus, signText, Loss, lossText, lossMap}
 use Rattle.rules.specs.Isotopes.{Isotopes, isotopesText, isotopesMap}
@@ -17,10 +17,8 @@ use Rattle.rules.specs.Limits.{rowMarks, lossMarks, isotopesMarks, adductMarks}
 use Rattle.rules.specs.Stored.{lostUnits, lostName, addedUnits, isotopeRecords}
 use Rattle.terms.specs.declared.Fault.{Fault}
 use Rattle.terms.specs.Faults.{after}
-use Rattle.terms.proofs.Ends.{EndsFormula, goesOn, ends-apart, ends-adduct}
-use Rattle.openings.specs.Heads.{beginsPiece}
+use Rattle.terms.proofs.Ends.{EndsFormula, ends-apart, ends-adduct}
 use Rattle.openings.proofs.Laws.{no-sign}
-use Rattle.pieces.specs.declared.Row.{Row}
 use Rattle.pieces.proofs.Laws.{EndsPieces, losses-read}
 use Rattle.isotopes.proofs.Ends.{EndsIsotopes, ends-sign}
 use Rattle.isotopes.proofs.Laws.{isotopes-begin, isotopes-read}
@@ -29,7 +27,7 @@ use Rattle.annotations.specs.Groups.{plus as sum, middleOf}
 use Rattle.annotations.proofs.Parts.{middle-is}
 use Rattle.annotations.proofs.Ends.{isotopes-keep, adduct-keep}
 use Rattle.annotations.proofs.Chains.{drop-is, inside}
-use Rattle.annotations.proofs.Adducts.{adductRead, adduct-read}
+use Rattle.annotations.proofs.Adducts.{adduct-read}
 
 -- what follows goes on neither with losses nor with isotopes nor with an adduct
 pub record EndsMiddle (k : List ℕ) : Type 0 where
@@ -48,7 +46,7 @@ module _ (ls : List (Loss Written)) (y : Isotopes Written) (xs : List (Item Writ
   behindIon = flat lossText ls ++ behindLosses
 
   module _ (e : EndsMiddle k) where
-    adduct-ends : EndsIsotopes behindIsotopes
+    pub adduct-ends : EndsIsotopes behindIsotopes
     adduct-ends = adduct-keep EndsIsotopes (λ g s. refl) xs k (e .isotopes)
 
     formula-ends : EndsFormula behindLosses

@@ -1,6 +1,6 @@
 -- What a part begins with, and the groups of parts, from what the readers of each tell. Assumes nothing.
 use Prim.Native.Nat.{ℕ, _-_, min, _+_}
-use mathlib.Core.Path.{_≡_, refl, sym, _∙_}
+use mathlib.Core.Path.{_≡_, refl, sym}
 use mathlib.Core.Bool.{Bool, true, false, _&&_}
 use mathlib.Core.List.{List, [], _∷_}
 use lib.Dec.{eqb}

@@ -1,8 +1,8 @@
 -- The rules for one annotation, of what is read of spelled parts within their limits. Assumes nothing.
-use Prim.Native.Nat.{ℕ, _-_, min}
-use mathlib.Core.Path.{_≡_, refl, sym, ap, ap₂, _∙_}
-use mathlib.Core.Bool.{Bool, true, false, cond, not, _&&_, _||_}
-use mathlib.Core.List.{List, [], _∷_}
+use Prim.Native.Nat.{ℕ, min}
+use mathlib.Core.Path.{_≡_, refl, ap}
+use mathlib.Core.Bool.{Bool, true, false, cond, not, _||_}
+use mathlib.Core.List.{[], _∷_}
 use native.Mathlib.Omega.{arith}
 use lib.Dec.{T, leb}
 use borrow.Author.Tests.{leb-true, leb-false, le-leb, lt-leb}
@@ -11,7 +11,7 @@ use Rattle.lang.specs.Mark.{Kept, here, later}
 use Rattle.rules.specs.Bytes.{bytes}
 use Rattle.rules.specs.Decimals.{Decimal}
 use Rattle.rules.specs.Annotations.{Deviation, flagText}
-use Rattle.rules.specs.House.{deviationRule, billionths, confidenceOf, one}
+use Rattle.rules.specs.House.{deviationRule, confidenceOf, one}
 use Rattle.rules.specs.Limits.{fits, bare, decimalMark, decimalPart, optPart, deviationPart, confidencePart}
 use Rattle.rules.proofs.Keeps.{kept-part}
 use Rattle.numbers.specs.Shares.{largest, billionthsOf}

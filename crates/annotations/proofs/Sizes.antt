@@ -1,14 +1,14 @@
 -- Each unit, and each byte of a text that is stored, stands for a byte or more of the line. Assumes nothing.
 use Prim.Native.Nat.{ℕ, _+_, _≤_}
 use mathlib.Core.Path.{_≡_, refl, sym, subst}
-use mathlib.Core.Bool.{Bool, true, false}
+use mathlib.Core.Bool.{Bool, true}
 use mathlib.Core.List.{List, [], _∷_, _++_, map}
 use native.Mathlib.Omega.{arith}
 use lib.ListN.{length, length-append, length-map}
 use Rattle.lang.specs.Parts.{Opt, silent, written, optText, Such, items, flat, wordOf}
 use Rattle.lang.proofs.Tests.{not-t}
 use Rattle.rules.specs.Bytes.{bytes}
-use Rattle.rules.specs.Texts.{inBraces, bracedText, bracketText}
+use Rattle.rules.specs.Texts.{bracedText, bracketText}
 use Rattle.rules.specs.Numbers.{numberText}
 use Rattle.rules.specs.Formulas.{Written, FormulaUnit, unitText, unitMap, Formula, formulaText, formulaMap}
 use Rattle.rules.specs.Ions.{Ion, series, internal, immonium, precursor, reference, named, composed, smiles, unknown, ionText, ionMap}

@@ -1,10 +1,10 @@
 -- What is read of charge, deviation and confidence that are spelled. Assumes nothing.
 use Prim.Native.Nat.{ℕ, _+_, _-_, _≤_}
-use mathlib.Core.Path.{_≡_, refl, sym, ap, ap₂, _∙_}
+use mathlib.Core.Path.{_≡_, refl, sym, ap, _∙_}
 use mathlib.Core.Bool.{false}
-use mathlib.Core.List.{List, [], _∷_, _++_}
+use mathlib.Core.List.{List}
 use native.Mathlib.Omega.{arith}
-use lib.ListN.{length, drop, length-append}
+use lib.ListN.{length, length-append}
 use Rattle.lang.specs.Parts.{Opt, silent, written, optText}
 use Rattle.rules.specs.Bytes.{bytes, digit}
 use Rattle.rules.specs.Texts.{firstIn, startsWith}
@@ -15,10 +15,7 @@ use Rattle.rules.specs.Limits.{optPart, chargePart, deviationPart, confidencePa
 use Rattle.numbers.specs.Points.{point}
 use Rattle.terms.specs.declared.Fault.{Fault}
 use Rattle.terms.specs.Faults.{after}
-use Rattle.tails.specs.declared.ChargeRead.{ChargeRead}
-use Rattle.tails.specs.declared.DecimalPart.{DecimalPart}
-use Rattle.tails.specs.Charges.{chargeOf}
-use Rattle.tails.specs.Decimals.{noPart, deviationOf, confidenceOf}
+use Rattle.tails.specs.Decimals.{confidenceOf}
 use Rattle.tails.proofs.Laws.{chargeRead, charge-read, confidenceRead, confidence-read, deviationRead, deviation-read}
 use Rattle.annotations.specs.declared.Tail.{Tail}
 use Rattle.annotations.specs.Groups.{tailOf}

@@ -1,7 +1,7 @@
 -- The slots of spelled losses, or adduct items, in a row: each is fed in reading order, and its text is kept behind those before it.
 -- Assumes nothing.
 use Prim.Native.Nat.{ℕ, _+_, _-_, _*_, _≤_, _<_, min}
-use mathlib.Core.Path.{_≡_, refl, sym, ap, ap₂, _∙_, subst}
+use mathlib.Core.Path.{_≡_, refl, sym, ap, _∙_, subst}
 use mathlib.Core.Bool.{Bool, cond}
 use mathlib.Core.List.{List, [], _∷_, _++_, append-assoc, append-nil}
 use native.Mathlib.Omega.{arith}
@@ -20,7 +20,7 @@ use Rattle.puts.specs.Puts.{maxPlace}
 use Rattle.terms.specs.declared.Fault.{Fault}
 use Rattle.terms.specs.Faults.{fault}
 use Rattle.terms.proofs.Ends.{EndsFormula}
-use Rattle.formulas.proofs.Chains.{AllOf, all-none, all-more}
+use Rattle.formulas.proofs.Chains.{AllOf, all-more}
 use Rattle.openings.specs.Heads.{beginsPiece}
 use Rattle.pieces.specs.declared.Piece.{Piece}
 use Rattle.pieces.specs.Rows.{pieceSize}
@@ -31,7 +31,7 @@ use Rattle.pieces.proofs.Measures.{piece-long}
 use Rattle.pieces.proofs.Turns.{size-moves}
 use Rattle.pieces.proofs.Sums.{EndsPieces}
 use Rattle.order.specs.declared.Slot.{Slot}
-use Rattle.order.specs.Slots.{slotText, slotLe, feed, EndsBy, AllEndBy, none-ends, next-ends}
+use Rattle.order.specs.Slots.{slotText, slotLe, feed, EndsBy, AllEndBy, none-ends}
 use Rattle.order.proofs.Feeds.{fed-last}
 use Rattle.order.proofs.Fed.{feed-perm}
 use Rattle.order.proofs.Kept.{Common, common-sets, text-kept, all-end-by, ends-last, feed-kept, each-kept}
@@ -92,7 +92,7 @@ module _ {m : ℕ} (j : ℕ) (all : List ℕ) (a : Got) (x : Spelled m) (k : Lis
       let l : nextUsed - a .used ≡ length t = omega arith in
       let q : min (a .at + start) (length all) ≡ a .at + start = omega arith in
       let r : drop (y .start) all ≡ whatText (x .what) ++ k =
-          ap (λ (n : ℕ). drop n all) q ∙ sym (drop-drop start (a .at) all) ∙ ap (drop start) here ∙ behind-head x k e in
+      ap (λ (n : ℕ). drop n all) q ∙ sym (drop-drop start (a .at) all) ∙ ap (drop start) here ∙ behind-head x k e in
       record {
         slots = refl;
         common = common-sets (a .used) (a .keys) (a .used) t (omega arith);
@@ -192,14 +192,14 @@ module _ {m : ℕ} (j : ℕ) (all : List ℕ) (k : List ℕ) (e : EndsPieces k) 
       let g : Fed j all b (ys ++ (y ∷ [])) (ds ++ (x ∷ [])) = fed-next f (c .1) (omega arith) in
       let u = length-append (pieceText x) r in
       let here′ : drop (b .at) all ≡ r =
-          ap (λ (i : ℕ). drop i all) (c .1 .at) ∙ sym (drop-drop (length (pieceText x)) (a .at) all)
-          ∙ ap (drop (length (pieceText x))) (here ∙ t) ∙ drop-append-seam (pieceText x) r in
+      ap (λ (i : ℕ). drop i all) (c .1 .at) ∙ sym (drop-drop (length (pieceText x)) (a .at) all)
+      ∙ ap (drop (length (pieceText x))) (here ∙ t) ∙ drop-append-seam (pieceText x) r in
       let z = fed-walk xs b (ys ++ (y ∷ [])) (ds ++ (x ∷ [])) g (omega (arith, length-append ys (y ∷ []))) h here′
-          (omega (arith, c .1 .at, u, ap length t, long)) in
+      (omega (arith, c .1 .at, u, ap length t, long)) in
       let w : gatherFrom (length all) (flat pieceText (x ∷ xs) ++ k) a ≡ gatherFrom (length all) r b =
-          ap (λ (q : List ℕ). gatherFrom (length all) q a) t ∙ gather-on (length all) s a (begins-piece x r)
-          ∙ ap (λ (i : ℕ). gatherFrom (length all) (drop i s) b) (piece-size x r o)
-          ∙ ap (λ (q : List ℕ). gatherFrom (length all) q b) (drop-append-seam (pieceText x) r) in
+      ap (λ (q : List ℕ). gatherFrom (length all) q a) t ∙ gather-on (length all) s a (begins-piece x r)
+      ∙ ap (λ (i : ℕ). gatherFrom (length all) (drop i s) b) (piece-size x r o)
+      ∙ ap (λ (q : List ℕ). gatherFrom (length all) q b) (drop-append-seam (pieceText x) r) in
       let v = ap (λ (w : Walked Got). w .known) (sym w) in
       record {
         read = z .read;

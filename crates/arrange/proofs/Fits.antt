@@ -1,6 +1,6 @@
 -- Losses, and adduct items, within the limits have room in the slots and in the buffer of keys. Assumes nothing.
 use Prim.Native.Nat.{ℕ, _+_, _*_, _/_, _%_, _≤_, _<_}
-use mathlib.Core.Path.{_≡_, refl, sym, ap, _∙_, subst}
+use mathlib.Core.Path.{_≡_, ap, _∙_, subst}
 use mathlib.Core.Bool.{Bool, true, false, cond}
 use mathlib.Core.List.{List, [], _∷_, _++_, map}
 use native.Mathlib.Omega.{arith}
@@ -8,21 +8,20 @@ use native.Mathlib.Decide.{decLt}
 use lib.Dec.{leb, eqb}
 use lib.ListN.{length, length-append, length-map}
 use Rattle.lang.specs.Parts.{Opt, silent, written, items, flat, wordOf}
-use Rattle.lang.specs.Mark.{Mark, In, here, later, Kept, Part, marksOf}
+use Rattle.lang.specs.Mark.{Mark, In, here, later, Kept}
 use Rattle.rules.specs.Bytes.{bytes}
 use Rattle.rules.specs.Numbers.{digits, From, Number, numberText}
 use Rattle.rules.specs.Elements.{Symbol}
-use Rattle.rules.specs.Texts.{bracketText}
 use Rattle.rules.specs.Formulas.{Written, writtenText, FormulaUnit, plain, labelled, unitText, unitMap}
 use Rattle.rules.specs.Losses.{signText, Loss, lossText}
 use Rattle.rules.specs.Adducts.{Item, itemText}
 use Rattle.rules.specs.Preferred.{shortened}
 use Rattle.rules.specs.Fields.{filled}
-use Rattle.rules.specs.Limits.{maxLosses, maxItems, maxUnits, maxText, maxCount, bare, optPart, numberPart, rowMarks, unitMarks, formulaPart, lossMarks, itemMarks}
+use Rattle.rules.specs.Limits.{maxLosses, maxItems, maxUnits, maxText, maxCount, bare, optPart, numberPart, rowMarks, unitMarks, lossMarks, itemMarks}
 use Rattle.rules.proofs.Digits.{digits-small, digits-big}
 use Rattle.rules.proofs.Keeps.{kept-tail, kept-part, not-past, not-many, row-each, row-few}
 use Rattle.rules.proofs.FitParts.{number-within}
-use Rattle.elements.specs.Numbers.{word, spelled}
+use Rattle.elements.specs.Numbers.{spelled}
 use Rattle.elements.proofs.Laws.{word-symbol}
 use Rattle.formulas.proofs.Chains.{AllOf, all-none, all-more}
 use Rattle.formulas.proofs.Laws.{UnitTold}
@@ -136,7 +135,7 @@ record WhatFits (w : What) : Type 0 where
 what-fits : (w : What) (at : ℕ) → Kept (whatPart w .marks at) → WhatFits w
 what-fits (a-formula x) at k =
     let each : (u : FormulaUnit Written) → In u (items x) → UnitShort u =
-        λ u i. let c = row-each unitText unitMarks 0 (items x) at k u i in unit-short (c .0) u (c .1) (c .2) in
+    λ u i. let c = row-each unitText unitMarks 0 (items x) at k u i in unit-short (c .0) u (c .1) (c .2) in
     record {
       units = all-in UnitTold (items x) (λ u i. each u i .units);
       short = omega (arith, units-short (items x) each, row-few unitText unitMarks maxUnits unit-counted 0 (items x) at k (omega arith));

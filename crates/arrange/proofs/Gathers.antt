@@ -1,11 +1,11 @@
 -- The walk over losses or adduct items, each put among the slots. Assumes nothing.
-use Prim.Native.Nat.{ℕ, _+_, _-_, _≤_, _<_, min}
-use mathlib.Core.Path.{_≡_, refl, sym, ap, ap₂, _∙_, subst}
+use Prim.Native.Nat.{ℕ, _+_, _-_, _≤_, min}
+use mathlib.Core.Path.{_≡_, refl, sym, ap, _∙_, subst}
 use mathlib.Core.Bool.{true, false}
-use mathlib.Core.List.{List, []}
+use mathlib.Core.List.{List}
 use native.Mathlib.Omega.{arith}
 use lib.ListN.{length, take, drop, length-drop}
-use lib.Seq.{drop-drop, sets, length-sets}
+use lib.Seq.{drop-drop, length-sets}
 use Rattle.lang.specs.Walk.{Walked, walk}
 use Rattle.lang.specs.Parts.{flat}
 use Rattle.lang.proofs.Walks.{walk-on, walk-ends}
@@ -15,13 +15,11 @@ use Rattle.openings.specs.Heads.{beginsPiece}
 use Rattle.pieces.specs.Rows.{pieceSize}
 use Rattle.pieces.proofs.Measures.{piece-long}
 use Rattle.pieces.proofs.Turns.{size-moves}
-use Rattle.order.specs.declared.Slot.{Slot}
 use Rattle.order.specs.declared.Slots.{Slots}
 use Rattle.pages.specs.declared.Cursors.{Cursors}
-use Rattle.pages.specs.Pages.{Event, Ran}
+use Rattle.pages.specs.Pages.{Ran}
 use Rattle.pages.proofs.Events.{ran-none, ran-as}
 use Rattle.arrange.specs.declared.Gathered.{Gathered}
-use Rattle.arrange.specs.declared.Arranged.{Arranged}
 use Rattle.arrange.specs.Keys.{keyText}
 use Rattle.arrange.specs.Gathered.{Got, pieceHere, gatherOne, gotNone, gathered, Is, Grows, Gathers}
 use Rattle.arrange.specs.Events.{slotEvents, slotsEvents, noKeys, pieceEvents, StoresPieces}

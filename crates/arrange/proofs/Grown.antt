@@ -1,7 +1,7 @@
 -- One loss, or adduct item, more than were got. Assumes nothing.
 use Prim.Native.Nat.{ℕ, _+_, _-_, _≤_, _<_, min}
-use mathlib.Core.Path.{_≡_, refl, sym, ap, ap₂, _∙_}
-use mathlib.Core.List.{List, _∷_}
+use mathlib.Core.Path.{_≡_, ap, ap₂, _∙_}
+use mathlib.Core.List.{List}
 use native.Mathlib.Omega.{arith}
 use native.Mathlib.Decide.{decLe}
 use lib.ListN.{length, drop}
@@ -69,7 +69,7 @@ module _ {g : Gathered} {s keys keys′ t : List ℕ} {x : Piece} {next start le
           let ll : len ≡ next₀ - a .used = el ∙ (λ j. nn j - h .used j) in
           let y : Slot = record { sign = x .sign; kind = x .kind; count = x .count; size = x .size; start = start; key = g .used; len = len } in
           let yy : y ≡ slotOf (length s) a x₀ next₀ =
-              λ j. record { sign = xx j .sign; kind = xx j .kind; count = xx j .count; size = xx j .size; start = ss j; key = h .used j; len = ll j } in
+          λ j. record { sign = xx j .sign; kind = xx j .kind; count = xx j .count; size = xx j .size; start = ss j; key = h .used j; len = ll j } in
           let k = keeps i (a .slots) (h .slots) (h .n) in
           record {
             slots = k .slots ∙ ap₂ (λ (z : List ℕ) (y : Slot). kept z y (a .slots)) kk yy;

@@ -6,12 +6,12 @@ use native.Mathlib.Omega.{arith}
 use lib.ListN.{length, length-map}
 use Rattle.lang.specs.Parts.{Opt, silent, written, items, flat}
 use Rattle.rules.specs.Numbers.{From, Number}
-use Rattle.rules.specs.Formulas.{Written, FormulaUnit, unitMap, Formula}
+use Rattle.rules.specs.Formulas.{Written, unitMap, Formula}
 use Rattle.rules.specs.Losses.{Lost, lost-formula, lost-name, lostText, lostMap, Loss, lossText, lossMap}
 use Rattle.rules.specs.Adducts.{Added, added-formula, electron, addedText, addedMap, Item, itemText, itemMap}
 use Rattle.rules.specs.Preferred.{signRank, key, countOr1, shortened, lossKey, itemKey, lossLe, itemLe}
 use Rattle.rules.specs.Fields.{filled}
-use Rattle.rules.specs.Stored.{Field, u8, u16, stores, lostKind, lostUnits, lostName, lossRecord, addedKind, addedUnits, itemRecord}
+use Rattle.rules.specs.Stored.{u8, u16, stores, lostKind, lostUnits, lostName, lossRecord, addedKind, addedUnits, itemRecord}
 use Rattle.pages.specs.Pages.{bytesOf}
 use Rattle.pieces.proofs.Spelled.{What, whatKind, whatSize, ofLost, ofLoss, loss-text, ofAdded, ofItem, item-text}
 use Rattle.pieces.proofs.Sums.{EndsPieces}

@@ -1,5 +1,5 @@
 -- What is stored of a row of spelled things that are losses or adduct items. Assumes nothing.
-use Prim.Native.Nat.{ℕ, _≤_, _<_}
+use Prim.Native.Nat.{ℕ, _<_}
 use mathlib.Core.Path.{_≡_, refl, sym, ap, ap₂, _∙_, subst}
 use mathlib.Core.Bool.{Bool, false, _&&_}
 use mathlib.Core.List.{List, [], _∷_, _++_, map}
@@ -13,20 +13,19 @@ use Rattle.rules.specs.Fields.{filled}
 use Rattle.rules.specs.Preferred.{rank}
 use Rattle.rules.specs.Stored.{Field, stores, unitRecord}
 use Rattle.rules.proofs.Bounds.{each-length}
-use Rattle.formulas.proofs.Chains.{AllOf, all-none, all-more, flat-map}
+use Rattle.formulas.proofs.Chains.{flat-map}
 use Rattle.order.specs.declared.Slot.{Slot}
-use Rattle.order.specs.Slots.{slotKey, feed}
-use Rattle.order.specs.Stands.{Arranged}
+use Rattle.order.specs.Slots.{slotKey}
 use Rattle.order.proofs.Arranged.{byKey, fed-arranged}
 use Rattle.pages.specs.Pages.{Event, bytesOf}
 use Rattle.pages.proofs.Events.{flat-append, bytes-each, bytes-none}
 use Rattle.pieces.proofs.Spelled.{Spelled, pieceText}
 use Rattle.pieces.proofs.Sums.{EndsPieces}
-use Rattle.arrange.specs.Gathered.{Got, gathered}
+use Rattle.arrange.specs.Gathered.{gathered}
 use Rattle.arrange.specs.Events.{slotEvents, noKeys, pieceEvents}
-use Rattle.arrange.proofs.Told.{whatUnits, pieceKey, pieceRecord, spelledEvents, PieceFits}
+use Rattle.arrange.proofs.Told.{whatUnits, pieceKey, pieceRecord, spelledEvents}
 use Rattle.arrange.proofs.Sections.{whatName, bytes-record, bytes-units, bytes-name, bytes-other}
-use Rattle.arrange.proofs.Fed.{Stands, Fed, fed-count, After, RowFits, gathered-fed}
+use Rattle.arrange.proofs.Fed.{Stands, fed-count, After, RowFits, gathered-fed}
 
 -- ---- lists
 

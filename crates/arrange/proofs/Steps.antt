@@ -1,7 +1,7 @@
 -- The steps of storing slots, and the text by which a loss or an adduct item is put in order. Assumes nothing.
 use Prim.Native.Nat.{ℕ, _+_, _-_, _≤_, _<_}
 use mathlib.Core.Path.{_≡_, refl, sym, ap, ap₂, _∙_, subst}
-use mathlib.Core.List.{List, [], _∷_, _++_}
+use mathlib.Core.List.{List, [], _∷_}
 use native.Mathlib.Omega.{arith}
 use native.Mathlib.Numerals.{add-one}
 use lib.ListN.{length, getD, take, drop, length-take, drop-of-length-le}
@@ -16,7 +16,7 @@ use Rattle.order.specs.declared.Slots.{Slots}
 use Rattle.order.specs.Slots.{slotsOf}
 use Rattle.pages.specs.declared.Cursors.{Cursors}
 use Rattle.pages.specs.Pages.{at, moved, Event, Ran}
-use Rattle.pages.proofs.Events.{ran-put, ran-as}
+use Rattle.pages.proofs.Events.{ran-put}
 use Rattle.pages.proofs.Turns.{Going, begin, more, ends}
 use Rattle.pieces.specs.declared.Piece.{Piece}
 use Rattle.arrange.specs.Keys.{keyText}
@@ -77,8 +77,8 @@ module _ {j : ℕ} {s : List ℕ} {slots : Slots} {d : List ℕ} {c : Cursors} w
       let o = g .eight in
       let y = getD (slots .at) i x in
       let e : drop i (slotsOf slots) ≡ y ∷ drop (i + 1) (slotsOf slots) =
-          drop-cons (slotsOf slots) i x (omega (arith, length-take n (slots .at)))
-          ∙ ap₂ (λ (y : Slot) (m : ℕ). y ∷ drop m (slotsOf slots)) (getD-take n (slots .at) i x h) (sym (add-one i)) in
+      drop-cons (slotsOf slots) i x (omega (arith, length-take n (slots .at)))
+      ∙ ap₂ (λ (y : Slot) (m : ℕ). y ∷ drop m (slotsOf slots)) (getD-take n (slots .at) i x h) (sym (add-one i)) in
       record { eight = o; going = more (g .going) a (ap (flat (slotEvents j s)) e) }
 
   slots-end : {e : List ℕ} {k : Cursors} (i : ℕ) → Storing j s slots d c e k i → length (slotsOf slots) ≤ i → Ran d c (slotsEvents j s slots) e k

@@ -1,6 +1,6 @@
 -- What the slot of a spelled loss or adduct item holds: the text by which it is put in order, and what it stores. Assumes nothing.
 use Prim.Native.Nat.{ℕ, _+_, _-_, _≤_}
-use mathlib.Core.Path.{_≡_, refl, sym, ap, ap₂, _∙_}
+use mathlib.Core.Path.{_≡_, refl, sym, ap, _∙_}
 use mathlib.Core.Bool.{cond}
 use mathlib.Core.List.{List, [], _∷_, _++_, map, map-map, append-assoc}
 use native.Mathlib.Omega.{arith}
@@ -9,7 +9,7 @@ use lib.ListN.{length, take, drop, length-append}
 use lib.Seq.{take-append-seam}
 use Rattle.lang.specs.Parts.{Opt, silent, written, optText, items, flat}
 use Rattle.rules.specs.Bytes.{bytes}
-use Rattle.rules.specs.Numbers.{From, Number, numberText}
+use Rattle.rules.specs.Numbers.{From, numberText}
 use Rattle.rules.specs.Texts.{bracketText}
 use Rattle.rules.specs.Formulas.{Written, FormulaUnit, unitText, unitMap, formulaText, formulaMap}
 use Rattle.rules.specs.Losses.{Sign, minus, plus, signText}
@@ -19,13 +19,11 @@ use Rattle.rules.specs.Stored.{Field, u8, u16, stores, unitRecord}
 use Rattle.terms.specs.declared.Fault.{Fault}
 use Rattle.terms.specs.Faults.{fault}
 use Rattle.terms.proofs.Ends.{EndsFormula}
-use Rattle.terms.proofs.Spelled.{told}
 use Rattle.formulas.specs.Records.{recordsOf}
 use Rattle.formulas.specs.Preferred.{preferredUnits}
 use Rattle.formulas.proofs.Chains.{AllOf}
 use Rattle.formulas.proofs.Laws.{EndsUnits, UnitTold, preferred-read, records-read}
 use Rattle.openings.proofs.Laws.{countTold, drop-read}
-use Rattle.pieces.specs.declared.Piece.{Piece}
 use Rattle.pieces.proofs.Spelled.{What, a-formula, a-name, an-electron, whatText, whatKind, whatSize, Spelled, pieceText}
 use Rattle.pieces.proofs.Begins.{piece-text}
 use Rattle.pieces.proofs.Told.{pieceRead, piece-read}

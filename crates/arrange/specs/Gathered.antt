@@ -6,7 +6,7 @@ use mathlib.Core.List.{List, []}
 use lib.Dec.{ltb}
 use lib.ListN.{length, drop}
 use lib.Seq.{sets}
-use Rattle.lang.specs.Walk.{Walked, walk}
+use Rattle.lang.specs.Walk.{walk}
 use Rattle.lang.proofs.Sort.{insert}
 use Rattle.puts.specs.Puts.{maxPlace}
 use Rattle.terms.specs.Faults.{fault}

@@ -1,6 +1,5 @@
 // Losses, or adduct items, stored in preferred order: read from the rest of a line into slots, and from the slots to the page.
 ghost use mathlib.Core.Path.{_≡_};
-ghost use Prim.Native.Nat.{_+_, min};
 ghost use lib.ListN.{take, drop};
 ghost use Rattle.puts.specs.Puts.{Put};
 ghost use Rattle.pages.specs.Pages.{Ran};
@@ -42,7 +41,7 @@ pub struct Arranged {
 }
 
 // The n bytes of a part that begin at a place, as far as they are there.
-fn part<'a>(s: &'a [u8], at: usize, n: usize) -> &'a [u8]
+pub fn part<'a>(s: &'a [u8], at: usize, n: usize) -> &'a [u8]
     ensures { λ r. ⌜ now r ≡ take n (drop at (now (s .entry))) ⌝ }
 {
     let t = rest(s, at);
@@ -66,7 +65,10 @@ fn put_key(keys: &mut [u8], to: usize, s: &[u8], x: Piece) -> usize
 fn grow(g: Gathered, s: &[u8], keys: &mut [u8]) -> Gathered
     ensures { λ r. ⌜ Grows g (now (s .entry)) (now (keys .entry)) (now (keys .exit)) r ⌝ }
 {
-    let none = Fault { number: 0, place: 0 };
+    let none = Fault {
+        number: 0,
+        place: 0,
+    };
     let t = rest(s, g.at);
     let x = read_piece(0, 0, t, t.len(), none);
     let next = put_key(keys, g.used, t, x);

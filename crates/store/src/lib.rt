@@ -1,0 +1,166 @@
+// One annotation, read from the rest of a line and stored at six cursors. Its limits were measured before, so places are not told.
+ghost use mathlib.Core.Path.{_≡_};
+ghost use Rattle.puts.specs.Puts.{Put};
+ghost use Rattle.pages.specs.Pages.{Ran};
+ghost use Rattle.store.specs.Records.{signedOf, frontBytes, tailBytes, countBytes, recordBytes};
+ghost use Rattle.store.specs.Events.{ionEvents, StoresAdduct, StoresAnnotation};
+use annotations::Front;
+use annotations::Tail;
+use annotations::adduct_len;
+use annotations::begins_adduct;
+use annotations::read_front;
+use annotations::read_tail;
+use arrange::Arranged;
+use arrange::store_pieces;
+use formulas::put_records;
+use ions::IonRead;
+use isotopes::store_isotopes;
+use pages::Cursors;
+use pages::cursor;
+use pages::with_cursor;
+use puts::put8;
+use puts::put_le;
+use puts::put_run;
+use terms::Fault;
+use terms::less;
+use terms::rest;
+
+// How many losses, isotopes and adduct items an annotation has.
+pub struct Rows {
+    pub losses: usize,
+    pub isotopes: usize,
+    pub items: usize,
+}
+
+// What was stored: how many bytes of the line, and the cursors behind it.
+pub struct Stored {
+    pub len: usize,
+    pub cursors: Cursors,
+}
+
+// A number with its sign in two's complement.
+fn signed(minus: bool, value: u64) -> u64
+    ensures { λ r. ⌜ r ≡ signedOf minus value ⌝ }
+{
+    if !minus {
+        return value;
+    }
+    if value == 0 {
+        return 0;
+    }
+    u64::MAX - value + 1
+}
+
+// Bytes 0 to 9 of the record: kind, `&`, analyte present, series or letter, analyte, position, end.
+fn put_front(out: &mut [u8], to: usize, a: Front) -> usize
+    ensures { λ r. ⌜ Put (now (out .entry)) to (frontBytes a) (now (out .exit)) r ⌝ }
+{
+    let x = a.ion;
+    let p = put_le(out, to, x.kind as u64, 1);
+    let q = put_le(out, p, a.marked as u64, 1);
+    let r = put_le(out, q, a.present as u64, 1);
+    let s = put_le(out, r, x.letter as u64, 1);
+    let t = put_le(out, s, a.analyte as u64, 2);
+    let u = put_le(out, t, x.position as u64, 2);
+    put_le(out, u, x.last as u64, 2)
+}
+
+// Bytes 10 to 27: charge, kind and decimals of the deviation, presence and decimals of the confidence, 0, deviation, confidence.
+fn put_tail(out: &mut [u8], to: usize, b: Tail) -> usize
+    ensures { λ r. ⌜ Put (now (out .entry)) to (tailBytes b) (now (out .exit)) r ⌝ }
+{
+    let d = b.deviation;
+    let c = b.confidence;
+    let p = put_le(out, to, b.charge as u64, 1);
+    let q = put_le(out, p, d.kind as u64, 1);
+    let r = put_le(out, q, d.places as u64, 1);
+    let s = put_le(out, r, c.kind as u64, 1);
+    let t = put_le(out, s, c.places as u64, 1);
+    let u = put8(out, t, 0);
+    let v = put_le(out, u, signed(d.minus, d.value), 8);
+    put_le(out, v, c.value, 4)
+}
+
+// Bytes 28 to 35: the ion's text bytes and units, then losses, isotopes, adduct items, 0.
+fn put_counts(out: &mut [u8], to: usize, x: IonRead, n: Rows) -> usize
+    ensures { λ r. ⌜ Put (now (out .entry)) to (countBytes x n) (now (out .exit)) r ⌝ }
+{
+    let p = put_le(out, to, x.text as u64, 2);
+    let q = put_le(out, p, x.units as u64, 2);
+    let r = put_le(out, q, n.losses as u64, 1);
+    let s = put_le(out, r, n.isotopes as u64, 1);
+    let t = put_le(out, s, n.items as u64, 1);
+    put8(out, t, 0)
+}
+
+// The record of an annotation, 36 bytes.
+fn put_annotation(out: &mut [u8], to: usize, a: Front, b: Tail, n: Rows) -> usize
+    ensures { λ r. ⌜ Put (now (out .entry)) to (recordBytes a b n) (now (out .exit)) r ⌝ }
+{
+    let x = a.ion;
+    let p = put_front(out, to, a);
+    let q = put_tail(out, p, b);
+    put_counts(out, q, x, n)
+}
+
+// The units and the text of an ion that a part begins with; it has one of the two at most.
+fn put_ion(out: &mut [u8], c: Cursors, s: &[u8], x: IonRead) -> Cursors
+    ensures { λ r. ⌜ Ran (now (out .entry)) c (ionEvents (now (s .entry)) x) (now (out .exit)) r ⌝ }
+{
+    let t = rest(s, x.start);
+    let u = put_records(out, cursor(c, 4), t, x.units);
+    let d = with_cursor(c, 4, u);
+    let v = put_run(out, cursor(d, 5), arrange::part(t, 1, x.text));
+    with_cursor(d, 5, v)
+}
+
+// The adduct items that a part begins with.
+fn store_adduct(out: &mut [u8], c: Cursors, s: &[u8]) -> Arranged
+    ensures { λ r. ⌜ StoresAdduct (now (s .entry)) (now (out .entry)) c (now (out .exit)) r ⌝ }
+{
+    if !begins_adduct(s) {
+        return Arranged {
+            n: 0,
+            len: 0,
+            cursors: c,
+        };
+    }
+    let x = store_pieces(out, c, 3, rest(s, 2));
+    let cursors = x.cursors;
+    Arranged {
+        n: x.n,
+        len: adduct_len(x.len, s.len()),
+        cursors,
+    }
+}
+
+// The annotation that a part begins with.
+pub fn store(out: &mut [u8], c: Cursors, s: &[u8]) -> Stored
+    ensures { λ r. ⌜ StoresAnnotation (now (s .entry)) (now (out .entry)) c (now (out .exit)) r ⌝ }
+{
+    let none = Fault { number: 0, place: 0 };
+    let a = read_front(s, s.len(), none);
+    let x = a.ion;
+    let c1 = put_ion(out, c, rest(s, a.at), x);
+    let s1 = rest(s, a.len);
+    let l = store_pieces(out, c1, 1, s1);
+    let c2 = l.cursors;
+    let s2 = rest(s1, l.len);
+    let y = store_isotopes(s2, out, cursor(c2, 2));
+    let c3 = with_cursor(c2, 2, y.next);
+    let s3 = rest(s2, y.len);
+    let i = store_adduct(out, c3, s3);
+    let c4 = i.cursors;
+    let s4 = rest(s3, i.len);
+    let b = read_tail(s4, s4.len(), none);
+    let n = Rows {
+        losses: l.n,
+        isotopes: y.n,
+        items: i.n,
+    };
+    let next = put_annotation(out, cursor(c4, 0), a, b, n);
+    Stored {
+        len: less(s.len(), rest(s4, b.len).len()),
+        cursors: with_cursor(c4, 0, next),
+    }
+}
