@@ -1,0 +1,49 @@
+use mathlib.Core.Path.{sym, ap, _∙_, subst}
+use mathlib.Core.List.{List}
+use Prim.Native.Nat.{ℕ}
+use native.Mathlib.Omega.{arith}
+use borrow.Author.Needs.{needs}
+use lib.ListN.{length}
+use Rattle.rules.specs.Answers.{Reads}
+use Rattle.shape.specs.Steps.{machineBytes, scannedBy}
+use Rattle.shape.proofs.Scans.{by-machine}
+use Rattle.annotations.proofs.Laws.{measure-read}
+use Rattle.store.proofs.Laws.{store-read}
+use Rattle.lines.specs.Readings.{readOf}
+use Rattle.lines.proofs.Right.{read-right}
+use Rattle.lines.proofs.read.Statement.{statement}
+use Rattle.lines.proofs.read.Tie as tie
+use Rattle.lines.proofs.read.Reads as reads
+use Rattle.lines.proofs.read.Lts as lts
+use Rattle.lines.proofs.read_by.Reads as read-by-reads
+use Rattle.shape.proofs.machine.Reads as machine-reads
+
+-- src/lib.rt:256:16
+machine-requires : tie.Need-machine-requires
+machine-requires c κs = search needs
+
+-- src/lib.rt:257:13
+slice-aggregate-read-by : tie.Need-slice-aggregate-read-by
+slice-aggregate-read-by c = search needs
+
+-- src/lib.rt:257:5
+read-by-requires : tie.Need-read-by-requires
+read-by-requires c κs = search needs
+
+-- src/lib.rt:253:1
+same-length : tie.Need-same-length
+same-length c = search needs
+
+-- src/lib.rt:253:1
+returns : tie.Need-returns
+returns c =
+    let line = c .before .before .before .before .before .before .before .before .args .line .now in
+    let room = length (c .before .before .before .before .before .before .before .before .args .out .now) in
+    subst (Reads line room) (sym (c .before .before .read-by .ensures ∙ ap (λ (m : List ℕ). readOf (scannedBy m line) line room) (c .before .before .before .before .before .machine .ensures)))
+    (read-right measure-read store-read line room (omega arith) (scannedBy machineBytes line)
+    (by-machine line (λ i h. c .before .before .before .before .before .before .before .shared-slice-known .given i .fits) (omega arith)))
+
+pub read-spec : {M : Type 1} → statement M
+read-spec =
+    tie.close
+    (tie.spec machine-requires slice-aggregate-read-by read-by-requires same-length returns)

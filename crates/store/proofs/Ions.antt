@@ -1,0 +1,102 @@
+-- What is stored of an ion that is spelled. Assumes nothing.
+use Prim.Native.Nat.{ℕ, _≤_}
+use mathlib.Core.Path.{_≡_, refl, sym, ap, _∙_}
+use mathlib.Core.List.{List, [], _∷_, _++_, append-nil}
+use native.Mathlib.Omega.{arith}
+use lib.ListN.{length, drop}
+use Rattle.lang.specs.Parts.{silent, written, items, flat, wordOf}
+use Rattle.lang.specs.Mark.{In, Kept, here, later, marksOf}
+use Rattle.rules.specs.Bytes.{bytes}
+use Rattle.rules.specs.Formulas.{Written, FormulaUnit, plain, labelled, unitText, unitMap, Formula}
+use Rattle.rules.specs.Ions.{Ion, series, internal, immonium, precursor, reference, named, composed, smiles, unknown, ionText, ionMap}
+use Rattle.rules.specs.Fields.{filled}
+use Rattle.rules.specs.Limits.{maxPosition, maxCount, bare, optPart, numberPart, unitMarks, formulaPart, ionParts}
+use Rattle.rules.specs.Stored.{stores, unitRecord, kind, ionFields}
+use Rattle.rules.proofs.Keeps.{kept-tail, kept-part, row-each}
+use Rattle.rules.proofs.FitParts.{number-within}
+use Rattle.terms.specs.declared.Fault.{Fault}
+use Rattle.formulas.specs.Chains.{chain}
+use Rattle.formulas.specs.Records.{recordsOf}
+use Rattle.formulas.proofs.Chains.{AllOf, all-none, all-more}
+use Rattle.formulas.proofs.Laws.{UnitTold, records-read}
+use Rattle.pages.specs.Pages.{bytesOf}
+use Rattle.ions.proofs.Laws.{ionRead, ion-spelled-text, ion-spelled-formula}
+use Rattle.store.specs.Events.{ionEvents}
+use Rattle.store.proofs.Numbers.{number-told, label-told}
+
+-- ---- its fields
+
+pub record IonStored (x : Ion Written) (g : Fault) : Type 0 where
+  pub kind : ionRead x g .kind ≡ kind (ionMap filled x)
+  pub letter : ionRead x g .letter ≡ ionFields (ionMap filled x) .letter
+  pub position : ionRead x g .position ≡ ionFields (ionMap filled x) .position
+  pub end : ionRead x g .last ≡ ionFields (ionMap filled x) .end
+
+pub ion-stored : (x : Ion Written) (at : ℕ) (g : Fault) → Kept (marksOf at (ionParts x)) → IonStored x g
+ion-stored (series s n t) at g k =
+    let p = kept-part at (ionParts (series s n t)) k (numberPart maxPosition n) (later here) in
+    record { kind = refl; letter = refl; position = number-told n (p .0) (p .1); end = refl }
+ion-stored (internal m n t) at g k =
+    let p = kept-part at (ionParts (internal m n t)) k (numberPart maxPosition m) (later here) in
+    let q = kept-part at (ionParts (internal m n t)) k (numberPart maxPosition n) (later (later (later here))) in
+    record { kind = refl; letter = refl; position = number-told m (p .0) (p .1); end = number-told n (q .0) (q .1) }
+ion-stored (immonium a m) at g k = record { kind = refl; letter = refl; position = refl; end = refl }
+ion-stored precursor at g k = record { kind = refl; letter = refl; position = refl; end = refl }
+ion-stored (reference n) at g k = record { kind = refl; letter = refl; position = refl; end = refl }
+ion-stored (named t) at g k = record { kind = refl; letter = refl; position = refl; end = refl }
+ion-stored (composed f) at g k = record { kind = refl; letter = refl; position = refl; end = refl }
+ion-stored (smiles t) at g k = record { kind = refl; letter = refl; position = refl; end = refl }
+ion-stored (unknown n) at g k =
+    let p = kept-part at (ionParts (unknown n)) k (optPart (numberPart maxPosition) n) (later here) in
+    record { kind = refl; letter = refl; position = label-told n (p .0) (p .1); end = refl }
+
+-- ---- its units
+
+filled-within : (c : Written) (at : ℕ) → Kept (optPart (numberPart maxCount) c .marks at) → filled c .value ≤ maxCount
+filled-within silent at k = omega arith
+filled-within (written n) at k = number-within maxCount n at k
+
+unit-told : (i : ℕ) (u : FormulaUnit Written) (at : ℕ) → Kept (unitMarks i u at) → UnitTold u
+unit-told i (plain s c) at k =
+    let count = optPart (numberPart maxCount) c in
+    let p = kept-part at (bare (wordOf s) ∷ count ∷ []) (kept-tail k) count (later here) in
+    omega (arith, filled-within c (p .0) (p .1))
+unit-told i (labelled a s c) at k =
+    let ps = bare (bytes "[") ∷ numberPart maxCount a ∷ bare (wordOf s) ∷ numberPart maxCount c ∷ [] in
+    let p = kept-part at ps (kept-tail k) (numberPart maxCount a) (later here) in
+    let q = kept-part at ps (kept-tail k) (numberPart maxCount c) (later (later (later here))) in
+    (omega (arith, number-within maxCount a (p .0) (p .1)), omega (arith, number-within maxCount c (q .0) (q .1)))
+
+all-in : {A : Type 0} (P : A → Type 0) (xs : List A) → ((x : A) → In x xs → P x) → AllOf P xs
+all-in P [] h = all-none
+all-in P (x ∷ xs) h = all-more (h x here) (all-in P xs (λ y i. h y (later i)))
+
+-- the records of its units, where it has any
+ion-records : (x : Ion Written) (k : List ℕ) (at : ℕ) (g : Fault) → Kept (marksOf at (ionParts x))
+    → recordsOf (ionRead x g .units) (drop (ionRead x g .start) (ionText x ++ k)) ≡ flat (λ u. stores (unitRecord u)) (ionFields (ionMap filled x) .units)
+unfolding chain
+ion-records (series s n t) k at g h = refl
+ion-records (internal m n t) k at g h = refl
+ion-records (immonium a m) k at g h = refl
+ion-records precursor k at g h = refl
+ion-records (reference n) k at g h = refl
+ion-records (named t) k at g h = refl
+ion-records (composed f) k at g h =
+    let us = items f in
+    let p = kept-part at (ionParts (composed f)) h (formulaPart f) (later here) in
+    let told = all-in UnitTold us (λ u i. let c = row-each unitText unitMarks 0 us (p .0) (p .1) u i in unit-told (c .0) u (c .1) (c .2)) in
+    ap (recordsOf (length us)) (ion-spelled-formula f k g) ∙ records-read us (125 ∷ k) told (record { no-digit = refl; no-small = refl })
+ion-records (smiles t) k at g h = refl
+ion-records (unknown n) k at g h = refl
+
+-- ---- by section
+
+module _ (x : Ion Written) (k : List ℕ) (g : Fault) where
+  pub ion-units : (at : ℕ) → Kept (marksOf at (ionParts x))
+      → bytesOf 4 (ionEvents (ionText x ++ k) (ionRead x g)) ≡ flat (λ u. stores (unitRecord u)) (ionFields (ionMap filled x) .units)
+  unfolding ionEvents
+  ion-units at h = append-nil (recordsOf (ionRead x g .units) (drop (ionRead x g .start) (ionText x ++ k))) ∙ ion-records x k at g h
+
+  pub ion-name : bytesOf 5 (ionEvents (ionText x ++ k) (ionRead x g)) ≡ ionFields (ionMap filled x) .text
+  unfolding ionEvents
+  ion-name = append-nil _ ∙ ion-spelled-text x k g

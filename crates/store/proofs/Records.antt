@@ -1,0 +1,76 @@
+-- The record of an annotation that is spelled, field by field. Assumes nothing.
+use Prim.Native.Nat.{ℕ}
+use mathlib.Core.Path.{_≡_}
+use mathlib.Core.Bool.{Bool}
+use mathlib.Core.List.{List, [], _∷_, _++_}
+use lib.ListN.{length}
+use Rattle.lang.specs.Parts.{Opt}
+use Rattle.lang.specs.Mark.{Kept, here, later, marksOf}
+use Rattle.rules.specs.Numbers.{Number}
+use Rattle.rules.specs.Formulas.{Written}
+use Rattle.rules.specs.Ions.{ionText, ionMap}
+use Rattle.rules.specs.Losses.{Loss}
+use Rattle.rules.specs.Isotopes.{isotopesMap}
+use Rattle.rules.specs.Adducts.{Item}
+use Rattle.rules.specs.Annotations.{Annotation}
+use Rattle.rules.specs.Fields.{filled}
+use Rattle.rules.specs.Limits.{part, optPart, ionParts, analytePart, chargePart, deviationPart, confidencePart, annotationParts, annotationMarks}
+use Rattle.rules.specs.Stored.{u8, u16, u32, stores, isotopeRecords, annotationRecord}
+use Rattle.rules.proofs.Keeps.{kept-tail, kept-part}
+use Rattle.terms.specs.declared.Fault.{Fault}
+use Rattle.ions.proofs.Laws.{ionRead}
+use Rattle.tails.proofs.Laws.{deviationRead, confidenceRead}
+use Rattle.annotations.specs.declared.Front.{Front}
+use Rattle.annotations.specs.declared.Tail.{Tail}
+use Rattle.annotations.proofs.Ions.{ion-told}
+use Rattle.annotations.proofs.Laws.{frontRead, tailRead, second, third, deviationFault, confidenceFault}
+use Rattle.store.specs.declared.Rows.{Rows}
+use Rattle.store.specs.Records.{frontBytes, tailBytes, countBytes, recordBytes}
+use Rattle.store.proofs.Numbers.{analyte-told, charge-told, deviation-told, confidence-told}
+use Rattle.store.proofs.Ions.{ion-stored}
+
+-- an annotation as a table has it, with losses and adduct items in an order of their own
+abbrev pub tableOf : Annotation Written → List (Loss Number) → List (Item Number) → Annotation Number
+tableOf a ls xs =
+    record {
+      marked = a .marked;
+      analyte = a .analyte;
+      ion = ionMap filled (a .ion);
+      losses = ls;
+      isotopes = isotopesMap filled (a .isotopes);
+      adduct = xs;
+      charge = a .charge;
+      deviation = a .deviation;
+      confidence = a .confidence;
+    }
+
+-- of the annotation a, followed by k: its front is read of so many bytes from f on, its ion with fault g, its tail from h on
+module _ (a : Annotation Written) (k : List ℕ) (e1 e2 : ℕ) (f g h : Fault) where
+  abbrev pub front : Front
+  front = frontRead (a .marked) (a .analyte) (a .ion) (second a k) e1 f (ionRead (a .ion) g)
+
+  abbrev pub tail : Tail
+  tail = tailRead (a .charge) (a .deviation) (a .confidence) k e2 h
+
+  pub record-stored : (i at : ℕ) → Kept (annotationMarks i a at) → (n : Rows) (ls : List (Loss Number)) (xs : List (Item Number)) → n .losses ≡ length ls
+      → n .isotopes ≡ length (isotopeRecords (isotopesMap filled (a .isotopes))) → n .items ≡ length xs
+      → recordBytes front tail n ≡ stores (annotationRecord (tableOf a ls xs))
+  unfolding frontBytes tailBytes countBytes
+  record-stored i at kept n ls xs nl ni nx =
+      let keep = kept-part at (annotationParts a) (kept-tail kept) in
+      let pa = keep (optPart analytePart (a .analyte)) (later here) in
+      let pi = keep (part (ionText (a .ion)) (λ at. marksOf at (ionParts (a .ion)))) (later (later here)) in
+      let pc = keep (optPart chargePart (a .charge)) (later (later (later (later (later (later here)))))) in
+      let pd = keep (optPart deviationPart (a .deviation)) (later (later (later (later (later (later (later here))))))) in
+      let pe = keep (optPart confidencePart (a .confidence)) (later (later (later (later (later (later (later (later here)))))))) in
+      let an = analyte-told (a .analyte) (pa .0) (pa .1) in
+      let io = ion-stored (a .ion) (pi .0) g (pi .1) in
+      let it = ion-told (a .ion) g in
+      let ch = charge-told (a .charge) (pc .0) (pc .1) in
+      let de = deviation-told (a .deviation) (pd .0) (deviationFault (a .charge) (a .deviation) (a .confidence) k e2 h) (pd .1) in
+      let co = confidence-told (a .confidence) (pe .0) (confidenceFault (a .charge) (a .deviation) (a .confidence) k e2 h) (pe .1) in
+      λ j. stores (
+      u8 (io .kind j) ∷ u8 (front .marked) ∷ u8 (front .present) ∷ u8 (io .letter j) ∷ u16 (an j) ∷ u16 (io .position j) ∷ u16 (io .end j)
+      ∷ u8 (ch j) ∷ u8 (de .kind j) ∷ u8 (de .places j) ∷ u8 (co .kind j) ∷ u8 (co .places j) ∷ u8 0 ∷ [])
+      ++ (de .value j
+      ++ stores (u32 (co .value j) ∷ u16 (it .text j) ∷ u16 (it .units j) ∷ u8 (nl j) ∷ u8 (ni j) ∷ u8 (nx j) ∷ u8 0 ∷ []))
