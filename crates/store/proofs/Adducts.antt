@@ -1,11 +1,11 @@
 -- What is stored of an adduct that is spelled. Assumes nothing.
-use Prim.Native.Nat.{ℕ, _+_, min}
-use mathlib.Core.Path.{_≡_, refl, sym, ap, _∙_, subst}
+use Prim.Native.Nat.{ℕ, _+_}
+use mathlib.Core.Path.{_≡_, refl, sym, subst}
 use mathlib.Core.Bool.{false}
 use mathlib.Core.List.{List, [], _∷_, _++_, map, append-assoc}
 use native.Mathlib.Omega.{arith}
 use lib.Dec.{T, eqb}
-use lib.ListN.{length, length-append, length-map}
+use lib.ListN.{length, length-append}
 use Rattle.lang.specs.Parts.{flat}
 use Rattle.lang.specs.Mark.{Kept, here, later}
 use Rattle.lang.specs.Order.{Perm, same, rising}
@@ -23,11 +23,8 @@ use Rattle.terms.proofs.Ends.{ends-apart}
 use Rattle.openings.proofs.Laws.{no-sign}
 use Rattle.pieces.proofs.Laws.{EndsPieces}
 use Rattle.pages.specs.Pages.{bytesOf}
-use Rattle.arrange.specs.Gathered.{gathered}
-use Rattle.arrange.specs.Events.{noKeys}
 use Rattle.arrange.proofs.Laws.{ItemsStored, items-stored, items-no-text}
 use Rattle.arrange.proofs.Fits.{items-fit}
-use Rattle.annotations.specs.Parts.{adductLen}
 use Rattle.store.specs.Events.{adductCount, adductSize, adductEvents}
 
 -- the bytes s begin with the adduct xs; its items are stored in preferred order
@@ -57,7 +54,7 @@ adduct-stored (x ∷ xs) k at e h =
     let p = kept-part at (bare (bytes "[M") ∷ row ∷ []) h row (later here) in
     let t : w ++ (93 ∷ k) ≡ (w ++ bytes "]") ++ k = sym (append-assoc w (bytes "]") k) in
     let r : ItemsStored (map (itemMap filled) ys) ((w ++ bytes "]") ++ k) (length w) =
-        subst (λ (s : List ℕ). ItemsStored (map (itemMap filled) ys) s (length w)) t (items-stored ys (93 ∷ k) (closed k) (items-fit ys (p .0) (p .1))) in
+    subst (λ (s : List ℕ). ItemsStored (map (itemMap filled) ys) s (length w)) t (items-stored ys (93 ∷ k) (closed k) (items-fit ys (p .0) (p .1))) in
     record {
       ls = r .ls;
       same = r .same;

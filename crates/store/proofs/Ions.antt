@@ -1,13 +1,13 @@
 -- What is stored of an ion that is spelled. Assumes nothing.
 use Prim.Native.Nat.{ℕ, _≤_}
-use mathlib.Core.Path.{_≡_, refl, sym, ap, _∙_}
+use mathlib.Core.Path.{_≡_, refl, ap, _∙_}
 use mathlib.Core.List.{List, [], _∷_, _++_, append-nil}
 use native.Mathlib.Omega.{arith}
 use lib.ListN.{length, drop}
 use Rattle.lang.specs.Parts.{silent, written, items, flat, wordOf}
 use Rattle.lang.specs.Mark.{In, Kept, here, later, marksOf}
 use Rattle.rules.specs.Bytes.{bytes}
-use Rattle.rules.specs.Formulas.{Written, FormulaUnit, plain, labelled, unitText, unitMap, Formula}
+use Rattle.rules.specs.Formulas.{Written, FormulaUnit, plain, labelled, unitText}
 use Rattle.rules.specs.Ions.{Ion, series, internal, immonium, precursor, reference, named, composed, smiles, unknown, ionText, ionMap}
 use Rattle.rules.specs.Fields.{filled}
 use Rattle.rules.specs.Limits.{maxPosition, maxCount, bare, optPart, numberPart, unitMarks, formulaPart, ionParts}

@@ -1,9 +1,8 @@
 -- What is stored of an annotation that is spelled. Assumes nothing.
 use Prim.Native.Nat.{ℕ, _≤_}
-use mathlib.Core.Path.{_≡_, refl, sym, ap, ap₂, _∙_, subst}
+use mathlib.Core.Path.{_≡_, refl, sym, ap, _∙_, subst}
 use mathlib.Core.Bool.{Bool, true, false, _&&_}
-use mathlib.Core.List.{List, [], _∷_, _++_, map, append-nil}
-use native.Mathlib.Omega.{arith}
+use mathlib.Core.List.{List, [], _∷_, _++_, append-nil}
 use lib.Dec.{T}
 use lib.ListN.{length, drop}
 use Rattle.lang.specs.Parts.{flat}
@@ -35,9 +34,8 @@ use Rattle.arrange.specs.Events.{noKeys, pieceEvents}
 use Rattle.annotations.proofs.Laws.{EndsAnnotation, first, second, third, text-is}
 use Rattle.store.specs.declared.Rows.{Rows}
 use Rattle.store.specs.Records.{recordBytes}
-use Rattle.store.specs.Events.{ionEvents, adductCount, adductEvents, eventsWith, annotationEvents, annotationSize}
+use Rattle.store.specs.Events.{ionEvents, adductCount, adductEvents, annotationEvents, annotationSize}
 use Rattle.store.proofs.Ions.{ion-units, ion-name}
-use Rattle.store.proofs.Adducts.{AdductStored}
 use Rattle.store.proofs.Records.{tableOf, record-stored}
 use Rattle.store.proofs.Rests.{isotopesOn, adductOn, noFault, ionSeen, frontSeen, tailSeen, ion-at, losses-are, isotopes-are, adduct-is}
 use Rattle.store.proofs.Sections.{share-all, events-are, size-is}

@@ -1,10 +1,8 @@
 -- The record of an annotation that is spelled, field by field. Assumes nothing.
 use Prim.Native.Nat.{ℕ}
 use mathlib.Core.Path.{_≡_}
-use mathlib.Core.Bool.{Bool}
 use mathlib.Core.List.{List, [], _∷_, _++_}
 use lib.ListN.{length}
-use Rattle.lang.specs.Parts.{Opt}
 use Rattle.lang.specs.Mark.{Kept, here, later, marksOf}
 use Rattle.rules.specs.Numbers.{Number}
 use Rattle.rules.specs.Formulas.{Written}
@@ -19,11 +17,10 @@ use Rattle.rules.specs.Stored.{u8, u16, u32, stores, isotopeRecords, annotation
 use Rattle.rules.proofs.Keeps.{kept-tail, kept-part}
 use Rattle.terms.specs.declared.Fault.{Fault}
 use Rattle.ions.proofs.Laws.{ionRead}
-use Rattle.tails.proofs.Laws.{deviationRead, confidenceRead}
 use Rattle.annotations.specs.declared.Front.{Front}
 use Rattle.annotations.specs.declared.Tail.{Tail}
 use Rattle.annotations.proofs.Ions.{ion-told}
-use Rattle.annotations.proofs.Laws.{frontRead, tailRead, second, third, deviationFault, confidenceFault}
+use Rattle.annotations.proofs.Laws.{frontRead, tailRead, second, deviationFault, confidenceFault}
 use Rattle.store.specs.declared.Rows.{Rows}
 use Rattle.store.specs.Records.{frontBytes, tailBytes, countBytes, recordBytes}
 use Rattle.store.proofs.Numbers.{analyte-told, charge-told, deviation-told, confidence-told}

@@ -1,7 +1,7 @@
 -- What is read of an annotation that is spelled, and what is left behind each of its parts. Assumes nothing.
-use Prim.Native.Nat.{ℕ, _-_, _≤_}
-use mathlib.Core.Path.{_≡_, refl, sym, ap, _∙_}
-use mathlib.Core.List.{List, [], _∷_, _++_, map, append-assoc}
+use Prim.Native.Nat.{ℕ, _-_}
+use mathlib.Core.Path.{_≡_, sym, ap, _∙_}
+use mathlib.Core.List.{List, _++_, map, append-assoc}
 use native.Mathlib.Omega.{arith}
 use lib.ListN.{length, drop, length-append}
 use Rattle.lang.specs.Parts.{optText, flat}
@@ -13,7 +13,7 @@ use Rattle.rules.specs.Ions.{ionText}
 use Rattle.rules.specs.Losses.{lossText, lossMap}
 use Rattle.rules.specs.Isotopes.{isotopesText, isotopesMap}
 use Rattle.rules.specs.Adducts.{adductText}
-use Rattle.rules.specs.Annotations.{Annotation, flagText, analyteText, chargeText, deviationText, confidenceText, annotationText}
+use Rattle.rules.specs.Annotations.{Annotation, flagText, analyteText}
 use Rattle.rules.specs.Fields.{filled}
 use Rattle.rules.specs.Limits.{part, rowPart, lossMarks, isotopesMarks, adductMarks, annotationParts, annotationMarks}
 use Rattle.rules.specs.Stored.{stores, isotopeRecords}
@@ -22,16 +22,13 @@ use Rattle.terms.specs.declared.Fault.{Fault}
 use Rattle.terms.specs.Faults.{fault}
 use Rattle.isotopes.specs.Records.{Filed, filedIsotopes}
 use Rattle.isotopes.proofs.Stores.{isotopes-stored, kept-told}
-use Rattle.arrange.specs.Gathered.{gathered}
-use Rattle.arrange.specs.Events.{noKeys}
 use Rattle.arrange.proofs.Laws.{LossesStored, losses-stored}
 use Rattle.arrange.proofs.Fits.{losses-fit}
 use Rattle.annotations.specs.declared.Front.{Front}
 use Rattle.annotations.specs.declared.Tail.{Tail}
-use Rattle.annotations.specs.Groups.{before}
 use Rattle.annotations.proofs.Chains.{drop-is, drop-three}
-use Rattle.annotations.proofs.Laws.{EndsAnnotation, ionFault, prefixLength, front-read, tail-read, first, second, third, text-is, ends-middle, ends-ion, losses-ends, adduct-ends}
-use Rattle.store.specs.Events.{adductSize, behindLosses, behindIsotopes, behindAdduct, frontHere, tailHere, s1, s4, annotationSize}
+use Rattle.annotations.proofs.Laws.{EndsAnnotation, ionFault, prefixLength, front-read, tail-read, first, second, third, ends-middle, ends-ion, losses-ends, adduct-ends}
+use Rattle.store.specs.Events.{behindLosses, behindIsotopes, behindAdduct, frontHere, tailHere, s1}
 use Rattle.store.proofs.Adducts.{AdductStored, adduct-stored}
 use Rattle.store.proofs.Records.{front, tail}
 
@@ -100,7 +97,7 @@ module _ (a : Annotation Written) (k : List ℕ) where
       behind-isotopes =
           let z = ap (λ (w : Walked Filed). length (w .rest)) isotopes-are in
           let n : length isotopesOn - length (filedIsotopes isotopesOn .rest) ≡ length (isotopesText (a .isotopes)) =
-              omega (arith, z, length-append (isotopesText (a .isotopes)) adductOn) in
+          omega (arith, z, length-append (isotopesText (a .isotopes)) adductOn) in
           drop-is (isotopesText (a .isotopes)) adductOn n
 
       pub adduct-is : AdductStored (a .adduct) adductOn

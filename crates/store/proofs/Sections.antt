@@ -1,24 +1,19 @@
 -- The events of an annotation that is spelled, and the bytes of each section. Assumes nothing.
 use Prim.Native.Nat.{ℕ, _-_}
-use mathlib.Core.Path.{_≡_, refl, sym, ap, ap₂, _∙_}
-use mathlib.Core.Bool.{false}
-use mathlib.Core.List.{List, [], _∷_, _++_, map, append-nil}
+use mathlib.Core.Path.{_≡_, ap, _∙_}
+use mathlib.Core.List.{List, [], _∷_, _++_}
 use native.Mathlib.Omega.{arith}
 use lib.ListN.{length, drop, length-append}
-use Rattle.lang.specs.Parts.{optText, flat}
-use Rattle.lang.specs.Walk.{Walked}
+use Rattle.lang.specs.Parts.{optText}
 use Rattle.lang.specs.Mark.{Kept}
 use Rattle.rules.specs.Formulas.{Written}
 use Rattle.rules.specs.Annotations.{Annotation, chargeText, deviationText, confidenceText, annotationText}
 use Rattle.rules.specs.Limits.{annotationMarks}
 use Rattle.pages.specs.Pages.{Event, share, bytesOf}
 use Rattle.pages.proofs.Events.{bytes-append}
-use Rattle.annotations.specs.declared.Front.{Front}
-use Rattle.annotations.specs.declared.Tail.{Tail}
-use Rattle.annotations.specs.Groups.{before}
 use Rattle.annotations.proofs.Chains.{drop-three}
 use Rattle.annotations.proofs.Laws.{EndsAnnotation, first, second, third, text-is}
-use Rattle.store.specs.Events.{behindLosses, behindIsotopes, behindAdduct, eventsWith, frontHere, tailHere, s1, s4, annotationEvents, annotationSize}
+use Rattle.store.specs.Events.{behindLosses, behindIsotopes, behindAdduct, eventsWith, tailHere, s1, s4, annotationEvents, annotationSize}
 use Rattle.store.proofs.Rests.{isotopesOn, adductOn, frontSeen, tailSeen, front-is, behind-ion, tail-is, behind-losses, behind-isotopes, behind-adduct}
 
 -- ---- the bytes of a section, part by part

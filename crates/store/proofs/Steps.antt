@@ -1,6 +1,6 @@
 -- The steps of storing an annotation. Assumes nothing.
-use Prim.Native.Nat.{ℕ, _+_, _-_, _^_, _≤_}
-use mathlib.Core.Path.{_≡_, refl, sym, ap, ap₂, _∙_, subst}
+use Prim.Native.Nat.{ℕ, _+_, _-_, _≤_}
+use mathlib.Core.Path.{_≡_, sym, ap, ap₂, _∙_}
 use mathlib.Core.Bool.{Bool, true, false}
 use mathlib.Core.List.{List, [], _∷_, _++_}
 use native.Mathlib.Omega.{arith}
@@ -11,7 +11,7 @@ use Rattle.rules.specs.Texts.{startsWith}
 use Rattle.puts.specs.Puts.{maxPlace, Put}
 use Rattle.formulas.specs.Records.{recordsOf}
 use Rattle.pages.specs.declared.Cursors.{Cursors}
-use Rattle.pages.specs.Pages.{at, moved, Event, Ran}
+use Rattle.pages.specs.Pages.{at, moved, Ran}
 use Rattle.pages.proofs.Events.{ran-none, ran-then, ran-as}
 use Rattle.ions.specs.declared.IonRead.{IonRead}
 use Rattle.isotopes.specs.declared.IsotopesStored.{IsotopesStored}
@@ -80,7 +80,7 @@ module _ {s d : List ℕ} {c : Cursors} {a : Front} {b : Tail} {l i : Arranged} 
       let z2 : l .len ≡ gathered noKeys (s1 s) .at = losses .len ∙ (λ j. gathered noKeys (q1 j) .at) in
       let q2 : t2 ≡ behindLosses (s1 s) = e2 ∙ (λ j. drop (z2 j) (q1 j)) in
       let z3 : y .len ≡ length (behindLosses (s1 s)) - length (filedIsotopes (behindLosses (s1 s)) .rest) =
-          isotopes .len ∙ (λ j. length (q2 j) - length (filedIsotopes (q2 j) .rest)) in
+      isotopes .len ∙ (λ j. length (q2 j) - length (filedIsotopes (q2 j) .rest)) in
       let q3 : t3 ≡ behindIsotopes (behindLosses (s1 s)) = f3 ∙ (λ j. drop (z3 j) (q2 j)) in
       let z4 : i .len ≡ adductSize (behindIsotopes (behindLosses (s1 s))) = adduct .len ∙ ap adductSize q3 in
       let q4 : t4 ≡ s4 s = e4 ∙ (λ j. drop (z4 j) (q3 j)) in

@@ -18,9 +18,9 @@ use isotopes::store_isotopes;
 use pages::Cursors;
 use pages::cursor;
 use pages::with_cursor;
-use puts::put8;
 use puts::put_le;
 use puts::put_run;
+use puts::put8;
 use terms::Fault;
 use terms::less;
 use terms::rest;
@@ -138,7 +138,10 @@ fn store_adduct(out: &mut [u8], c: Cursors, s: &[u8]) -> Arranged
 pub fn store(out: &mut [u8], c: Cursors, s: &[u8]) -> Stored
     ensures { λ r. ⌜ StoresAnnotation (now (s .entry)) (now (out .entry)) c (now (out .exit)) r ⌝ }
 {
-    let none = Fault { number: 0, place: 0 };
+    let none = Fault {
+        number: 0,
+        place: 0,
+    };
     let a = read_front(s, s.len(), none);
     let x = a.ion;
     let c1 = put_ion(out, c, rest(s, a.at), x);

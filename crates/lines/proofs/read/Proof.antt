@@ -7,15 +7,13 @@ use lib.ListN.{length}
 use Rattle.rules.specs.Answers.{Reads}
 use Rattle.shape.specs.Steps.{machineBytes, scannedBy}
 use Rattle.shape.proofs.Scans.{by-machine}
-use Rattle.annotations.proofs.Laws.{measure-read}
-use Rattle.store.proofs.Laws.{store-read}
-use Rattle.lines.specs.Readings.{readOf}
-use Rattle.lines.proofs.Right.{read-right}
+use Rattle.reading.specs.Readings.{readOf}
+use Rattle.reading.proofs.Right.{read-right}
 use Rattle.lines.proofs.read.Statement.{statement}
 use Rattle.lines.proofs.read.Tie as tie
 use Rattle.lines.proofs.read.Reads as reads
 use Rattle.lines.proofs.read.Lts as lts
-use Rattle.lines.proofs.read_by.Reads as read-by-reads
+use Rattle.reading.proofs.read_by.Reads as read-by-reads
 use Rattle.shape.proofs.machine.Reads as machine-reads
 
 -- src/lib.rt:256:16
@@ -40,7 +38,7 @@ returns c =
     let line = c .before .before .before .before .before .before .before .before .args .line .now in
     let room = length (c .before .before .before .before .before .before .before .before .args .out .now) in
     subst (Reads line room) (sym (c .before .before .read-by .ensures ∙ ap (λ (m : List ℕ). readOf (scannedBy m line) line room) (c .before .before .before .before .before .machine .ensures)))
-    (read-right measure-read store-read line room (omega arith) (scannedBy machineBytes line)
+    (read-right line room (omega arith) (scannedBy machineBytes line)
     (by-machine line (λ i h. c .before .before .before .before .before .before .before .shared-slice-known .given i .fits) (omega arith)))
 
 pub read-spec : {M : Type 1} → statement M

@@ -1,42 +1,31 @@
+-- `store::put_counts` meets its contract: one field after the other. Assumes nothing.
 use Rattle.store.specs.Records.{countBytes}
 use Rattle.puts.proofs.Laws.{put-then}
 use borrow.Author.Needs.{needs}
 use Rattle.store.proofs.put_counts.Statement.{statement}
 use Rattle.store.proofs.put_counts.Tie as tie
-use Rattle.store.proofs.put_counts.Reads as reads
-use Rattle.store.proofs.put_counts.Lts as lts
-use Rattle.puts.proofs.put8.Reads as put8-reads
-use Rattle.puts.proofs.put_le.Reads as put-le-reads
 
--- src/lib.rt:79:9
 put-le-requires : tie.Need-put-le-requires
 put-le-requires c κs = search needs
 
--- src/lib.rt:80:9
 put-le-requires-2 : tie.Need-put-le-requires-2
 put-le-requires-2 c κs = search needs
 
--- src/lib.rt:81:9
 put-le-requires-3 : tie.Need-put-le-requires-3
 put-le-requires-3 c κs = search needs
 
--- src/lib.rt:82:9
 put-le-requires-4 : tie.Need-put-le-requires-4
 put-le-requires-4 c κs = search needs
 
--- src/lib.rt:83:9
 put-le-requires-5 : tie.Need-put-le-requires-5
 put-le-requires-5 c κs = search needs
 
--- src/lib.rt:84:5
 put8-requires : tie.Need-put8-requires
 put8-requires c κs = search needs
 
--- src/lib.rt:76:1
 same-length : tie.Need-same-length
 same-length c = search needs
 
--- src/lib.rt:76:1
 returns : tie.Need-returns
 unfolding countBytes
 returns c = put-then (c .before .before .before .before .before .before .before .before .before .before .before .before .before .before .before .before .before .before .before .before .before .before .put-le .ensures) (put-then (c .before .before .before .before .before .before .before .before .before .before .before .before .before .before .before .before .before .before .put-le2 .ensures) (put-then (c .before .before .before .before .before .before .before .before .before .before .before .before .before .before .put-le3 .ensures) (put-then (c .before .before .before .before .before .before .before .before .before .before .put-le4 .ensures) (put-then (c .before .before .before .before .before .before .put-le5 .ensures) (c .before .before .put8 .ensures)))))

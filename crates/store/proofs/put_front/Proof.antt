@@ -1,73 +1,55 @@
+-- `store::put_front` meets its contract: one field after the other. Assumes nothing.
 use Rattle.store.specs.Records.{frontBytes}
 use Rattle.puts.proofs.Laws.{put-then, put-length}
 use borrow.Author.Needs.{needs}
 use Rattle.store.proofs.put_front.Statement.{statement}
 use Rattle.store.proofs.put_front.Tie as tie
-use Rattle.store.proofs.put_front.Reads as reads
-use Rattle.store.proofs.put_front.Lts as lts
-use Rattle.puts.proofs.put_le.Reads as put-le-reads
 
--- src/lib.rt:50:29
 cast-put-le : tie.Need-cast-put-le
 cast-put-le c = search needs
 
--- src/lib.rt:50:9
 put-le-requires : tie.Need-put-le-requires
 put-le-requires c κs = search needs
 
--- src/lib.rt:51:28
 cast-put-le-2 : tie.Need-cast-put-le-2
 cast-put-le-2 c = search needs
 
--- src/lib.rt:51:9
 put-le-requires-2 : tie.Need-put-le-requires-2
 put-le-requires-2 c κs = search needs
 
--- src/lib.rt:52:28
 cast-put-le-3 : tie.Need-cast-put-le-3
 cast-put-le-3 c = search needs
 
--- src/lib.rt:52:9
 put-le-requires-3 : tie.Need-put-le-requires-3
 put-le-requires-3 c κs = search needs
 
--- src/lib.rt:53:28
 cast-put-le-4 : tie.Need-cast-put-le-4
 cast-put-le-4 c = search needs
 
--- src/lib.rt:53:9
 put-le-requires-4 : tie.Need-put-le-requires-4
 put-le-requires-4 c κs = search needs
 
--- src/lib.rt:54:28
 cast-put-le-5 : tie.Need-cast-put-le-5
 cast-put-le-5 c = search needs
 
--- src/lib.rt:54:9
 put-le-requires-5 : tie.Need-put-le-requires-5
 put-le-requires-5 c κs = search needs
 
--- src/lib.rt:55:28
 cast-put-le-6 : tie.Need-cast-put-le-6
 cast-put-le-6 c = search needs
 
--- src/lib.rt:55:9
 put-le-requires-6 : tie.Need-put-le-requires-6
 put-le-requires-6 c κs = search needs
 
--- src/lib.rt:56:20
 cast-put-le-7 : tie.Need-cast-put-le-7
 cast-put-le-7 c = search needs
 
--- src/lib.rt:56:5
 put-le-requires-7 : tie.Need-put-le-requires-7
 put-le-requires-7 c κs = search needs
 
--- src/lib.rt:46:1
 same-length : tie.Need-same-length
 same-length c = put-length (put-then (c .before .before .before .before .before .before .before .before .before .before .before .before .before .before .before .before .before .before .before .before .before .before .before .before .before .before .before .before .before .before .before .before .put-le .ensures) (put-then (c .before .before .before .before .before .before .before .before .before .before .before .before .before .before .before .before .before .before .before .before .before .before .before .before .before .before .before .put-le2 .ensures) (put-then (c .before .before .before .before .before .before .before .before .before .before .before .before .before .before .before .before .before .before .before .before .before .before .put-le3 .ensures) (put-then (c .before .before .before .before .before .before .before .before .before .before .before .before .before .before .before .before .before .put-le4 .ensures) (put-then (c .before .before .before .before .before .before .before .before .before .before .before .before .put-le5 .ensures) (put-then (c .before .before .before .before .before .before .before .put-le6 .ensures) (c .before .before .put-le7 .ensures)))))))
 
--- src/lib.rt:46:1
 returns : tie.Need-returns
 unfolding frontBytes
 returns c = put-then (c .before .before .before .before .before .before .before .before .before .before .before .before .before .before .before .before .before .before .before .before .before .before .before .before .before .before .before .before .before .before .before .before .put-le .ensures) (put-then (c .before .before .before .before .before .before .before .before .before .before .before .before .before .before .before .before .before .before .before .before .before .before .before .before .before .before .before .put-le2 .ensures) (put-then (c .before .before .before .before .before .before .before .before .before .before .before .before .before .before .before .before .before .before .before .before .before .before .put-le3 .ensures) (put-then (c .before .before .before .before .before .before .before .before .before .before .before .before .before .before .before .before .before .put-le4 .ensures) (put-then (c .before .before .before .before .before .before .before .before .before .before .before .before .put-le5 .ensures) (put-then (c .before .before .before .before .before .before .before .put-le6 .ensures) (c .before .before .put-le7 .ensures))))))

@@ -1,29 +1,23 @@
+-- `store::signed` meets its contract: by its sign. Assumes nothing.
 use Rattle.store.proofs.Steps.{signed-plus, signed-zero, signed-minus}
 use borrow.Author.Tests.{not-true, not-false}
 use native.Mathlib.Omega.{arith}
 use borrow.Author.Needs.{needs}
 use Rattle.store.proofs.signed.Statement.{statement}
 use Rattle.store.proofs.signed.Tie as tie
-use Rattle.store.proofs.signed.Reads as reads
-use Rattle.store.proofs.signed.Lts as lts
 
--- src/lib.rt:37:9
 returns : tie.Need-returns
 returns c = signed-plus (not-true _ (c .if1 .taken))
 
--- src/lib.rt:40:9
 returns-2 : tie.Need-returns-2
 returns-2 c = signed-zero (not-false _ (c .before .if1 .left)) (c .if2 .taken)
 
--- src/lib.rt:42:5
 sub-result : tie.Need-sub-result
 sub-result c = search needs
 
--- src/lib.rt:42:5
 add-result : tie.Need-add-result
 add-result c = search needs
 
--- src/lib.rt:33:1
 returns-3 : tie.Need-returns-3
 returns-3 c = signed-minus (not-false _ (c .before .if1 .left)) (c .if2 .left) (omega arith)
 

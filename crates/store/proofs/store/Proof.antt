@@ -1,3 +1,4 @@
+-- `store::store` meets its contract: one part after the other. Assumes nothing.
 use Rattle.store.proofs.Steps.{annotation-stored}
 use Rattle.pages.proofs.Events.{ran-length}
 use Rattle.puts.proofs.Laws.{put-length}
@@ -5,97 +6,64 @@ use mathlib.Core.Path.{_∙_}
 use borrow.Author.Needs.{needs}
 use Rattle.store.proofs.store.Statement.{statement}
 use Rattle.store.proofs.store.Tie as tie
-use Rattle.store.proofs.store.Reads as reads
-use Rattle.store.proofs.store.Lts as lts
-use Rattle.annotations.proofs.read_front.Reads as read-front-reads
-use Rattle.annotations.proofs.read_tail.Reads as read-tail-reads
-use Rattle.arrange.proofs.store_pieces.Reads as store-pieces-reads
-use Rattle.isotopes.proofs.store_isotopes.Reads as store-isotopes-reads
-use Rattle.pages.proofs.cursor.Reads as cursor-reads
-use Rattle.pages.proofs.with_cursor.Reads as with-cursor-reads
-use Rattle.store.proofs.put_annotation.Reads as put-annotation-reads
-use Rattle.store.proofs.put_ion.Reads as put-ion-reads
-use Rattle.store.proofs.store_adduct.Reads as store-adduct-reads
-use Rattle.terms.proofs.less.Reads as less-reads
-use Rattle.terms.proofs.rest.Reads as rest-reads
 
--- src/lib.rt:142:9
 read-front-requires : tie.Need-read-front-requires
 read-front-requires c κs = search needs
 
--- src/lib.rt:144:30
 rest-requires : tie.Need-rest-requires
 rest-requires c κs = search needs
 
--- src/lib.rt:144:9
 put-ion-requires : tie.Need-put-ion-requires
 put-ion-requires c κs = search needs
 
--- src/lib.rt:145:9
 rest-requires-2 : tie.Need-rest-requires-2
 rest-requires-2 c κs = search needs
 
--- src/lib.rt:146:9
 store-pieces-requires : tie.Need-store-pieces-requires
 store-pieces-requires c κs = search needs
 
--- src/lib.rt:148:9
 rest-requires-3 : tie.Need-rest-requires-3
 rest-requires-3 c κs = search needs
 
--- src/lib.rt:149:37
 cursor-requires : tie.Need-cursor-requires
 cursor-requires c κs = search needs
 
--- src/lib.rt:149:9
 store-isotopes-requires : tie.Need-store-isotopes-requires
 store-isotopes-requires c κs = search needs
 
--- src/lib.rt:150:9
 with-cursor-requires : tie.Need-with-cursor-requires
 with-cursor-requires c κs = search needs
 
--- src/lib.rt:151:9
 rest-requires-4 : tie.Need-rest-requires-4
 rest-requires-4 c κs = search needs
 
--- src/lib.rt:152:9
 store-adduct-requires : tie.Need-store-adduct-requires
 store-adduct-requires c κs = search needs
 
--- src/lib.rt:154:9
 rest-requires-5 : tie.Need-rest-requires-5
 rest-requires-5 c κs = search needs
 
--- src/lib.rt:155:9
 read-tail-requires : tie.Need-read-tail-requires
 read-tail-requires c κs = search needs
 
--- src/lib.rt:161:36
 cursor-requires-2 : tie.Need-cursor-requires-2
 cursor-requires-2 c κs = search needs
 
--- src/lib.rt:161:9
 put-annotation-requires : tie.Need-put-annotation-requires
 put-annotation-requires c κs = search needs
 
--- src/lib.rt:163:28
 rest-requires-6 : tie.Need-rest-requires-6
 rest-requires-6 c κs = search needs
 
--- src/lib.rt:163:14
 less-requires : tie.Need-less-requires
 less-requires c κs = search needs
 
--- src/lib.rt:164:18
 with-cursor-requires-2 : tie.Need-with-cursor-requires-2
 with-cursor-requires-2 c κs = search needs
 
--- src/lib.rt:138:1
 same-length : tie.Need-same-length
 same-length c = put-length (c .before .before .before .before .before .put-annotation .ensures) ∙ ran-length (c .before .before .before .before .before .before .before .before .before .before .before .before .before .store-adduct .ensures .ran) ∙ put-length (c .before .before .before .before .before .before .before .before .before .before .before .before .before .before .before .before .before .before .before .store-isotopes .ensures .put) ∙ ran-length (c .before .before .before .before .before .before .before .before .before .before .before .before .before .before .before .before .before .before .before .before .before .before .before .before .before .before .store-pieces .ensures .ran) ∙ ran-length (c .before .before .before .before .before .before .before .before .before .before .before .before .before .before .before .before .before .before .before .before .before .before .before .before .before .before .before .before .before .before .before .put-ion .ensures)
 
--- src/lib.rt:138:1
 returns : tie.Need-returns
 returns c = annotation-stored (c .before .before .before .before .before .before .before .before .before .before .before .before .before .before .before .before .before .before .before .before .before .before .before .before .before .before .before .before .before .before .before .before .before .before .before .read-front .ensures) (c .before .before .before .before .before .before .before .before .before .before .before .before .before .before .before .before .before .before .before .before .before .before .before .before .before .before .before .before .before .before .before .before .rest .ensures) (c .before .before .before .before .before .before .before .before .before .before .before .before .before .before .before .before .before .before .before .before .before .before .before .before .before .before .before .before .before .before .before .put-ion .ensures) (c .before .before .before .before .before .before .before .before .before .before .before .before .before .before .before .before .before .before .before .before .before .before .before .before .before .before .before .before .rest2 .ensures) (c .before .before .before .before .before .before .before .before .before .before .before .before .before .before .before .before .before .before .before .before .before .before .before .before .before .before .store-pieces .ensures) (c .before .before .before .before .before .before .before .before .before .before .before .before .before .before .before .before .before .before .before .before .before .before .rest3 .ensures) (c .before .before .before .before .before .before .before .before .before .before .before .before .before .before .before .before .before .before .before .before .cursor .ensures) (c .before .before .before .before .before .before .before .before .before .before .before .before .before .before .before .before .before .before .before .store-isotopes .ensures) (c .before .before .before .before .before .before .before .before .before .before .before .before .before .before .before .before .with-cursor .ensures) (c .before .before .before .before .before .before .before .before .before .before .before .before .before .before .before .rest4 .ensures) (c .before .before .before .before .before .before .before .before .before .before .before .before .before .store-adduct .ensures) (c .before .before .before .before .before .before .before .before .before .rest5 .ensures) (c .before .before .before .before .before .before .before .before .read-tail .ensures) (c .before .before .before .before .before .before .cursor2 .ensures) (c .before .before .before .before .before .put-annotation .ensures) (c .with-cursor2 .ensures) (c .before .before .rest6 .ensures) (c .before .less .ensures)
 

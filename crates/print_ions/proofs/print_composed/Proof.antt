@@ -1,0 +1,55 @@
+use Rattle.print_ions.specs.Ions.{composedText}
+use Rattle.formulas.specs.Preferred.{printedUnits}
+use Prim.Native.Nat.{ℕ}
+use mathlib.Core.Path.{ap}
+use Rattle.puts.proofs.Laws.{put-then, put-as}
+use borrow.Author.Needs.{needs}
+use Rattle.print_ions.proofs.print_composed.Statement.{statement}
+use Rattle.print_ions.proofs.print_composed.Tie as tie
+use Rattle.print_ions.proofs.print_composed.Reads as reads
+use Rattle.print_ions.proofs.print_composed.Lts as lts
+use Rattle.formulas.proofs.print_units.Reads as print-units-reads
+use Rattle.print_ions.proofs.ion_units.Reads as ion-units-reads
+use Rattle.puts.proofs.put8.Reads as put8-reads
+use Rattle.puts.proofs.put_run.Reads as put-run-reads
+
+-- src/lib.rt:126:30
+slice-aggregate-put-run : tie.Need-slice-aggregate-put-run
+slice-aggregate-put-run c = search needs
+
+-- src/lib.rt:126:9
+put-run-requires : tie.Need-put-run-requires
+put-run-requires c κs = search needs
+
+-- src/lib.rt:127:36
+ion-units-requires : tie.Need-ion-units-requires
+ion-units-requires c κs = search needs
+
+-- src/lib.rt:127:9
+print-units-requires : tie.Need-print-units-requires
+print-units-requires c κs = search needs
+
+-- src/lib.rt:128:5
+put8-requires : tie.Need-put8-requires
+put8-requires c κs = search needs
+
+-- src/lib.rt:123:1
+same-length : tie.Need-same-length
+same-length c = search needs
+
+-- src/lib.rt:123:1
+returns : tie.Need-returns
+unfolding composedText
+returns c = put-then (c .before .before .before .before .before .before .before .before .before .before .before .put-run .ensures) (put-then (put-as (c .before .before .before .before .before .before .print-units .ensures) (ap (λ (n : ℕ). printedUnits n (c .before .before .before .before .before .before .before .before .before .before .before .before .before .before .before .before .before .args .u .now)) (c .before .before .before .before .before .before .before .ion-units .ensures))) (c .before .before .put8 .ensures))
+
+pub print-composed-spec : {M : Type 1} → statement M
+print-composed-spec =
+    tie.close
+    (tie.spec
+    slice-aggregate-put-run
+    put-run-requires
+    ion-units-requires
+    print-units-requires
+    put8-requires
+    same-length
+    returns)

@@ -1,0 +1,30 @@
+-- Pieces of an ion's text as its record says. Assumes nothing.
+use Prim.Native.Nat.{ℕ}
+use mathlib.Core.List.{List, [], _∷_, map}
+use lib.ListN.{getD, drop}
+use Rattle.rules.specs.Bytes.{bytes}
+use Rattle.rules.specs.Texts.{inBraces, inBrackets}
+use Rattle.rules.specs.Ions.{seriesNames}
+use Rattle.rules.specs.Limits.{maxUnits, maxText}
+use Rattle.formulas.specs.Records.{wordOf}
+use Rattle.prints.specs.Numbers.{upTo}
+
+-- the name of a series, 1 to 13; nothing for another number
+unfoldable pub seriesText : ℕ → List ℕ
+seriesText n = getD ([] ∷ map bytes seriesNames) n []
+
+-- a text or name that is there
+abbrev pub bracesText : List ℕ → List ℕ
+bracesText [] = []
+bracesText (b ∷ w) = inBraces (b ∷ w)
+
+abbrev pub bracketsText : List ℕ → List ℕ
+bracketsText [] = []
+bracketsText (b ∷ w) = inBrackets (b ∷ w)
+
+-- how many units, and how many bytes of text; no more than the limits allow
+unfoldable pub ionUnits : List ℕ → ℕ
+ionUnits s = upTo (wordOf (drop 30 s)) maxUnits
+
+unfoldable pub ionBytes : List ℕ → ℕ
+ionBytes s = upTo (wordOf (drop 28 s)) maxText

@@ -1,0 +1,37 @@
+-- Cursors that go ahead in a table: what is left from them on. Assumes nothing.
+use Prim.Native.Nat.{ℕ, _+_, _≤_, min}
+use mathlib.Core.Path.{_≡_, sym, ap, _∙_, subst}
+use mathlib.Core.List.{List}
+use native.Mathlib.Omega.{arith}
+use native.Mathlib.Decide.{decLe}
+use lib.ListN.{length, drop, drop-of-length-le}
+use lib.Seq.{drop-drop}
+use Rattle.print_ions.specs.Texts.{ionUnits}
+
+-- a place past the end drops all there is
+pub drop-min : (l : List ℕ) (n : ℕ) → drop (min n (length l)) l ≡ drop n l
+drop-min l n = by (decLe n (length l))
+  where
+    by : Dec (n ≤ length l) → drop (min n (length l)) l ≡ drop n l
+    by (yes h) = let e : min n (length l) ≡ n = omega arith in ap (λ (m : ℕ). drop m l) e
+    by (no h) =
+        let e : min n (length l) ≡ length l = omega arith in
+        ap (λ (m : ℕ). drop m l) e ∙ drop-of-length-le l {i = length l} (omega arith) ∙ sym (drop-of-length-le l {i = n} (omega arith))
+
+-- n bytes further
+pub ahead-drop : (s : List ℕ) (a n : ℕ) {m : ℕ} → m ≡ min (a + n) (length s) → drop m s ≡ drop n (drop a s)
+ahead-drop s a n e = ap (λ (m : ℕ). drop m s) e ∙ drop-min s (a + n) ∙ sym (drop-drop n a s)
+
+-- as far as what is left goes
+pub ahead-part : (s : List ℕ) (a n : ℕ) (x : List ℕ) {k m : ℕ} → m ≡ min (a + k) (length s) → drop a s ≡ x → k ≡ min n (length x) → drop m s ≡ drop n x
+ahead-part s a n x {k} e f g = ahead-drop s a k e ∙ ap (drop k) f ∙ ap (λ (j : ℕ). drop j x) g ∙ drop-min x n
+
+-- no more units than the limits allow
+pub few-units : (s : List ℕ) → ionUnits s ≤ 12
+unfolding ionUnits
+few-units s = omega arith
+
+-- the same of the same
+pub same-of : (Q : ℕ → List ℕ → List ℕ → List ℕ → Type 0) {n m : ℕ} {a b c x y z : List ℕ} → Q n a b c → n ≡ m → a ≡ x → b ≡ y → c ≡ z → Q m x y z
+same-of Q {n} {m} {a} {b} {c} {x} {y} {z} q e f g h =
+    subst (λ (w : List ℕ). Q m x y w) h (subst (λ (w : List ℕ). Q m x w c) g (subst (λ (w : List ℕ). Q m w b c) f (subst (λ (k : ℕ). Q k a b c) e q)))

@@ -1,0 +1,5 @@
+pub mod Cursors
+pub mod Steps
+pub mod Parts
+pub mod Sections
+pub mod Laws

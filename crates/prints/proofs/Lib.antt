@@ -1,0 +1,9 @@
+pub mod Pieces
+pub mod Turns
+pub mod Words
+pub mod Rows
+pub mod Stored
+pub mod Isotopes
+pub mod Tails
+pub mod Sound
+pub mod Laws

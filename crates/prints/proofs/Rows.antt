@@ -1,0 +1,149 @@
+-- What is printed of pieces in a row: losses, or adduct items. Assumes nothing.
+use Prim.Native.Nat.{ℕ, suc, _+_, _*_, _/_, _%_, _≤_, min}
+use mathlib.Core.Path.{_≡_, refl, sym, ap, ap₂, _∙_}
+use mathlib.Core.List.{List, [], _∷_, _++_, append-assoc, map}
+use native.Mathlib.Omega.{arith}
+use lib.ListN.{length, drop, take, length-append}
+use lib.Seq.{drop-append-seam, take-append-seam}
+use Rattle.lang.specs.Parts.{flat}
+use Rattle.lang.specs.Mark.{In, here, later}
+use Rattle.rules.specs.Bytes.{bytes}
+use Rattle.rules.specs.Numbers.{Number}
+use Rattle.rules.specs.Texts.{inBrackets}
+use Rattle.rules.specs.Formulas.{FormulaUnit, plain, labelled, unitText, unitMap}
+use Rattle.rules.specs.Losses.{Sign, minus, plus, signText}
+use Rattle.rules.specs.Preferred.{shortened, signRank}
+use Rattle.rules.specs.Stored.{Field, u8, u16, stores, unitRecord}
+use Rattle.formulas.specs.Records.{wordOf}
+use Rattle.formulas.specs.Preferred.{printedUnits}
+use Rattle.formulas.proofs.Chains.{AllOf, all-none, all-more}
+use Rattle.formulas.proofs.Laws.{UnitUpTo, printed-read}
+use Rattle.prints.specs.Numbers.{countText}
+use Rattle.prints.specs.Pieces.{signBytes, pieceUnits, pieceName, whatText, pieceText, piecesText, unitBytes, nameBytes}
+use Rattle.prints.proofs.Words.{word-stored}
+
+-- ---- lists
+
+pub all-in : {A : Type 0} {P : A → Type 0} (xs : List A) → ((x : A) → In x xs → P x) → AllOf P xs
+all-in [] h = all-none
+all-in (x ∷ xs) h = all-more (h x here) (all-in xs (λ y i. h y (later i)))
+
+flat-append : {A B : Type 0} (f : A → List B) (xs ys : List A) → flat f (xs ++ ys) ≡ flat f xs ++ flat f ys
+flat-append f [] ys = refl
+flat-append f (x ∷ xs) ys = ap (λ l. f x ++ l) (flat-append f xs ys) ∙ sym (append-assoc (f x) (flat f xs) (flat f ys))
+
+-- without a part of a known length
+drop-part : (n : ℕ) (l m : List ℕ) → n ≡ length l → drop n (l ++ m) ≡ m
+drop-part n l m e = ap (λ (k : ℕ). drop k (l ++ m)) e ∙ drop-append-seam l m
+
+-- ---- units
+
+abbrev pub unitRows : List (FormulaUnit Number) → List ℕ
+unitRows us = flat (λ u. stores (unitRecord u)) us
+
+unit-row : (u : FormulaUnit Number) → length (stores (unitRecord u)) ≡ 6
+unit-row (plain s c) = refl
+unit-row (labelled a s c) = refl
+
+unit-rows : (us : List (FormulaUnit Number)) → length (unitRows us) ≡ 6 * length us
+unit-rows [] = refl
+unit-rows (u ∷ us) = omega (arith, length-append (stores (unitRecord u)) (unitRows us), unit-row u, unit-rows us)
+
+-- ---- one piece
+
+-- bytes are the record of a piece that has these units, this name and this text, whatever follows them
+pub record Tells (row : List ℕ) (us : List (FormulaUnit Number)) (name text : List ℕ) : Type 0 where
+  pub long : 6 ≡ length row
+  pub units : (l : List ℕ) → pieceUnits (row ++ l) ≡ length us
+  pub names : (l : List ℕ) → pieceName (row ++ l) ≡ length name
+  pub texts : (l u t : List ℕ) → pieceText (row ++ l) (unitRows us ++ u) (name ++ t) ≡ text
+
+-- sign, kind, count, units or name bytes
+abbrev pub pieceRecord : ℕ → ℕ → ℕ → ℕ → List Field
+pieceRecord sign kind count size = u8 sign ∷ u8 kind ∷ u16 count ∷ u16 size ∷ []
+
+pub sign-told : (s : Sign) → signBytes (signRank s % 256) ≡ signText s
+sign-told minus = refl
+sign-told plus = refl
+
+module _ (sign : Sign) (count : ℕ) (h : count ≤ 65535) (c : List ℕ) (says : countText count ≡ c) where
+  told : (kind size : ℕ) (l u t w : List ℕ) → whatText (stores (pieceRecord (signRank sign) kind count size) ++ l) u t ≡ w
+      → pieceText (stores (pieceRecord (signRank sign) kind count size) ++ l) u t ≡ signText sign ++ (c ++ w)
+  unfolding pieceText
+  told kind size l u t w e =
+      ap₂ (λ (a b : List ℕ). a ++ b) (sign-told sign)
+      (ap₂ (λ (a b : List ℕ). a ++ b)
+      (ap countText (word-stored count (drop 4 (stores (pieceRecord (signRank sign) kind count size) ++ l)) h) ∙ says) e)
+
+  pub formula-told : (us : List (FormulaUnit Number)) (size : ℕ) → size ≡ length us → length us ≤ 12 → AllOf (UnitUpTo 65535) us
+      → Tells (stores (pieceRecord (signRank sign) 0 count size)) us [] (signText sign ++ (c ++ flat unitText (map (unitMap shortened) us)))
+  unfolding pieceUnits pieceName whatText
+  formula-told us size e few a =
+      let n : (l : List ℕ) → min (wordOf (size % 256 ∷ size / 256 % 256 ∷ l)) 12 ≡ length us = λ l. omega (arith, word-stored size l (omega arith)) in
+      record {
+        long = refl;
+        units = n;
+        names = λ l. refl;
+        texts = λ l u t.
+            told 0 size l (unitRows us ++ u) t (flat unitText (map (unitMap shortened) us))
+            (ap (λ (m : ℕ). printedUnits m (unitRows us ++ u)) (n l) ∙ printed-read us u a);
+      }
+
+  pub name-told : (name : List ℕ) (size : ℕ) → size ≡ length name → length name ≤ 255
+      → Tells (stores (pieceRecord (signRank sign) 1 count size)) [] name (signText sign ++ (c ++ inBrackets name))
+  unfolding pieceUnits pieceName whatText
+  name-told name size e short =
+      let n : (l : List ℕ) → min (wordOf (size % 256 ∷ size / 256 % 256 ∷ l)) 255 ≡ length name = λ l. omega (arith, word-stored size l (omega arith)) in
+      record {
+        long = refl;
+        units = λ l. refl;
+        names = n;
+        texts = λ l u t.
+            told 1 size l u (name ++ t) (inBrackets name)
+            (ap inBrackets (ap (λ (m : ℕ). take m (name ++ t)) (n l) ∙ take-append-seam name t));
+      }
+
+  pub electron-told : Tells (stores (pieceRecord (signRank sign) 2 count 0)) [] [] (signText sign ++ (c ++ bytes "e"))
+  unfolding pieceUnits pieceName whatText
+  electron-told = record { long = refl; units = λ l. refl; names = λ l. refl; texts = λ l u t. told 2 0 l u t (bytes "e") refl }
+
+-- ---- pieces in a row
+
+-- n pieces whose records l begins with, and what they have
+pub record Printed (n : ℕ) (l u t : List ℕ) (us : List (FormulaUnit Number)) (w text : List ℕ) : Type 0 where
+  pub texts : piecesText n l u t ≡ text
+  pub units : unitBytes n l ≡ 6 * length us
+  pub names : nameBytes n l ≡ length w
+
+-- the first and the others, each as bytes laid before what follows
+more-printed : (n : ℕ) (r l u t : List ℕ) (us vs : List (FormulaUnit Number)) (w names one many : List ℕ) → Tells r us w one
+    → Printed n l u t vs names many → Printed (suc n) (r ++ l) (unitRows us ++ u) (w ++ t) (us ++ vs) (w ++ names) (one ++ many)
+unfolding piecesText unitBytes nameBytes
+more-printed n r l u t us vs w names one many p q =
+    let dl = drop-part 6 r l (p .long) in
+    let k = p .units l in
+    let m = p .names l in
+    let du : drop (6 * pieceUnits (r ++ l)) (unitRows us ++ u) ≡ u = drop-part (6 * pieceUnits (r ++ l)) (unitRows us) u (omega (arith, unit-rows us, k)) in
+    let dt : drop (pieceName (r ++ l)) (w ++ t) ≡ t = drop-part (pieceName (r ++ l)) w t m in
+    record {
+      texts =
+          ap₂ (λ (a b : List ℕ). a ++ b) (p .texts l u t)
+          (ap (λ (z : List ℕ). piecesText n z (drop (6 * pieceUnits (r ++ l)) (unitRows us ++ u)) (drop (pieceName (r ++ l)) (w ++ t))) dl
+          ∙ ap₂ (piecesText n l) du dt ∙ q .texts);
+      units =
+          ap (λ (z : List ℕ). 6 * pieceUnits (r ++ l) + unitBytes n z) dl ∙ omega (arith, k, q .units, length-append us vs);
+      names =
+          ap (λ (z : List ℕ). pieceName (r ++ l) + nameBytes n z) dl ∙ omega (arith, m, q .names, length-append w names);
+    }
+
+module _ {X : Type 0} (row : X → List ℕ) (units : X → List (FormulaUnit Number)) (name text : X → List ℕ) where
+  pub pieces-printed : (xs : List X) (kl ku kt : List ℕ) → ((x : X) → In x xs → Tells (row x) (units x) (name x) (text x))
+      → Printed (length xs) (flat row xs ++ kl) (unitRows (flat units xs) ++ ku) (flat name xs ++ kt) (flat units xs) (flat name xs) (flat text xs)
+  unfolding piecesText unitBytes nameBytes
+  pieces-printed [] kl ku kt h = record { texts = refl; units = refl; names = refl }
+  pieces-printed (x ∷ xs) kl ku kt h =
+      let us = unitRows (units x) in
+      let vs = unitRows (flat units xs) in
+      rw (append-assoc (row x) (flat row xs) kl, flat-append (λ u. stores (unitRecord u)) (units x) (flat units xs), append-assoc us vs ku, append-assoc (name x) (flat name xs) kt)
+      (more-printed (length xs) (row x) (flat row xs ++ kl) (vs ++ ku) (flat name xs ++ kt) (units x) (flat units xs) (name x) (flat name xs) (text x) (flat text xs)
+      (h x here) (pieces-printed xs kl ku kt (λ y i. h y (later i))))

@@ -1,0 +1,28 @@
+-- `prints::name_of` meets its contract. Assumes nothing.
+use Rattle.prints.proofs.Pieces.{name-some, name-none}
+use borrow.Author.Needs.{needs}
+use Rattle.prints.proofs.name_of.Statement.{statement}
+use Rattle.prints.proofs.name_of.Tie as tie
+
+byte-of-requires : tie.Need-byte-of-requires
+byte-of-requires c κs = search needs
+
+rest-requires : tie.Need-rest-requires
+rest-requires c κs = search needs
+
+word-at-requires : tie.Need-word-at-requires
+word-at-requires c κs = search needs
+
+at-most-requires : tie.Need-at-most-requires
+at-most-requires c κs = search needs
+
+returns : tie.Need-returns
+returns c = name-some (c .before .before .before .before .before .before .args .l .now) (c .before .before .before .before .byte-of .ensures) (c .before .before .before .if1 .taken) (c .before .before .rest .ensures) (c .before .word-at .ensures) (c .at-most .ensures)
+
+returns-2 : tie.Need-returns-2
+returns-2 c = name-none (c .before .before .before .args .l .now) (c .before .byte-of .ensures) (c .if1 .left)
+
+pub name-of-spec : {M : Type 1} → statement M
+name-of-spec =
+    tie.close
+    (tie.spec byte-of-requires rest-requires word-at-requires at-most-requires returns returns-2)

@@ -1,0 +1,52 @@
+-- `prints::print_confidence` meets its contract. Assumes nothing.
+use native.Mathlib.Omega.{arith}
+use Rattle.puts.proofs.Laws.{put-none, put-then, put-as}
+use Rattle.prints.proofs.Pieces.{confidence-none, confidence-some}
+use borrow.Author.Needs.{needs}
+use Rattle.prints.proofs.print_confidence.Statement.{statement}
+use Rattle.prints.proofs.print_confidence.Tie as tie
+
+byte-of-requires : tie.Need-byte-of-requires
+byte-of-requires c κs = search needs
+
+returns : tie.Need-returns
+returns c = put-as (put-none (omega arith) (omega arith)) (confidence-none (c .before .before .before .before .args .s .now) (c .before .byte-of .ensures) (c .if1 .taken))
+
+put8-requires : tie.Need-put8-requires
+put8-requires c κs = search needs
+
+rest-requires : tie.Need-rest-requires
+rest-requires c κs = search needs
+
+quad-at-requires : tie.Need-quad-at-requires
+quad-at-requires c κs = search needs
+
+cast-t13 : tie.Need-cast-t13
+cast-t13 c = search needs
+
+byte-of-requires-2 : tie.Need-byte-of-requires-2
+byte-of-requires-2 c κs = search needs
+
+put-decimal-requires : tie.Need-put-decimal-requires
+put-decimal-requires c κs = search needs
+
+same-length : tie.Need-same-length
+same-length c = search needs
+
+returns-2 : tie.Need-returns-2
+returns-2 c = put-as (put-then (c .before .before .before .before .before .before .before .before .before .put8 .ensures) (c .before .before .put-decimal .ensures)) (confidence-some (c .before .before .before .before .before .before .before .before .before .before .before .before .before .before .before .args .s .now) (c .before .before .before .before .before .before .before .before .before .before .before .before .byte-of .ensures) (c .before .before .before .before .before .before .before .before .before .before .before .if1 .left) (c .before .before .before .before .before .rest .ensures) (c .before .before .before .before .quad-at .ensures) (c .before .before .before .byte-of2 .ensures))
+
+pub print-confidence-spec : {M : Type 1} → statement M
+print-confidence-spec =
+    tie.close
+    (tie.spec
+    byte-of-requires
+    returns
+    put8-requires
+    rest-requires
+    quad-at-requires
+    cast-t13
+    byte-of-requires-2
+    put-decimal-requires
+    same-length
+    returns-2)

@@ -1,0 +1,61 @@
+-- `prints::print_isotopes` meets its contract. Assumes nothing.
+use borrow.Author.Needs.{needs}
+use Prim.Native.Nat.{_-_}
+use native.Mathlib.Omega.{arith}
+use mathlib.Core.Path.{ap}
+use lib.ListN.{drop}
+use Rattle.prints.specs.Isotopes.{isotopeText}
+use Rattle.formulas.specs.Chains.{chain}
+use Rattle.puts.proofs.Turns.{Going}
+use Rattle.formulas.proofs.Turns.{chain-begins, chain-turn, chain-ends}
+use Rattle.prints.proofs.print_isotopes.Statement.{statement}
+use Rattle.prints.proofs.print_isotopes.Tie as tie
+
+abbrev Inv-loop : tie.InvT-loop
+Inv-loop out₀ to s n at₀ from₀ i₀ out at from i = Going out₀ to (chain isotopeText (λ r. 8) n s) out at (chain isotopeText (λ r. 8) (n - i) (drop from s))
+
+abbrev μ-loop : tie.MeasureT-loop
+μ-loop out₀ to s n at₀ from₀ i₀ out at from i = n - i
+
+loop-holds : tie.Need-loop-holds Inv-loop μ-loop
+loop-holds c = chain-begins isotopeText (λ r. 8) _ _ (omega arith) (omega arith)
+
+rest-requires : tie.Need-rest-requires Inv-loop μ-loop
+rest-requires c κs = search needs
+
+print-isotope-requires : tie.Need-print-isotope-requires Inv-loop μ-loop
+print-isotope-requires c κs = search needs
+
+ahead-requires : tie.Need-ahead-requires Inv-loop μ-loop
+ahead-requires c κs = search needs
+
+add-i : tie.Need-add-i Inv-loop μ-loop
+add-i c = search needs
+
+loop-less : tie.Need-loop-less Inv-loop μ-loop
+loop-less c = search needs
+
+loop-again : tie.Need-loop-again Inv-loop μ-loop
+loop-again c = chain-turn isotopeText (λ r. 8) _ _ (c .before .before .before .before .before .before .before .loop .from) (c .before .before .before .before .before .before .before .loop .inv) (c .before .before .before .before .before .before .loop-test .taken) (c .before .before .before .print-isotope .ensures) (ap isotopeText (c .before .before .before .before .rest .ensures)) (c .ahead .ensures)
+
+same-length : tie.Need-same-length Inv-loop μ-loop
+same-length c = c .before .loop .inv .same
+
+returns : tie.Need-returns Inv-loop μ-loop
+returns c = chain-ends isotopeText (λ r. 8) _ _ (c .before .loop .from) (c .before .loop .inv) (c .loop-test .left)
+
+pub print-isotopes-spec : {M : Type 1} → statement M
+print-isotopes-spec =
+    tie.close
+    (tie.spec
+    Inv-loop
+    μ-loop
+    loop-holds
+    rest-requires
+    print-isotope-requires
+    ahead-requires
+    add-i
+    loop-less
+    loop-again
+    same-length
+    returns)

@@ -1,0 +1,30 @@
+-- `prints::print_tail` meets its contract. Assumes nothing.
+use Rattle.puts.proofs.Laws.{put-then}
+use borrow.Author.Needs.{needs}
+use Rattle.prints.proofs.print_tail.Statement.{statement}
+use Rattle.prints.proofs.print_tail.Tie as tie
+
+print-charge-requires : tie.Need-print-charge-requires
+print-charge-requires c κs = search needs
+
+print-deviation-requires : tie.Need-print-deviation-requires
+print-deviation-requires c κs = search needs
+
+print-confidence-requires : tie.Need-print-confidence-requires
+print-confidence-requires c κs = search needs
+
+same-length : tie.Need-same-length
+same-length c = search needs
+
+returns : tie.Need-returns
+returns c = put-then (c .before .before .before .before .before .before .before .before .before .before .print-charge .ensures) (put-then (c .before .before .before .before .before .before .print-deviation .ensures) (c .before .before .print-confidence .ensures))
+
+pub print-tail-spec : {M : Type 1} → statement M
+print-tail-spec =
+    tie.close
+    (tie.spec
+    print-charge-requires
+    print-deviation-requires
+    print-confidence-requires
+    same-length
+    returns)

@@ -1,0 +1,12 @@
+pub mod Loops
+pub mod Firsts
+pub mod Turns
+pub mod Storing
+pub mod Answered
+pub mod Steps
+pub mod Folds
+pub mod Through
+pub mod Filled
+pub mod Numbered
+pub mod Counted
+pub mod Right

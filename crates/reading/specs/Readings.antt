@@ -1,0 +1,66 @@
+-- The answer to a line whose shape was judged, by what is counted of it. Assumes nothing.
+use Prim.Native.Nat.{ℕ}
+use mathlib.Core.Path.{_≡_}
+use mathlib.Core.Bool.{cond}
+use mathlib.Core.List.{List}
+use lib.Dec.{eqb, ltb}
+use lib.ListN.{length, replicate}
+use lib.Seq.{sets}
+use Rattle.rules.specs.Limits.{maxLine}
+use Rattle.rules.specs.Answers as rules
+use Rattle.rules.specs.Answers.{refuses}
+use Rattle.terms.specs.declared.Fault.{Fault}
+use Rattle.pages.specs.declared.Counts.{Counts}
+use Rattle.pages.specs.Pages.{run}
+use Rattle.pages.specs.Headers.{startsOf, endAt, headerBytes}
+use Rattle.shape.specs.declared.Verdict.{Verdict}
+use Rattle.shape.specs.declared.Verdict.the-variants.{Fine, Short, Stray}
+use Rattle.reading.specs.declared.Answer.{Answer}
+use Rattle.reading.specs.declared.Totals.{Totals}
+use Rattle.reading.specs.Totals.{totalsOf}
+use Rattle.reading.specs.Stores.{lineEvents}
+
+-- the answer of the paper, with the bytes of the output
+abbrev pub answered : Answer → List ℕ → rules.Answer
+answered r out = record { number = r .number; place = r .place; size = r .len; out = out }
+
+abbrev pub refusedOf : ℕ → ℕ → Answer
+refusedOf number place = record { number = number; place = place; len = 0 }
+
+-- 4 and 5, then 6, then 7
+unfoldable pub firstOf : Totals → Fault
+firstOf t = cond (eqb (t .limit .number) 0) (cond (eqb (t .breach .number) 0) (t .excess) (t .breach)) (t .limit)
+
+abbrev pub countsIn : Totals → Counts
+countsIn t =
+    record { annotations = t .annotations; losses = t .losses; isotopes = t .isotopes; items = t .items; units = t .units; text = t .text }
+
+-- header and sections, over the output d
+abbrev pub tableOver : List ℕ → List ℕ → Counts → List ℕ
+tableOver d line n = run (sets d 0 (headerBytes n)) (startsOf n) (lineEvents line)
+
+abbrev pub storedOver : List ℕ → List ℕ → Counts → rules.Answer
+storedOver d line n =
+    cond (ltb (length d) (endAt n))
+    (record { number = 8; place = endAt n; size = 0; out = d })
+    (record { number = 0; place = 0; size = endAt n; out = tableOver d line n })
+
+abbrev pub countedOver : List ℕ → List ℕ → Totals → rules.Answer
+countedOver d line t =
+    let f = firstOf t in cond (eqb (f .number) 0) (storedOver d line (countsIn t)) (record { number = f .number; place = f .place; size = 0; out = d })
+
+-- of a line with a shape, into an output d
+unfoldable pub spelledOver : List ℕ → List ℕ → rules.Answer
+spelledOver d line = countedOver d line (totalsOf line)
+
+pub record ReadsSpelled (line d e : List ℕ) (r : Answer) : Type 0 where
+  pub is : answered r e ≡ spelledOver d line
+
+-- of a line whose shape was judged, into an output d
+abbrev pub anyOver : List ℕ → Verdict → List ℕ → rules.Answer
+anyOver d Fine line = spelledOver d line
+anyOver d Short line = record { number = 3; place = length line; size = 0; out = d }
+anyOver d (Stray place) line = record { number = 2; place = place; size = 0; out = d }
+
+unfoldable pub readOf : Verdict → List ℕ → ℕ → rules.Answer
+readOf v line room = cond (ltb maxLine (length line)) (refuses room 1 maxLine) (anyOver (replicate room 0) v line)

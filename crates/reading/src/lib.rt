@@ -1,0 +1,255 @@
+// A line read: measured, then stored. Document 01, "Numbers of refusal": reading tests 1; then 2 or 3; then 4 and 5; then 6; 7; 8.
+ghost use mathlib.Core.Path.{_≡_};
+ghost use lib.ListN.{length};
+ghost use Rattle.shape.specs.Steps.{scannedBy};
+ghost use Rattle.reading.specs.Totals.{nothing, noted, summed, addOf, totalsOf};
+ghost use Rattle.reading.specs.Stores.{StoresNext, StoresLine};
+ghost use Rattle.reading.specs.Readings.{answered, firstOf, countsIn, refusedOf, ReadsSpelled, anyOver, readOf};
+use annotations::ONE;
+use annotations::measure;
+use openings::ahead;
+use pages::Counts;
+use pages::Cursors;
+use pages::put_header;
+use pages::size_of;
+use puts::clear;
+use shape::Verdict;
+use shape::scan_by;
+use store::store;
+use terms::Fault;
+use terms::begins_with;
+use terms::less;
+use terms::rest;
+
+// How many bytes a line may have.
+pub const MAX_LINE: usize = 4096;
+
+// The number of refusal, or 0; its place, or the bytes needed; and how many bytes of the output were written.
+pub struct Answer {
+    pub number: u8,
+    pub place: usize,
+    pub len: usize,
+}
+
+// What was counted of the annotations up to `at`: how many of each kind, the sum of confidences in billionths, the first broken limit,
+// the first annotation that breaks a rule, the first that takes the sum past 1.
+pub struct Totals {
+    pub annotations: usize,
+    pub losses: usize,
+    pub isotopes: usize,
+    pub items: usize,
+    pub units: usize,
+    pub text: usize,
+    pub sum: u64,
+    pub limit: Fault,
+    pub breach: Fault,
+    pub excess: Fault,
+    pub at: usize,
+}
+
+// How far storing has come.
+pub struct Going {
+    pub at: usize,
+    pub cursors: Cursors,
+}
+
+// ---- measuring
+
+fn before_all() -> Totals
+    ensures { λ r. ⌜ r ≡ nothing ⌝ }
+{
+    let none = Fault { number: 0, place: 0 };
+    Totals {
+        annotations: 0,
+        losses: 0,
+        isotopes: 0,
+        items: 0,
+        units: 0,
+        text: 0,
+        sum: 0,
+        limit: none,
+        breach: none,
+        excess: none,
+        at: 0,
+    }
+}
+
+// A broken rule counts where none was before it.
+fn note(f: Fault, number: u8, place: usize, kept: bool) -> Fault
+    ensures { λ r. ⌜ r ≡ noted f number place kept ⌝ }
+{
+    if f.number != 0 {
+        return f;
+    }
+    if kept {
+        return f;
+    }
+    Fault { number, place }
+}
+
+// A sum of billionths, or the largest number where it would not fit.
+fn sum_of(sum: u64, share: u64) -> u64
+    ensures { λ r. ⌜ r ≡ summed sum share ⌝ }
+{
+    if u64::MAX - sum < share {
+        return u64::MAX;
+    }
+    sum + share
+}
+
+// One annotation more, which begins at a place.
+fn add(t: Totals, line: &[u8], from: usize) -> Totals
+    ensures { λ r. ⌜ r ≡ addOf (now (line .entry)) t from ⌝ }
+{
+    let s = rest(line, from);
+    let place = less(line.len(), s.len());
+    let limit = t.limit;
+    let breach = t.breach;
+    let excess = t.excess;
+    let m = measure(t.annotations, s, line.len(), limit);
+    let fault = m.fault;
+    let sum = sum_of(t.sum, m.share);
+    Totals {
+        annotations: ahead(t.annotations, 1, usize::MAX),
+        losses: ahead(t.losses, m.losses, usize::MAX),
+        isotopes: ahead(t.isotopes, m.isotopes, usize::MAX),
+        items: ahead(t.items, m.items, usize::MAX),
+        units: ahead(t.units, m.units, usize::MAX),
+        text: ahead(t.text, m.text, usize::MAX),
+        sum,
+        limit: fault,
+        breach: note(breach, 6, place, m.kept),
+        excess: note(excess, 7, place, sum <= ONE),
+        at: ahead(from, m.len, line.len()),
+    }
+}
+
+// All annotations of a line.
+fn total(line: &[u8]) -> Totals
+    ensures { λ r. ⌜ r ≡ totalsOf (now (line .entry)) ⌝ }
+{
+    let none = before_all();
+    if line.len() < 1 {
+        return none;
+    }
+    let mut t = add(none, line, 0);
+    while begins_with(rest(line, t.at), b',') {
+        let more = add(t, line, ahead(t.at, 1, line.len()));
+        t = more;
+    }
+    t
+}
+
+// ---- storing
+
+// The annotation that begins at a place.
+fn store_next(out: &mut [u8], c: Cursors, line: &[u8], from: usize) -> Going
+    ensures { λ r. ⌜ StoresNext (now (line .entry)) from (now (out .entry)) c (now (out .exit)) r ⌝ }
+{
+    let x = store(out, c, rest(line, from));
+    let cursors = x.cursors;
+    Going {
+        at: ahead(from, x.len, line.len()),
+        cursors,
+    }
+}
+
+// All annotations of a line.
+fn store_all(out: &mut [u8], c: Cursors, line: &[u8])
+    ensures { λ r. ⌜ StoresLine (now (line .entry)) (now (out .entry)) c (now (out .exit)) ⌝ }
+{
+    if line.len() < 1 {
+        return;
+    }
+    let mut t = store_next(out, c, line, 0);
+    while begins_with(rest(line, t.at), b',') {
+        let here = t.cursors;
+        let more = store_next(out, here, line, ahead(t.at, 1, line.len()));
+        t = more;
+    }
+}
+
+// ---- reading
+
+pub fn refuse(number: u8, place: usize) -> Answer
+    ensures { λ r. ⌜ r ≡ refusedOf number place ⌝ }
+{
+    Answer {
+        number,
+        place,
+        len: 0,
+    }
+}
+
+// The first refusal by 4 to 7 of what was counted.
+fn first_refusal(t: Totals) -> Fault
+    ensures { λ r. ⌜ r ≡ firstOf t ⌝ }
+{
+    let limit = t.limit;
+    if limit.number != 0 {
+        return limit;
+    }
+    let breach = t.breach;
+    if breach.number != 0 {
+        return breach;
+    }
+    t.excess
+}
+
+fn counts(t: Totals) -> Counts
+    ensures { λ r. ⌜ r ≡ countsIn t ⌝ }
+{
+    Counts {
+        annotations: t.annotations,
+        losses: t.losses,
+        isotopes: t.isotopes,
+        items: t.items,
+        units: t.units,
+        text: t.text,
+    }
+}
+
+// A line with a shape, into a cleared output.
+fn read_spelled(line: &[u8], out: &mut [u8]) -> Answer
+    ensures { λ r. ⌜ ReadsSpelled (now (line .entry)) (now (out .entry)) (now (out .exit)) r ⌝ }
+{
+    let t = total(line);
+    let f = first_refusal(t);
+    if f.number != 0 {
+        return refuse(f.number, f.place);
+    }
+    let n = counts(t);
+    let size = size_of(n);
+    if out.len() < size {
+        return refuse(8, size);
+    }
+    let c = put_header(out, n);
+    store_all(out, c, line);
+    Answer {
+        number: 0,
+        place: 0,
+        len: size,
+    }
+}
+
+// A line of any length, by a lent machine, into a cleared output.
+pub fn read_any(machine: &[u8], line: &[u8], out: &mut [u8]) -> Answer
+    ensures { λ r. ⌜ answered r (now (out .exit)) ≡ anyOver (now (out .entry)) (scannedBy (now (machine .entry)) (now (line .entry))) (now (line .entry)) ⌝ }
+{
+    match scan_by(machine, line) {
+        Verdict::Fine => read_spelled(line, out),
+        Verdict::Short => refuse(3, line.len()),
+        Verdict::Stray(place) => refuse(2, place),
+    }
+}
+
+// A line by a lent machine: whoever has many lines makes the machine once.
+pub fn read_by(machine: &[u8], line: &[u8], out: &mut [u8]) -> Answer
+    ensures { λ r. ⌜ answered r (now (out .exit)) ≡ readOf (scannedBy (now (machine .entry)) (now (line .entry))) (now (line .entry)) (length (now (out .entry))) ⌝ }
+{
+    clear(out);
+    if MAX_LINE < line.len() {
+        return refuse(1, MAX_LINE);
+    }
+    read_any(machine, line, out)
+}
