@@ -1,5 +1,8 @@
-// Lines of input: where a line feed stands.
-ghost use Rattle.feeds.specs.Feeds.{LineEnd};
+// Lines of input in a buffer: where a line feed stands, and what stays in the buffer of a line that goes on.
+ghost use Prim.Native.Nat.{_-_, min};
+ghost use mathlib.Core.Path.{_≡_};
+ghost use lib.ListN.{take, drop};
+ghost use Rattle.feeds.specs.Feeds.{LineEnd, Kept};
 
 // How many bytes stand before the first line feed; all of them where there is none.
 pub fn line_end(bytes: &[u8]) -> usize
@@ -13,4 +16,41 @@ pub fn line_end(bytes: &[u8]) -> usize
         at += 1;
     }
     at
+}
+
+// How many of `all` bytes stand behind the first `from`, and `most` where they are more.
+pub fn behind(all: usize, from: usize, most: usize) -> usize
+    ensures { λ r. ⌜ r ≡ min (all - from) most ⌝ }
+{
+    if all < from {
+        return 0;
+    }
+    if all - from < most {
+        return all - from;
+    }
+    most
+}
+
+// The n bytes from a place on, as far as there are so many.
+pub fn stretch<'a>(s: &'a [u8], from: usize, n: usize) -> &'a [u8]
+    ensures { λ r. ⌜ now r ≡ take n (drop from (now (s .entry))) ⌝ }
+{
+    if from < s.len() {
+        let end = from + behind(s.len(), from, n);
+        return &s[from..end];
+    }
+    &s[..0]
+}
+
+// The n bytes from a place on, as far as there are so many, moved to the front; how many they are.
+pub fn keep(buf: &mut [u8], from: usize, n: usize) -> usize
+    ensures { λ r. ⌜ Kept (now (buf .entry)) from n (now (buf .exit)) r ⌝ }
+{
+    let kept = behind(buf.len(), from, n);
+    let mut done: usize = 0;
+    while done < kept {
+        buf[done] = buf[from + done];
+        done += 1;
+    }
+    kept
 }

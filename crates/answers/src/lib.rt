@@ -1,0 +1,75 @@
+// The programs `reads` and `rooms`: lines of standard input are read, and each is answered by number, place and length, and the table
+// in hexadecimal digits, `-` where there is none. Lines end at line feeds, and the last may lack its own. What is read and written
+// cannot be stated; these functions are proved safe and ending.
+use feeds::behind;
+use feeds::stretch;
+use reading::Answer;
+use reading::read_by;
+use numbers::read_number;
+use streams::Stream;
+use streams::flush;
+use streams::next_line;
+use streams::room;
+use tells::put_answer;
+
+// How many bytes a table needs at most.
+pub const TABLE: usize = 21340;
+
+// The longest answer: three numbers of at most 20 digits, each with a blank; the table; a line feed.
+const ANSWER: usize = 64 + 2 * TABLE;
+
+// All lines. Where they are sized, each begins with the length of its output, a number of at most 21,340, and a blank; else the output
+// is as long as any table needs.
+pub fn answer_lines(sized: bool) {
+    let machine = shape::machine();
+    let mut buf = io::large_buffer();
+    let mut out = io::large_buffer();
+    let mut table = [0u8; TABLE];
+    all(&machine, &mut buf, &mut out, &mut table, sized);
+}
+
+// Line after line, until none comes. A proved loop has to end, so it counts down from a number that no run uses up.
+fn all(machine: &[u8], buf: &mut [u8], out: &mut [u8], table: &mut [u8], sized: bool) {
+    let mut s = next_line(buf, out, Stream::begin());
+    let mut turns = u64::MAX;
+    while turns > 0 {
+        if !s.found {
+            flush(out, s.waiting);
+            return;
+        }
+        let said = one_line(machine, buf, out, table, s, sized);
+        s = next_line(buf, out, said);
+        turns -= 1;
+    }
+}
+
+// The line that was found is answered.
+fn one_line(
+    machine: &[u8],
+    buf: &[u8],
+    out: &mut [u8],
+    table: &mut [u8],
+    s: Stream,
+    sized: bool,
+) -> Stream {
+    let at = room(out, s.waiting, ANSWER);
+    let line = stretch(buf, s.from, s.len);
+    let a = read_one(machine, line, table, sized);
+    let end = put_answer(out, at, a, table);
+    s.answered(end)
+}
+
+fn read_one(machine: &[u8], line: &[u8], table: &mut [u8], sized: bool) -> Answer {
+    if sized {
+        return read_sized(machine, line, table);
+    }
+    read_by(machine, line, table)
+}
+
+// The line behind a number and a blank, into so many bytes.
+fn read_sized(machine: &[u8], asked: &[u8], table: &mut [u8]) -> Answer {
+    let n = read_number(asked);
+    let line = stretch(stretch(asked, n.len, asked.len()), 1, asked.len());
+    let bytes = behind(n.value as usize, 0, table.len());
+    read_by(machine, line, &mut table[..bytes])
+}

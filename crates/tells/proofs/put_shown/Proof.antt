@@ -1,0 +1,28 @@
+-- `tells::put_shown` meets its contract. Assumes nothing.
+use Rattle.tells.proofs.Texts.{shown-none, shown-some}
+use Rattle.puts.proofs.Laws.{put-as}
+use borrow.Author.Needs.{needs}
+use Rattle.tells.proofs.put_shown.Statement.{statement}
+use Rattle.tells.proofs.put_shown.Tie as tie
+
+put8-requires : tie.Need-put8-requires
+put8-requires c κs = search needs
+
+same-length : tie.Need-same-length
+same-length c = search needs
+
+returns : tie.Need-returns
+returns c = put-as (c .before .before .put8 .ensures) (shown-none (c .before .before .before .before .before .before .before .args .s .now) (c .before .before .before .before .if1 .taken))
+
+put-hex-requires : tie.Need-put-hex-requires
+put-hex-requires c κs = search needs
+
+same-length-2 : tie.Need-same-length-2
+same-length-2 c = search needs
+
+returns-2 : tie.Need-returns-2
+returns-2 c = put-as (c .before .before .put-hex .ensures) (shown-some (c .before .before .before .before .before .before .before .args .s .now) (c .before .before .before .before .if1 .left))
+
+pub put-shown-spec : {M : Type 1} → statement M
+put-shown-spec =
+    tie.close (tie.spec put8-requires same-length returns put-hex-requires same-length-2 returns-2)

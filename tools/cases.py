@@ -1,0 +1,636 @@
+#!/usr/bin/env python3
+"""The cases of the programs `reads` and `rooms`: their inputs, and what the rules say of them in words.
+
+    python3 tools/cases.py                   writes crates/reads/stdin and crates/rooms/stdin
+    python3 tools/cases.py --check           holds the stored outputs to what is stated here; prints differences
+    python3 tools/cases.py --with PROGRAM    makes the stored outputs by a reader of lines, then checks
+
+PROGRAM reads lines from standard input and prints `NUMBER PLACE LENGTH HEX` for each, HEX being `-` where there is no table;
+with `--out N` it does so with an output of N bytes. It is a reader other than this repository's, so that two readers agree on the
+stored outputs. A line has any bytes but the line feed. Each case is a line with its answer, where document 01 or a reading in
+docs/DECISIONS.md states it (`no` a refusal, `yes` a table), or without one (`ask`).
+"""
+import itertools
+import os
+import subprocess
+import sys
+
+ROOT = os.path.join(os.path.dirname(os.path.abspath(__file__)), "..", "crates")
+ROOM = 21340
+
+lines = []    # in order
+stated = {}   # line: (number, place)
+sizes = {}    # line: bytes of its table
+equal = []    # lines that read to one table
+unequal = []  # lines that read to two
+texts = {}    # line: the bytes of its text section
+units = {}    # line: its units, (nucleons, atomic number, count)
+
+
+def raw(line):
+    return line if isinstance(line, bytes) else line.encode("ascii")
+
+
+def ask(line):
+    line = raw(line)
+    assert b"\n" not in line
+    lines.append(line)
+    return line
+
+
+def state(line, number, place):
+    """A line may come up more than once, with one answer."""
+    assert stated.setdefault(line, (number, place)) == (number, place), line
+    return line
+
+
+def no(line, number, place):
+    state(ask(line), number, place)
+
+
+def yes(line, size=None):
+    line = state(ask(line), 0, 0)
+    if size is not None:
+        sizes[line] = size
+
+
+def same(first, *others):
+    """All read, to the table of the first."""
+    for line in (first, *others):
+        yes(line)
+    equal.append([raw(line) for line in (first, *others)])
+
+
+def differ(a, b):
+    yes(a)
+    yes(b)
+    unequal.append((raw(a), raw(b)))
+
+
+def text(line, expected):
+    yes(line)
+    texts[raw(line)] = raw(expected)
+
+
+def made_of(line, *expected):
+    yes(line)
+    units[raw(line)] = list(expected)
+
+
+def joined(n, annotation):
+    return ",".join([annotation] * n)
+
+
+def rotations(head, parts, tail=""):
+    """The parts in every order, or in some where they are many."""
+    orders = itertools.permutations(parts) if len(parts) < 5 else [parts[i:] + parts[:i] for i in range(len(parts))]
+    return [head + "".join(order) + tail for order in orders]
+
+
+def examples():
+    """Lines that document 01 names, in its order."""
+    yes("", 28)
+    yes("y1", 64)
+    same("y5-H2O-NH3", "y5-NH3-H2O")
+    same("y2+i", "y2+1i")
+    no("y2+1H", 2, 4)
+    yes("IC[M+H]", 28 + 36 + 6 + 6)
+    text("IC[M2]", "M2")
+    no("y7-H2O+i^2[M+NH4]", 2, 10)
+    yes("y7-H2O+i[M+NH4]^2")
+    no("y1,", 3, 3)
+    no("y1, y2", 2, 3)
+    yes("y1,y2", 28 + 72)
+    no("y1^1", 3, 4)
+    yes("y1^12")
+    yes("y1*0.7,b2*0.2,z3*0.1")
+    no("y1*0.7,b2*0.301", 7, 7)
+    yes("y65535")
+    no("y65536", 4, 1)
+    no("y2+i+H", 2, 4)
+    no("y1/+0.2", 2, 3)
+    for line in ("y1/-0.0", "m1:3", "s{CN=C=O}"):
+        no(line, 6, 0)
+    made_of("y5-H2[18O1][M+Na]", (0, 1, 2), (18, 8, 1), (0, 11, 1))
+    same("y5-H2O-NH3/0.20ppm", "y5-NH3-H2O/0.20ppm")
+    differ("y5-H2O-H2O", "y5-2H2O")
+    differ("y1/0.70", "y1/0.7")
+    differ("y1*0.70", "y1*0.7")
+    differ("y1-CHO", "y1-HCO")
+    differ("y1+i13C+i15N", "y1+i15N+i13C")
+    differ("y1,b2", "b2,y1")
+    text("_{a,b/c},y1", "a,b/c")
+
+
+def readings():
+    """Lines that the readings name, in their order."""
+    no("_{" + "x" * 4094, 3, 4096)
+    no("y99999999999", 4, 1)
+    no("y1^1/0.1", 2, 4)
+    no("y1-1", 3, 4)
+    yes("y1-10H")
+    yes("y1-1i")
+    no("y1-1[a]", 2, 4)
+    no("y1^0", 2, 3)
+    no("00@p", 2, 1)
+    yes("0@p")
+    no("IC[M+x]", 2, 5)
+    no("IC[M-x]", 2, 5)
+    text("IC[M]", "M")
+    no("IC[M+H]-H2O", 2, 7)
+    no("IC[M+H][M+H]", 2, 7)
+    text("IC[M2][M+H]", "M2")
+    text("r[2H1]", "2H1")
+    text("r[M+H]", "M+H")
+    text("IC[+58.005]", "+58.005")
+    made_of("y1-[2H1]", (2, 1, 1))
+    text("y1-[M+H]", "M+H")
+    no("y1-[2-x]", 2, 5)
+    no("y1+i13C+i,p", 2, 9)
+    yes("y1+i13C+i13C,p")
+    no("y1+iAu", 2, 5)
+    for empty, place in (("_{}", 2), ("s{}", 2), ("f{}", 2), ("y1{}", 3), ("m2:3{}", 5), ("r[]", 2), ("IC[]", 3), ("y1-[]", 4), ("y1[]", 3), ("y1[M]", 4)):
+        no(empty, 2, place)
+    no("y1*100000000000", 6, 0)
+    no("y1/-0.0000000000", 4, 4)
+    no("y1/-0.000000000", 6, 0)
+    no("y1/-0.0ppm", 6, 0)
+    yes("y1/-0.000000001ppm")
+    yes("y1/0")
+    yes("y1/0.0ppm")
+    yes("y1*0")
+    no("," .join(["p"] * 16 + ["65536@p"]), 5, 32)
+    no(",".join(["p"] * 16 + ["&65536@p"]), 5, 32)
+    no(",".join(["p"] * 16 + ["y65536"]), 5, 32)
+    no(",".join(["p"] * 15 + ["65536@p"]), 4, 30)
+    no(",".join(["p"] * 15 + ["65536@p", "p"]), 4, 30)
+    no("y1\r", 2, 2)
+    text("y1-[Hex]-[HexNAc]", "HexNAcHex")
+    text("y1-[Hexose]-[Hex]-[HexNAc]", "HexNAcHexHexose")
+    made_of("y1-C2-C[13C1]", (0, 6, 1), (13, 6, 1), (0, 6, 2))
+    made_of("y1-H2O-H2[18O1]", (0, 1, 2), (18, 8, 1), (0, 1, 2), (0, 8, 1))
+    same("y1-10H+H", "y1+H-10H")
+    same("y1-2H-10H", "y1-10H-2H")
+
+
+def specification():
+    """The examples of mzPAF 1.0, in its order, and those that are refused."""
+    for line in (
+        "y1/-1.4ppm y1/-0.0002 ? ?^3 ?+2i^4 ?17 ?17+i/1.45ppm ?17-H2O/-0.87ppm c12-H^2 z12+H^2 0@b2{LL} 0@y1{K} 0@b2{LC[Carbamidomethyl]} "
+        "0@b1{[Acetyl]-M} 0@y4{M[Oxidation]ACK}-CH4OS[M+H+Na]^2 m3:6 b3-C2H3NO b3-[Carbamidomethyl] m3:6-CO m3:6-CO-H2O^2 m3:4/1.1ppm,m4:5/1.1ppm "
+        "m3:5 IY IH IL-CH2 IC[Carbamidomethyl] IY[Phospho] IC[+58.005] p^4 p+H^3 p^3 p+2H^2 p^2 p+H^2 p+3H p+2H p+H p r[TMT127N] r[iTRAQ114] "
+        "r[TMT6plex] r[Hex] r[Adenine] f{C16H22O} f{C16H22O}+i^3 f{C15[13C1]H22O}^3 s{CN=C=O}[M+H]/-0.55ppm "
+        "s{COc(c1)cccc1C#N}[M+H+Na]^2/1.29ppm y2+CO-H2O y2-H2O-NH3 p-[Hex] p-[TMT6plex]-2H2O-HPO3 p-2[iTRAQ115] p-[iTRAQ116]-CO-H2O-HPO3 y2-[2H1]-NH3 "
+        "y5-H2[18O1][M+Na] y2+i13C y2+3i15N y2+2i13C+i15N y2+iA y2+2iA y5-H2O[M+H+Na]^2 y6[M+[2H2]]^2 y5[M+[15N1]H4] &1@y7/-0.002 &y7/-0.001 "
+        "y7/0.000*0.95 b6-H2O/-0.005,&y7/0.003 y12-H2O^2/7.4ppm*0.70 m5:8-H2O/14.4ppm p/-1.7ppm"
+    ).split(" "):
+        yes(line)
+    text("_{Urocanic Acid}", "Urocanic Acid")
+    no("m1:3", 6, 0)
+    no("m3:4/1.1ppm, m4:5/1.1ppm", 2, 12)
+    no("p^1", 3, 3)
+    no("y2+iN", 2, 4)
+    no("1@y7-H2O+i^2[M+NH4]/-0.2ppm*0.5", 2, 12)
+
+
+def lengths():
+    """The line's own bound; what stands in a longer line plays no part."""
+    full = ["_{" + "x" * 252 + "}"] * 15 + ["_{" + "x" * 253 + "}"]
+    yes(",".join(full), 28 + 16 * 36 + 4033)
+    no(",".join(full[:-1] + ["_{" + "x" * 254 + "}"]), 1, 4096)
+    no("_{" + "x" * 4093 + "}", 5, 257)
+    no("_{" + "x" * 4093 + "\x7f", 2, 4095)
+    no("\x7f" + "x" * 4095, 2, 0)
+    for length in (4097, 5000, 8192, 8193, 65536, 140000):
+        no("x" * length, 1, 4096)
+    no("y1" * 2049, 1, 4096)
+    yes("y1")
+
+
+def counted():
+    """So many of each, and one more."""
+    yes(joined(16, "p"), 28 + 16 * 36)
+    no(joined(17, "p"), 5, 32)
+    no(joined(16, "p") + ",&p", 5, 32)
+    no(joined(40, "y1"), 5, 48)
+    for sign in "+-":
+        yes("y1" + (sign + "H") * 8)
+        no("y1" + (sign + "H") * 9, 5, 18)
+        no("y1" + (sign + "2[Hex]") * 9, 5, 2 + 8 * 7)
+        yes("y1" + (sign + "i13C") * 4)
+        no("y1" + (sign + "i13C") * 5, 5, 22)
+        yes("y1[M" + (sign + "H") * 4 + "]")
+        no("y1[M" + (sign + "H") * 5 + "]", 5, 12)
+        no("y1[M" + (sign + "e") * 5 + "]", 5, 12)
+    for unit in ("H", "He2", "[13C1]"):
+        n = len(unit)
+        yes("f{" + unit * 12 + "}")
+        no("f{" + unit * 13 + "}", 5, 2 + 12 * n)
+        yes("y1-" + unit * 12)
+        no("y1-" + unit * 13, 5, 3 + 12 * n)
+        yes("y1[M+" + unit * 12 + "]")
+        no("y1[M+" + unit * 13 + "]", 5, 5 + 12 * n)
+    yes("f{" + "H" * 12 + "}" + ("-" + "H" * 12) * 8 + "[M" + ("+" + "H" * 12) * 4 + "]", 28 + 36 + 8 * 6 + 4 * 6 + 13 * 12 * 6)
+    no("y1" + ("-" + "H" * 12) * 7 + "-" + "H" * 13, 5, 2 + 7 * 13 + 1 + 12)
+    for head, tail in (("_{", "}"), ("s{", "}[M+H]"), ("y1{", "}"), ("m2:3{", "}"), ("IC[", "]"), ("r[", "]"), ("y1-[", "]"), ("y1+2[", "]")):
+        text(head + "x" * 255 + tail, "x" * 255)
+        no(head + "x" * 256 + tail, 5, len(head) + 255)
+    yes(joined(15, "y1"))
+
+
+def numbered():
+    """Numbers at their bound and past it."""
+    for head, most, tail in (
+        ("", 65535, "@p"), ("&", 65535, "@y1"), ("y", 65535, ""), ("da", 65535, ""), ("m2:", 65535, ""), ("?", 65535, ""),
+        ("f{H", 999, "}"), ("f{CHe", 999, "O}"), ("f{[13C", 999, "]}"), ("f{[", 999, "C1]}"),
+        ("y1-", 999, "H"), ("y1+", 999, "[Hex]"), ("y1-H", 999, ""), ("y1-[", 999, "C1]"), ("y1-[13C", 999, "]"), ("y1-H-H-C2O", 999, ""),
+        ("y1+", 999, "i"), ("y1-", 999, "iA"), ("y1+", 999, "i13C"), ("y1+i", 999, "C"), ("y1+i13C-i", 999, "N"), ("y1+i13C-", 999, "i15N"),
+        ("y1[M+", 999, "H]"), ("y1[M-", 999, "e]"), ("y1[M+H", 999, "]"), ("y1[M+[", 999, "C1]]"), ("y1[M+[13C", 999, "]]"), ("y1[M+Na-", 999, "e]"),
+        ("y1^", 255, ""), ("p[M+H]^", 255, "/0.1"),
+    ):
+        yes(head + str(most) + tail)
+        for past in (most + 1, most * 10, 1000000, 4294967296 + 7, 18446744073709551616 + 2, 10**40 + 3):
+            no(head + str(past) + tail, 4, len(head))
+    yes("m65535:65535")
+    no("m65536:65537", 4, 1)
+    no("m65536:2", 4, 1)
+    no("m1:65536", 4, 3)
+    for head, tail in (("y1/", ""), ("y1/-", "ppm"), ("y1/", "ppm*0.5")):
+        for fits in ("0.123456789", "1.000000000", "123.123456789", "123456789012", "12345678901.2", "999999999999", "0.100000000", "999.999999999"):
+            yes(head + fits + tail)
+        for past in ("0.1234567890", "1.0000000000", "1234.123456789", "1234567890123", "12345678901.23", "9" * 30, "0." + "0" * 30 + "1", "0.1" + "0" * 9):
+            no(head + past + tail, 4, len(head))
+    for fits in ("0.123456789", "1.000000000", "0.000000000", "1", "0", "0.000000001", "1.0"):
+        yes("y1*" + fits)
+    for past in ("0.1234567890", "1.0000000000", "1234567890123", "0.00000000001", "1234.123456789"):
+        no("y1*" + past, 4, 3)
+    for over in ("1.000000001", "1.1", "2", "10", "999999999999", "123.123456789", "18446744073", "18446744073.1", "100000000000"):
+        no("y1*" + over, 6, 0)
+
+
+def together():
+    """Several breaches in one line."""
+    no("y65536" + "-H" * 9, 4, 1)
+    no("y1" + "-H" * 9 + "^256", 5, 18)
+    no("y1-1000H" + "-H" * 8, 4, 3)
+    no("y1" + "-H" * 8 + "-1000H", 5, 18)
+    no("y1" + "-H" * 7 + "-1000H-H", 4, 17)
+    no("_{" + "x" * 256 + "},y65536", 5, 257)
+    no("y65536,_{" + "x" * 256 + "}", 4, 1)
+    no("y1^256,f{" + "H" * 13 + "}", 4, 3)
+    no("f{" + "H" * 13 + "},y1^256", 5, 14)
+    no("f{H1000" + "H" * 12 + "}", 4, 3)
+    no("f{" + "H" * 12 + "H1000}", 5, 14)
+    no("f{" + "H" * 11 + "H1000H}", 4, 14)
+    no("f{" + "H" * 12 + "[1000C1000]}", 5, 14)
+    no("f{[1000C1000]}", 4, 3)
+    no("y1+1000i1000C", 4, 3)
+    no("y1" + "+i13C" * 4 + "+1000i1000C", 5, 22)
+    no("y1[M+H+H+H+H+1000H]", 5, 12)
+    no("y1[M+1000H+H+H+H+H]", 4, 5)
+    no("y1-[" + "x" * 256 + "]^256", 5, 4 + 255)
+    no("65536@y65536^256", 4, 0)
+    no("y1/0.1234567890*0.1234567890", 4, 3)
+    no("y1*0.1234567890,b65536", 4, 3)
+    no("y1,b65536,y1*0.1234567890", 4, 4)
+    no(joined(16, "y1") + ",y65536", 5, 48)
+    no(joined(15, "y1") + ",y65536,y1", 4, 46)
+    # 2 and 3 before 4 and 5
+    no("y65536#", 2, 6)
+    no("y65536,", 3, 7)
+    no("m1:3#", 2, 4)
+    no(joined(17, "p") + ",", 3, 34)
+    no(joined(17, "p") + "^1", 3, 35)
+    # 4 and 5 before 6
+    no("m1:3,y65536", 4, 6)
+    no("m1:65536", 4, 3)
+    no("m3:2^256", 4, 5)
+    no("s{" + "x" * 256 + "}", 5, 257)
+    no("y1/-0.0*2" + ",p" * 16, 5, 40)
+    no("y1*2,b1^256", 4, 8)
+    # 6 before 7, wherever they stand
+    no("m1:3*0.7,y1*0.7", 6, 0)
+    no("y1*0.7,m1:3*0.7", 6, 7)
+    no("y1*0.7,b1*0.7,m1:3", 6, 14)
+    no("y1*0.7,b1*0.7,s{C}", 6, 14)
+    no("y1*0.7,b1*0.7,z1/-0", 6, 14)
+    no("y1*0.7,b1*1.7", 6, 7)
+    no("y1*0.7,b1*0.7", 7, 7)
+    no("y1,m1:3,m3:2,y1/-0", 6, 3)
+    no("y1/-0.0,m1:3", 6, 0)
+    no("p,&2@s{C}*0.1,m1:3", 6, 2)
+    # each rule alone, and its nearest kept neighbour
+    for broken in ("m1:1", "m1:3", "m3:2", "m2:1", "m65535:2", "m1:3{AB}", "m1:65535", "&m1:3", "0@m3:2"):
+        no(broken, 6, 0)
+    for kept in ("m2:2", "m2:3", "m65535:65535", "m2:65535{AB}", "m10:11"):
+        yes(kept)
+    for zero in ("0", "0.0", "0.00", "0.000000000"):
+        for unit in ("", "ppm"):
+            no("y1/-" + zero + unit, 6, 0)
+            yes("y1/" + zero + unit)
+    no("s{C}-H2O", 6, 0)
+    no("s{C}^2/0.1*0.2", 6, 0)
+    yes("s{C}[M+H]")
+    yes("s{C}-H2O[M+H]^2")
+
+
+def sums():
+    """Confidences over the line."""
+    yes(joined(10, "y1*0.1"))
+    no(joined(11, "y1*0.1"), 7, 70)
+    no(joined(10, "y1*0.1") + ",y1,y1*0.000000001", 7, 73)
+    yes(joined(10, "y1*0.1") + ",y1*0,y1*0.000000000")
+    yes("y1*0.999999999,b1*0.000000001")
+    no("y1*0.999999999,b1*0.000000002", 7, 15)
+    yes("y1*0.5,b1*0.5")
+    yes("y1*0.5,b1*0.500000000")
+    no("y1*0.5,b1*0.500000001", 7, 7)
+    yes("y1*0.333333333,b1*0.333333333,z1*0.333333334")
+    no("y1*0.333333333,b1*0.333333334,z1*0.333333334", 7, 30)
+    yes("y1*1,b1*0")
+    yes("y1*0,b1*1.0,z1")
+    no("y1*1,b1*0.000000001", 7, 5)
+    no("y1*1,b1*0,&0@z1*0.1,p*1", 7, 10)
+    no("y1*1,b1*1", 7, 5)
+    no("y1*0.7,b1,p*0.2,b2*0.1,b3*0.1,b4*0.9", 7, 23)
+    yes(joined(16, "y1*0.0625"))
+    no(joined(15, "y1*0.0625") + ",y1*0.062500001", 7, 150)
+
+
+def spellings():
+    """Lines that spell one table, and their nearest neighbours that do not."""
+    same("y1-H2O", "y1-H2O1")
+    same("f{CHO}", "f{C1H1O1}", "f{CH1O}", "f{C1HO1}")
+    same("f{CHe}", "f{C1He1}")
+    same("y1+i", "y1+1i")
+    same("y1+iA", "y1+1iA")
+    same("y1+i13C-i15N", "y1+1i13C-1i15N", "y1+1i13C-i15N")
+    same("y1[M+H]", "y1[M+1H]", "y1[M+H1]", "y1[M+1H1]")
+    same("y1[M-e]", "y1[M-1e]")
+    same("y1[M+[13C1]]", "y1[M+1[13C1]]")
+    same("y1[M+H+Na]", "y1[M+Na+H]", "y1[M+1Na1+1H]")
+    no("f{[13C]}", 2, 6)
+    no("y1-1H2O", 2, 4)
+    no("y1-1[Hex]", 2, 4)
+    no("f{C01}", 2, 3)
+    no("f{C0}", 2, 3)
+    no("y1+0i", 2, 3)
+    no("y01", 2, 1)
+    no("y0", 2, 1)
+    no("y1/00", 2, 4)
+    no("y1/.5", 2, 3)
+    no("y1/0.2pm", 2, 7)
+    no("y1*-0.2", 2, 3)
+    no("y1*0.2ppm", 2, 6)
+    differ("y1-H2O", "y1+H2O")
+    differ("y1-H2O", "y1-2H2O")
+    differ("y1-H2O", "y1-[H2O]")
+    differ("y1+i", "y1-i")
+    differ("y1+i", "y1+iA")
+    differ("y1+2i", "y1+3i")
+    differ("y1[M+H]", "y1[M-H]")
+    differ("y1[M+H+H]", "y1[M+2H]")
+    differ("y1", "&y1")
+    differ("y1", "0@y1")
+    differ("0@y1", "1@y1")
+    differ("y1/0.1", "y1/-0.1")
+    differ("y1/0.1", "y1/0.1ppm")
+    differ("y1", "y1^2")
+    differ("y1", "y1/0")
+    differ("y1", "y1*0")
+    differ("y1*1", "y1*1.0")
+    differ("y1/0", "y1/0.0")
+    differ("?", "?1")
+    differ("IC", "IC[C]")
+    differ("f{CH}", "f{HC}")
+    differ("f{CH2}", "f{C[2H1]}")
+    differ("IC[M+H]", "IC[M2]")
+    differ("_{a}", "_{A}")
+
+
+def orders():
+    """Losses and adduct items in many orders. `[` ranks below every byte, at every index; a prefix before the longer."""
+    for parts in (
+        ["-H2O", "-NH3", "+CO"],
+        ["-H2O", "+H2O", "-2H2O"],
+        ["-2H2O", "-10H2O", "+H2O", "+3H2O"],
+        ["-[Hex]", "-[HexNAc]", "-H2O", "-[13C1]"],
+        ["-[Hex]", "-Hf", "-H", "-He"],
+        ["-C[13C1]", "-C2", "-C", "-CH4"],
+        ["-H2[18O1]", "-H2O", "-H2", "-H"],
+        ["-H", "-H", "-H", "+H"],
+        ["-[a]", "-[ab]", "-[A]", "-[Z~]"],
+        ["-[x-y]", "-[x y]", "-[x/y]", "-[x,y]"],
+        ["-[13C1]", "-[12C1]", "-[2H1]", "-[13C2]"],
+        ["-[13C1]H", "-[13C1][13C1]", "-[13C1]", "-[13C10]"],
+        ["-C1H1", "-CH", "+C1H", "-2CH1"],
+        ["-H10", "-H2", "-H1", "-H12"],
+    ):
+        same(*rotations("y9", parts))
+    for parts in (
+        ["+H", "+Na", "-H2O"],
+        ["+e", "-e", "-2e", "+H"],
+        ["+NH4", "+Na", "+N", "+2N"],
+        ["+[13C1]", "+C[13C1]", "+C2", "+C"],
+        ["+H", "+H", "-H", "+2H"],
+        ["-10H", "+H", "-2H", "-H"],
+    ):
+        same(*rotations("p[M", parts, "]"))
+    eight = ["-H2O", "-NH3", "+[Hex]", "-[HexNAc]", "+CO", "-2H2O", "+[13C1]", "-C[13C1]"]
+    same(*rotations("y12", eight))
+    same(*rotations("y12", eight[::-1]))
+    same("y12" + "".join(eight) + "[M+Na+H]", "y12" + "".join(eight[::-1]) + "[M+H+Na]")
+    text("y1-[b]-H2O-[a]+[c]", "abc")
+    text("y1-[ab]-[a]-[abc]", "a" "ab" "abc")
+    text("y1-[a]+[A]-H", "Aa")
+    text("r[x]-[b]-[a],_{y}+[d]+[c]", "xab" "ycd")
+    made_of("y1-O-N-C", (0, 6, 1), (0, 7, 1), (0, 8, 1))
+    made_of("y1-He-H-H2", (0, 1, 1), (0, 1, 2), (0, 2, 1))
+    made_of("y1-H-[13C1]-C[13C1]-C2", (13, 6, 1), (0, 6, 1), (13, 6, 1), (0, 6, 2), (0, 1, 1))
+    made_of("y1-H10-H2", (0, 1, 10), (0, 1, 2))
+    made_of("y1-[13C1]H-[13C1][13C1]", (13, 6, 1), (13, 6, 1), (13, 6, 1), (0, 1, 1))
+    made_of("f{O}-N-H[M+Na-e+C]", (0, 8, 1), (0, 1, 1), (0, 7, 1), (0, 6, 1), (0, 11, 1))
+    made_of("p[M+Na+H],y1-O-H", (0, 1, 1), (0, 11, 1), (0, 1, 1), (0, 8, 1))
+
+
+def kinds():
+    """Every kind and series, with everything an annotation may have."""
+    ions = [s + "7" for s in "a b c d v w x y z da db wa wb".split()]
+    ions += ["y7{PEP/TI,DE}", "m2:5", "m3:7{EPT}", "IC", "IZ[Oxidation]", "p", "r[TMT127N]", "_{Urocanic Acid}", "f{C16H22O}", "f{C15[13C1]H22}", "?", "?17"]
+    for ion in ions:
+        for head in ("", "&", "3@", "&0@"):
+            yes(head + ion)
+        yes("&65535@" + ion + "-2H2O+[Hex]+2i13C-i15N[M+Na-2e]^3/-0.20ppm*0.50")
+        yes(ion + "+i")
+        yes(ion + "-iA[M+H]")
+        yes(ion + "^2/1.5,p")
+    yes("s{CN=C=O}[M+H]/-0.55ppm")
+    yes("&1@s{C(=O)[O-]}-H2O[M+NH4]^2")
+    for letter in "ABCDEFGHIJKLMNOPQRSTUVWXYZ":
+        yes("I" + letter, 64)
+    for element, number in (("H", 1), ("He", 2), ("C", 6), ("Fe", 26), ("U", 92), ("Lr", 103), ("Cn", 112), ("Nh", 113), ("Og", 118)):
+        made_of("f{" + element + "2}", (0, number, 2))
+    for none in ("J", "Hx", "D", "M", "Aa", "Q"):
+        ask("f{" + none + "2}")
+    yes(joined(4, "b2-H2O/3.2ppm*0.2"))
+
+
+def unfinished():
+    """Lines that begin a shape and are none: 3 at their length."""
+    for line in (
+        "& &1 &1@ 1 0 12 1@ y da w wa m m2 m2: I r r[ r[a _ _{ _{a f f{ f{C f{C1 f{[ f{[1 f{[13 f{[13C f{[13C1 f{[13C1] s s{ s{a y1{ y1{a m2:3{ m2:3{a "
+        "IC[ IC[a IC[M IC[M+ IC[M+H y1- y1+ y1-2 y1-[ y1-[a y1-[13 y1-[13C1 y1-[M y1-[M+H y1+i1 y1+i13 y1+2i13 y1[ y1[M y1[M+ y1[M+2 y1[M+H y1[M+2H "
+        "y1[M+[13C1] y1^ y1^1 y1/ y1/- y1/0. y1/-0. y1/0.2p y1/0.2pp y1* y1*0. y1, y1,& y1,b y1-1 y1+1 y1+i13C+ y1+i13C+i y1+i13C+2i"
+    ).split(" "):
+        no(line, 3, len(line))
+    long = "&12@y7{ab}-2H2O+[Hex]+2i13C-i15N[M+Na-e]^23/-0.20ppm*0.50,IC[M+H]"
+    for n in range(len(long)):
+        ask(long[:n])
+    yes(long)
+
+
+def strays():
+    """Every byte but the line feed, where it is stray, and in a text, a name and behind an ion."""
+    for b in range(256):
+        if b == 10:
+            continue
+        one = bytes([b])
+        no((b"y" if 65 <= b <= 90 else b"I") + one, 2, 1)
+        printable = 32 <= b <= 126
+        if printable and one not in b"{}":
+            text(b"_{a" + one + b"}", b"a" + one)
+        elif one != b"}":
+            no(b"_{a" + one + b"}", 2, 3)
+        if printable and one not in b"[]":
+            text(b"r[a" + one + b"]", b"a" + one)
+        elif one != b"]":
+            no(b"r[a" + one + b"]", 2, 3)
+        ask(one)
+        ask(b"y1" + one)
+        ask(b"y1-" + one)
+    for line, place in (("y1 ", 2), (" y1", 0), ("y1,,y2", 3), (",", 0), ("y1;y2", 2), ("Y1", 0), ("y-1", 1), ("e1", 0), ("y1-h2O", 3), ("y1-[2a]", 5),
+                        ("y1[M+]", 5), ("y1[m+H]", 3), ("y1[M+H", None), ("y1^2^3", 4), ("y1^2-H2O", 4), ("y1*0.1/0.2", 6), ("y1/0.1/0.2", 6), ("y1-i-i", 4), ("@y1", 0),
+                        ("1@2@y1", 2), ("&&y1", 1), ("m2:3:4", 4), ("r(a)", 1), ("_[a]", 1), ("f{C}{H}", 4), ("p1", 1), ("?0", 1), ("Ic", 1)):
+        if place is None:
+            no(line, 3, len(line))
+        else:
+            no(line, 2, place)
+
+
+def rooms():
+    """Lines of several kinds, and the bytes of their tables: the header, and 36, 6, 8, 6, 6 and 1 for what the six sections count."""
+    counted_lines = [
+        ("", (0, 0, 0, 0, 0, 0)),
+        ("y1", (1, 0, 0, 0, 0, 0)),
+        ("y1,b2", (2, 0, 0, 0, 0, 0)),
+        ("_{x}", (1, 0, 0, 0, 0, 1)),
+        ("y5-H2O-NH3", (1, 2, 0, 0, 4, 0)),
+        ("y2+i", (1, 0, 1, 0, 0, 0)),
+        ("IC[M+H]", (1, 0, 0, 1, 1, 0)),
+        ("y1[M-e]", (1, 0, 0, 1, 0, 0)),
+        ("f{C16H22O}", (1, 0, 0, 0, 3, 0)),
+        ("&1@y7{PEPTIDE}-H2O+[Hex]+2i13C-i15N[M+Na-2e]^3/-0.20ppm*0.50", (1, 2, 2, 2, 3, 10)),
+        ("_{" + "x" * 255 + "}," + "r[" + "y" * 255 + "]", (2, 0, 0, 0, 0, 510)),
+        ("f{" + "H" * 12 + "}" + ("-" + "H" * 12) * 8 + "[M" + ("+" + "H" * 12) * 4 + "]", (1, 8, 0, 4, 156, 0)),
+        (joined(16, "p"), (16, 0, 0, 0, 0, 0)),
+        (joined(16, "f{" + "H" * 12 + "}" + ("-" + "H" * 12) * 8 + "[M" + ("+" + "H" * 12) * 4 + "]"), (16, 128, 0, 64, 2496, 0)),
+    ]
+    made = []
+    for line, counts in counted_lines:
+        size = 28 + sum(n * width for n, width in zip(counts, (36, 6, 8, 6, 6, 1)))
+        for room in (size, size - 1, size + 1, 0, 27, ROOM):
+            made.append((room, raw(line), (0, 0, size) if size <= room else (8, size, 0)))
+    # refusals by other numbers go before 8
+    for line, number, place in (("y1^1", 3, 4), ("y1 ", 2, 2), ("y65536", 4, 1), (joined(17, "p"), 5, 32), ("m1:3", 6, 0), ("y1*0.7,b2*0.7", 7, 7), ("x" * 4097, 1, 4096)):
+        for room in (0, 1, 28, ROOM):
+            made.append((room, raw(line), (number, place, 0)))
+    return made
+
+
+def checked_reads(answers):
+    """Differences between the stored answers and what is stated of them."""
+    found = {}
+    for line, answer in zip(lines, answers):
+        number, place, length, digits = answer.split(b" ")
+        table = b"" if digits == b"-" else bytes.fromhex(digits.decode())
+        found[line] = (int(number), int(place), int(length), table)
+        if len(table) != int(length) or (int(number) != 0 and table) or (int(number) == 0 and not table):
+            yield line, "a table and a length that agree", answer
+    for line, (number, place) in stated.items():
+        if found[line][:2] != (number, place):
+            yield line, (number, place), found[line][:3]
+    for line, size in sizes.items():
+        if found[line][2] != size:
+            yield line, "%d bytes" % size, found[line][:3]
+    for group in equal:
+        for line in group[1:]:
+            if found[line][3] != found[group[0]][3]:
+                yield line, b"the table of " + group[0], found[line][3].hex()
+    for a, b in unequal:
+        if found[a][3] == found[b][3]:
+            yield a, b"another table than " + b, found[a][3].hex()
+    for line, expected in texts.items():
+        count, offset = pair(found[line][3], 24)
+        if found[line][3][offset:offset + count] != expected:
+            yield line, expected, found[line][3].hex()
+    for line, expected in units.items():
+        table = found[line][3]
+        count, offset = pair(table, 20)
+        got = [tuple(pair(table, offset + 6 * i, 3)) for i in range(count)]
+        if got != expected:
+            yield line, expected, got
+
+
+def pair(table, at, n=2):
+    """n numbers of two bytes each."""
+    return [int.from_bytes(table[at + 2 * i:at + 2 * i + 2], "little") for i in range(n)]
+
+
+def stored(name, kind):
+    with open(os.path.join(ROOT, name, kind), "rb") as f:
+        return f.read()
+
+
+def store(name, kind, data):
+    with open(os.path.join(ROOT, name, kind), "wb") as f:
+        f.write(data)
+
+
+def check(made):
+    answers = stored("reads", "stdout").split(b"\n")[:-1]
+    assert len(answers) == len(lines), (len(answers), len(lines))
+    wrong = list(checked_reads(answers))
+    answers = stored("rooms", "stdout").split(b"\n")[:-1]
+    assert len(answers) == len(made), (len(answers), len(made))
+    for (room, line, expected), answer in zip(made, answers):
+        got = tuple(int(n) for n in answer.split(b" ")[:3])
+        if got != expected:
+            wrong.append((b"%d " % room + line, expected, got))
+    for line, expected, got in wrong:
+        print("line %r: stated %r, stored %r" % (line[:80], expected, got))
+    print("%d lines, %d of them with a stated answer; %d rooms; %d differences" % (len(lines), len(stated), len(made), len(wrong)))
+    return not wrong
+
+
+def answers_by(program, given, *words):
+    return subprocess.run([program, *words], input=given, stdout=subprocess.PIPE, check=True).stdout
+
+
+def main(words):
+    for part in (examples, readings, specification, lengths, counted, numbered, together, sums, spellings, orders, kinds, unfinished, strays):
+        part()
+    made = rooms()
+    if words[:1] == ["--check"]:
+        return 0 if check(made) else 1
+    # the last line lacks its line feed, as it may
+    store("reads", "stdin", b"\n".join(lines))
+    store("rooms", "stdin", b"".join(b"%d " % room + line + b"\n" for room, line, _ in made))
+    if words[:1] == ["--with"]:
+        store("reads", "stdout", answers_by(words[1], stored("reads", "stdin")))
+        store("rooms", "stdout", b"".join(answers_by(words[1], line + b"\n", "--out", str(room)) for room, line, _ in made))
+        return 0 if check(made) else 1
+    return 0
+
+
+if __name__ == "__main__":
+    sys.exit(main(sys.argv[1:]))

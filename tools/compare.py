@@ -1,0 +1,203 @@
+#!/usr/bin/env python3
+"""Compares two readers on damaged lines.
+
+    python3 tools/compare.py OURS OTHER [--lines N] [--seed S] [--good FILE] [--show K]
+
+OURS and OTHER are programs that read lines from standard input and print one answer a line: `target/bin/reads` and another reader.
+N (100,000 unless said) lines are made from good ones by damage: bytes and whole parts deleted, inserted, swapped, repeated; numbers
+moved to their bounds; parts repeated past their limits; long lines. FILE holds the good lines, one a line; without it the inputs of
+the program `reads` and lines made here serve. The same S makes the same lines. Prints each difference (K of them, 20 unless said)
+and how often each number was answered; the exit status is 1 where the answers differ.
+"""
+import argparse
+import collections
+import os
+import random
+import subprocess
+import sys
+
+SERIES = "a b c d v w x y z da db wa wb".split()
+SYMBOLS = "H C N O S P Na K He Cl Fe Se Li Og U Cn Hf".split()
+NAMES = ["Hex", "HexNAc", "Hexose", "M", "M2", "a", "TMT127N", "Phospho", "x,y/z", "Z~", "He"]
+TEXTS = ["PEPTIDE", "a,b/c", "CN=C=O", "C(=O)[O-]", "x", "Urocanic Acid", "[M+H]", "y1*0.5"]
+EDGES = [0, 1, 2, 3, 9, 10, 11, 99, 254, 255, 256, 998, 999, 1000, 1001, 65534, 65535, 65536, 65537, 99999, 1000000, 2**32, 2**64, 10**12]
+DECIMALS = ["0", "0.0", "0.1", "0.05", "0.01", "0.02", "0.5", "0.25", "1", "1.0", "1.000000001", "0.999999999", "0.000000001", "0.1234567890", "123456789012", "1234567890123",
+            "123.123456789", "1234.123456789", "0.70", "2", "99.5", "0.333333333", "0.000000000"]
+ALPHABET = b"yb12350m:I[]{}()+-^/*,.@&?_fsrpM HCNOeiAa\x00\x7f\xff\r~"
+
+
+class Maker:
+    def __init__(self, seed, good):
+        self.random = random.Random(seed)
+        self.good = good
+
+    def number(self, low=1, high=30):
+        if self.random.random() < 0.01:
+            return str(self.random.choice(EDGES[low:] if low < 3 else EDGES))
+        return str(self.random.randint(low, high))
+
+    def formula(self):
+        n = self.random.choice([1, 1, 2, 3, 12, 13]) if self.random.random() < 0.2 else self.random.randint(1, 4)
+        return "".join(self.unit() for _ in range(n))
+
+    def unit(self):
+        symbol = self.random.choice(SYMBOLS)
+        if self.random.random() < 0.15:
+            return "[" + self.number() + symbol + self.number() + "]"
+        return symbol + (self.number(1, 20) if self.random.random() < 0.5 else "")
+
+    def count(self):
+        return self.number(2, 12) if self.random.random() < 0.25 else ""
+
+    def loss(self):
+        what = "[" + self.random.choice(NAMES) + "]" if self.random.random() < 0.3 else self.formula()
+        return self.random.choice("+-") + self.count() + what
+
+    def isotope(self, kind):
+        n = self.random.choice("+-") + self.count() + "i"
+        return n if kind == 0 else n + "A" if kind == 1 else n + self.number(1, 40) + self.random.choice(SYMBOLS)
+
+    def isotopes(self):
+        kind = self.random.randrange(3)
+        return "".join(self.isotope(kind) for _ in range(self.random.choice([1, 1, 2, 3, 4, 4, 5]) if kind == 2 else 1))
+
+    def item(self):
+        return self.random.choice("+-") + self.count() + ("e" if self.random.random() < 0.2 else self.formula())
+
+    def ion(self):
+        kind = self.random.randrange(9)
+        text = self.random.choice(TEXTS)
+        if kind == 0:
+            return self.random.choice(SERIES) + self.number() + ("{" + text + "}" if self.random.random() < 0.2 else "")
+        if kind == 1:
+            start = self.random.choice([1, 2, 2, 3, 4, 5, 6, 7, 8, 9, 9])
+            return "m%s:%s" % (start, self.number(start, 30)) + ("{" + text + "}" if self.random.random() < 0.2 else "")
+        if kind == 2:
+            return "I" + self.random.choice("ACDKMRZ") + ("[" + self.random.choice(NAMES) + "]" if self.random.random() < 0.5 else "")
+        if kind == 6:
+            return "f{" + self.formula() + "}"
+        if kind == 8:
+            return "?" + self.count()
+        return ["", "", "", "p", "r[" + self.random.choice(NAMES) + "]", "_{" + text + "}", "", "s{" + text + "}"][kind]
+
+    def annotation(self):
+        chance = self.random.random
+        parts = ["&" if chance() < 0.1 else "", self.number(0, 9) + "@" if chance() < 0.15 else "", self.ion()]
+        if chance() < 0.4:
+            parts += [self.loss() for _ in range(self.random.choice([1, 1, 1, 2, 2, 3, 4, 5, 8, 8, 9]))]
+        if chance() < 0.2:
+            parts.append(self.isotopes())
+        # SMILES has to have an adduct, and mostly gets one
+        if chance() < (0.95 if parts[2].startswith("s") else 0.2):
+            parts.append("[M" + "".join(self.item() for _ in range(self.random.choice([1, 1, 1, 2, 2, 3, 4, 4, 5]))) + "]")
+        if chance() < 0.2:
+            parts.append("^" + self.number(2, 9))
+        if chance() < 0.3:
+            parts.append("/" + ("-" if chance() < 0.3 else "") + self.random.choice(DECIMALS) + ("ppm" if chance() < 0.5 else ""))
+        if chance() < 0.2:
+            parts.append("*" + self.random.choice(DECIMALS))
+        return "".join(parts)
+
+    def fresh(self):
+        n = self.random.choice([1, 1, 1, 1, 1, 1, 2, 2, 2, 3, 5, 10, 16, 17])
+        if self.random.random() < 0.15:
+            return self.shares(n)
+        return ",".join(self.annotation() for _ in range(n)).encode()
+
+    def shares(self, n):
+        """n annotations whose confidences sum to 1, or to a billionth less or more."""
+        places = self.random.choice([1, 2, 3, 9])
+        cuts = sorted(self.random.randint(0, 10**places) for _ in range(n - 1))
+        parts = [b - a for a, b in zip([0] + cuts, cuts + [10**places])]
+        last = parts[-1] * 10 ** (9 - places) + self.random.choice([0, 0, -1, 1, 2])
+        texts = ["%d.%0*d" % (part // 10**places, places, part % 10**places) for part in parts[:-1]]
+        texts.append("%d.%09d" % (max(last, 0) // 10**9, max(last, 0) % 10**9))
+        return ",".join(self.ion().replace("s{", "_{") + "*" + text for text in texts).encode()
+
+    def piece(self, line):
+        """A stretch of a line, from one byte to all of it, often cut where parts begin."""
+        marks = [i for i, b in enumerate(line) if b in b"+-[{^/*,&@"] + [0, len(line)]
+        if self.random.random() < 0.6:
+            a, b = self.random.choice(marks), self.random.choice(marks)
+        else:
+            a = self.random.randint(0, len(line))
+            b = a + self.random.choice([1, 1, 2, 5, 20])
+        return min(a, b), min(max(a, b), len(line))
+
+    def damaged(self, line):
+        a, b = self.piece(line)
+        how = self.random.randrange(10)
+        if how == 0:
+            return line[:a] + line[b:]
+        if how == 1:
+            return line[:b] + line[a:b] + line[b:]
+        if how == 2:
+            return line[:b] + line[a:b] * self.random.choice([1, 3, 4, 7, 8, 9, 12, 13, 16]) + line[b:]
+        if how == 3:
+            c, d = self.piece(self.random.choice(self.good))
+            other = self.random.choice(self.good)
+            return line[:a] + other[c:d] + line[b:]
+        if how == 4:
+            return line[:a] + bytes([self.random.choice(ALPHABET)]) + line[a:]
+        if how == 5:
+            return line[:a] + bytes([self.random.choice(ALPHABET)]) + line[a + 1:]
+        if how == 6:
+            return line[:a] + line[a + 1:a + 2] + line[a:a + 1] + line[a + 2:]
+        if how == 7:
+            return line[:b]
+        if how == 8:
+            return line[:a] + str(self.random.choice(EDGES)).encode() + line[b if b - a < 8 else a:]
+        run = self.random.choice([250, 254, 255, 256, 257, 300, 1000, 4080, 4090]) + self.random.randint(-2, 2)
+        return line[:a] + bytes([self.random.choice(b"xA1H ")]) * run + line[a:]
+
+    def line(self):
+        made = self.random.choice(self.good) if self.random.random() < 0.3 else self.fresh()
+        for _ in range(self.random.choice([0, 0, 0, 0, 1, 1, 1, 1, 2, 3])):
+            made = self.damaged(made)
+        if self.random.random() < 0.01:
+            made = (made + b",") * self.random.randint(2, 60) + made
+        if self.random.random() < 0.002:
+            made = made + b"x" * (self.random.choice([4095, 4096, 4097, 9000, 70000]) - len(made))
+        return made.replace(b"\n", b" ")
+
+
+def answers(program, given):
+    return subprocess.run([program], input=given, stdout=subprocess.PIPE, check=True).stdout.split(b"\n")[:-1]
+
+
+def main():
+    parser = argparse.ArgumentParser(description=__doc__.split("\n")[0])
+    parser.add_argument("ours")
+    parser.add_argument("other")
+    parser.add_argument("--lines", type=int, default=100000)
+    parser.add_argument("--seed", type=int, default=1)
+    parser.add_argument("--show", type=int, default=20)
+    parser.add_argument("--good", default=os.path.join(os.path.dirname(os.path.abspath(__file__)), "..", "crates", "reads", "stdin"))
+    given = parser.parse_args()
+    with open(given.good, "rb") as f:
+        good = [line for line in f.read().split(b"\n") if len(line) < 5000]
+    maker = Maker(given.seed, good)
+    numbers = collections.Counter()
+    differences = 0
+    # by stretches of lines, so that neither the lines nor the answers of a long run are held at once
+    for start in range(0, given.lines, 20000):
+        lines = [maker.line() for _ in range(min(20000, given.lines - start))]
+        # now and then without a last line feed; an empty last line would then be none
+        ends = b"" if lines[-1] and start % 40000 else b"\n"
+        data = b"\n".join(lines) + ends
+        ours, other = answers(given.ours, data), answers(given.other, data)
+        if not len(ours) == len(other) == len(lines):
+            print("%d lines, %d answers of ours, %d of the other" % (len(lines), len(ours), len(other)))
+            differences += 1
+        for line, a, b in zip(lines, ours, other):
+            numbers[b.split(b" ")[0].decode()] += 1
+            if a != b:
+                differences += 1
+                if differences <= given.show:
+                    print("line  %r\nours  %s\nother %s" % (line[:300], a[:200].decode(), b[:200].decode()))
+    print("%d lines, %d differences; answers by number: %s" % (given.lines, differences, " ".join("%s:%d" % pair for pair in sorted(numbers.items()))))
+    return 1 if differences else 0
+
+
+if __name__ == "__main__":
+    sys.exit(main())
