@@ -11,8 +11,8 @@ use numbers::put_number;
 use prints::at_most;
 use prints::byte_of;
 use prints::first_of;
-use puts::put8;
 use puts::put_run;
+use puts::put8;
 use terms::rest;
 
 // ---- pieces of text

@@ -14,39 +14,30 @@ use Rattle.prints.proofs.byte_of.Reads as byte-of-reads
 use Rattle.puts.proofs.put8.Reads as put8-reads
 use Rattle.terms.proofs.rest.Reads as rest-reads
 
--- src/lib.rt:179:8
 byte-of-requires : tie.Need-byte-of-requires
 byte-of-requires c κs = search needs
 
--- src/lib.rt:180:9
 returns : tie.Need-returns
 returns c = put-as (put-none (omega arith) (omega arith)) (analyte-none _ (c .before .byte-of .ensures) (c .if1 .taken))
 
--- src/lib.rt:182:41
 rest-requires : tie.Need-rest-requires
 rest-requires c κs = search needs
 
--- src/lib.rt:182:33
 word-at-requires : tie.Need-word-at-requires
 word-at-requires c κs = search needs
 
--- src/lib.rt:182:33
 cast-put-number : tie.Need-cast-put-number
 cast-put-number c = search needs
 
--- src/lib.rt:182:9
 put-number-requires : tie.Need-put-number-requires
 put-number-requires c κs = search needs
 
--- src/lib.rt:183:5
 put8-requires : tie.Need-put8-requires
 put8-requires c κs = search needs
 
--- src/lib.rt:176:1
 same-length : tie.Need-same-length
 same-length c = search needs
 
--- src/lib.rt:176:1
 returns-2 : tie.Need-returns-2
 returns-2 c = put-as (put-then (c .before .before .before .before .before .before .put-number .ensures) (c .before .before .put8 .ensures)) (analyte-some _ (c .before .before .before .before .before .before .before .before .before .before .before .byte-of .ensures) (c .before .before .before .before .before .before .before .before .before .before .if1 .left) ((c .before .before .before .before .before .before .before .word-at .ensures) ∙ ap wordOf (c .before .before .before .before .before .before .before .before .rest .ensures)))
 

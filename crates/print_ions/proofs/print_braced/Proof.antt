@@ -7,19 +7,15 @@ use Rattle.print_ions.proofs.print_braced.Lts as lts
 use Rattle.print_ions.proofs.put_braces.Reads as put-braces-reads
 use Rattle.puts.proofs.put8.Reads as put8-reads
 
--- src/lib.rt:135:9
 put8-requires : tie.Need-put8-requires
 put8-requires c κs = search needs
 
--- src/lib.rt:136:5
 put-braces-requires : tie.Need-put-braces-requires
 put-braces-requires c κs = search needs
 
--- src/lib.rt:132:1
 same-length : tie.Need-same-length
 same-length c = search needs
 
--- src/lib.rt:132:1
 returns : tie.Need-returns
 returns c = put-then (c .before .before .before .before .before .before .put8 .ensures) (c .before .before .put-braces .ensures)
 

@@ -13,31 +13,24 @@ use Rattle.print_ions.proofs.ion_units.Reads as ion-units-reads
 use Rattle.puts.proofs.put8.Reads as put8-reads
 use Rattle.puts.proofs.put_run.Reads as put-run-reads
 
--- src/lib.rt:126:30
 slice-aggregate-put-run : tie.Need-slice-aggregate-put-run
 slice-aggregate-put-run c = search needs
 
--- src/lib.rt:126:9
 put-run-requires : tie.Need-put-run-requires
 put-run-requires c κs = search needs
 
--- src/lib.rt:127:36
 ion-units-requires : tie.Need-ion-units-requires
 ion-units-requires c κs = search needs
 
--- src/lib.rt:127:9
 print-units-requires : tie.Need-print-units-requires
 print-units-requires c κs = search needs
 
--- src/lib.rt:128:5
 put8-requires : tie.Need-put8-requires
 put8-requires c κs = search needs
 
--- src/lib.rt:123:1
 same-length : tie.Need-same-length
 same-length c = search needs
 
--- src/lib.rt:123:1
 returns : tie.Need-returns
 unfolding composedText
 returns c = put-then (c .before .before .before .before .before .before .before .before .before .before .before .put-run .ensures) (put-then (put-as (c .before .before .before .before .before .before .print-units .ensures) (ap (λ (n : ℕ). printedUnits n (c .before .before .before .before .before .before .before .before .before .before .before .before .before .before .before .before .before .args .u .now)) (c .before .before .before .before .before .before .before .ion-units .ensures))) (c .before .before .put8 .ensures))

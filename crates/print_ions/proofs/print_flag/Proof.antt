@@ -9,23 +9,18 @@ use Rattle.print_ions.proofs.print_flag.Lts as lts
 use Rattle.prints.proofs.byte_of.Reads as byte-of-reads
 use Rattle.puts.proofs.put8.Reads as put8-reads
 
--- src/lib.rt:170:8
 byte-of-requires : tie.Need-byte-of-requires
 byte-of-requires c κs = search needs
 
--- src/lib.rt:171:9
 returns : tie.Need-returns
 returns c = put-as (put-none (omega arith) (omega arith)) (flag-none _ (c .before .byte-of .ensures) (c .if1 .taken))
 
--- src/lib.rt:173:5
 put8-requires : tie.Need-put8-requires
 put8-requires c κs = search needs
 
--- src/lib.rt:167:1
 same-length : tie.Need-same-length
 same-length c = search needs
 
--- src/lib.rt:167:1
 returns-2 : tie.Need-returns-2
 returns-2 c = put-as (c .before .before .put8 .ensures) (flag-some _ (c .before .before .before .before .before .byte-of .ensures) (c .before .before .before .before .if1 .left))
 

@@ -8,23 +8,18 @@ use Rattle.print_ions.proofs.print_analyte.Reads as print-analyte-reads
 use Rattle.print_ions.proofs.print_flag.Reads as print-flag-reads
 use Rattle.print_ions.proofs.print_ion.Reads as print-ion-reads
 
--- src/lib.rt:190:9
 print-flag-requires : tie.Need-print-flag-requires
 print-flag-requires c κs = search needs
 
--- src/lib.rt:191:9
 print-analyte-requires : tie.Need-print-analyte-requires
 print-analyte-requires c κs = search needs
 
--- src/lib.rt:192:5
 print-ion-requires : tie.Need-print-ion-requires
 print-ion-requires c κs = search needs
 
--- src/lib.rt:187:1
 same-length : tie.Need-same-length
 same-length c = search needs
 
--- src/lib.rt:187:1
 returns : tie.Need-returns
 returns c = put-then (c .before .before .before .before .before .before .before .before .before .before .print-flag .ensures) (put-then (c .before .before .before .before .before .before .print-analyte .ensures) (c .before .before .print-ion .ensures))
 

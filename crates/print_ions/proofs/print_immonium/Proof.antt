@@ -12,27 +12,21 @@ use Rattle.print_ions.proofs.put_brackets.Reads as put-brackets-reads
 use Rattle.prints.proofs.byte_of.Reads as byte-of-reads
 use Rattle.puts.proofs.put8.Reads as put8-reads
 
--- src/lib.rt:105:9
 put8-requires : tie.Need-put8-requires
 put8-requires c κs = search needs
 
--- src/lib.rt:106:26
 byte-of-requires : tie.Need-byte-of-requires
 byte-of-requires c κs = search needs
 
--- src/lib.rt:106:9
 put8-requires-2 : tie.Need-put8-requires-2
 put8-requires-2 c κs = search needs
 
--- src/lib.rt:107:5
 put-brackets-requires : tie.Need-put-brackets-requires
 put-brackets-requires c κs = search needs
 
--- src/lib.rt:102:1
 same-length : tie.Need-same-length
 same-length c = search needs
 
--- src/lib.rt:102:1
 returns : tie.Need-returns
 unfolding immoniumText
 returns c = put-then (c .before .before .before .before .before .before .before .before .before .before .before .put8 .ensures) (put-then (put-as (c .before .before .before .before .before .before .put82 .ensures) (ap (λ (b : ℕ). b ∷ []) (c .before .before .before .before .before .before .before .byte-of .ensures))) (c .before .before .put-brackets .ensures))

@@ -14,55 +14,42 @@ use Rattle.print_ions.proofs.put_braces.Reads as put-braces-reads
 use Rattle.puts.proofs.put8.Reads as put8-reads
 use Rattle.terms.proofs.rest.Reads as rest-reads
 
--- src/lib.rt:94:9
 put8-requires : tie.Need-put8-requires
 put8-requires c κs = search needs
 
--- src/lib.rt:95:40
 rest-requires : tie.Need-rest-requires
 rest-requires c κs = search needs
 
--- src/lib.rt:95:32
 word-at-requires : tie.Need-word-at-requires
 word-at-requires c κs = search needs
 
--- src/lib.rt:95:32
 cast-put-number : tie.Need-cast-put-number
 cast-put-number c = search needs
 
--- src/lib.rt:95:9
 put-number-requires : tie.Need-put-number-requires
 put-number-requires c κs = search needs
 
--- src/lib.rt:96:9
 put8-requires-2 : tie.Need-put8-requires-2
 put8-requires-2 c κs = search needs
 
--- src/lib.rt:97:40
 rest-requires-2 : tie.Need-rest-requires-2
 rest-requires-2 c κs = search needs
 
--- src/lib.rt:97:32
 word-at-requires-2 : tie.Need-word-at-requires-2
 word-at-requires-2 c κs = search needs
 
--- src/lib.rt:97:32
 cast-put-number-2 : tie.Need-cast-put-number-2
 cast-put-number-2 c = search needs
 
--- src/lib.rt:97:9
 put-number-requires-2 : tie.Need-put-number-requires-2
 put-number-requires-2 c κs = search needs
 
--- src/lib.rt:98:5
 put-braces-requires : tie.Need-put-braces-requires
 put-braces-requires c κs = search needs
 
--- src/lib.rt:91:1
 same-length : tie.Need-same-length
 same-length c = search needs
 
--- src/lib.rt:91:1
 returns : tie.Need-returns
 unfolding internalText
 returns c = put-then (c .before .before .before .before .before .before .before .before .before .before .before .before .before .before .before .before .before .before .before .before .before .before .put8 .ensures) (put-then (put-as (c .before .before .before .before .before .before .before .before .before .before .before .before .before .before .before .before .put-number .ensures) (ap digits ((c .before .before .before .before .before .before .before .before .before .before .before .before .before .before .before .before .before .word-at .ensures) ∙ ap wordOf (c .before .before .before .before .before .before .before .before .before .before .before .before .before .before .before .before .before .before .rest .ensures)))) (put-then (c .before .before .before .before .before .before .before .before .before .before .before .before .put82 .ensures) (put-then (put-as (c .before .before .before .before .before .before .put-number2 .ensures) (ap digits ((c .before .before .before .before .before .before .before .word-at2 .ensures) ∙ ap wordOf (c .before .before .before .before .before .before .before .before .rest2 .ensures)))) (c .before .before .put-braces .ensures))))

@@ -22,136 +22,105 @@ use Rattle.prints.proofs.byte_of.Reads as byte-of-reads
 use Rattle.prints.proofs.first_of.Reads as first-of-reads
 use Rattle.puts.proofs.put8.Reads as put8-reads
 
--- src/lib.rt:150:25
 ion-bytes-requires : tie.Need-ion-bytes-requires
 ion-bytes-requires c κs = search needs
 
--- src/lib.rt:150:9
 first-of-requires : tie.Need-first-of-requires
 first-of-requires c κs = search needs
 
--- src/lib.rt:151:11
 byte-of-requires : tie.Need-byte-of-requires
 byte-of-requires c κs = search needs
 
--- src/lib.rt:152:14
 print-series-requires : tie.Need-print-series-requires
 print-series-requires c κs = search needs
 
--- src/lib.rt:153:14
 print-internal-requires : tie.Need-print-internal-requires
 print-internal-requires c κs = search needs
 
--- src/lib.rt:154:14
 print-immonium-requires : tie.Need-print-immonium-requires
 print-immonium-requires c κs = search needs
 
--- src/lib.rt:155:14
 put8-requires : tie.Need-put8-requires
 put8-requires c κs = search needs
 
--- src/lib.rt:156:14
 print-reference-requires : tie.Need-print-reference-requires
 print-reference-requires c κs = search needs
 
--- src/lib.rt:157:14
 print-braced-requires : tie.Need-print-braced-requires
 print-braced-requires c κs = search needs
 
--- src/lib.rt:158:14
 print-composed-requires : tie.Need-print-composed-requires
 print-composed-requires c κs = search needs
 
--- src/lib.rt:159:14
 print-braced-requires-2 : tie.Need-print-braced-requires-2
 print-braced-requires-2 c κs = search needs
 
--- src/lib.rt:160:14
 print-unknown-requires : tie.Need-print-unknown-requires
 print-unknown-requires c κs = search needs
 
--- src/lib.rt:147:1
 same-length : tie.Need-same-length
 same-length c = search needs
 
--- src/lib.rt:147:1
 returns : tie.Need-returns
 unfolding kindText
 returns c = put-as (c .before .before .print-series .ensures) (kind-is _ _ _ (c .before .before .before .before .before .byte-of .ensures) ((c .before .before .before .before .before .before .first-of .ensures) ∙ ap (λ (n : ℕ). take n (c .before .before .before .before .before .before .before .before .before .before .before .before .args .t .now)) (c .before .before .before .before .before .before .before .ion-bytes .ensures)) 1 (c .before .before .before .before .match .keys1))
 
--- src/lib.rt:147:1
 same-length-2 : tie.Need-same-length-2
 same-length-2 c = search needs
 
--- src/lib.rt:147:1
 returns-2 : tie.Need-returns-2
 unfolding kindText
 returns-2 c = put-as (c .before .before .print-internal .ensures) (kind-is _ _ _ (c .before .before .before .before .before .byte-of .ensures) ((c .before .before .before .before .before .before .first-of .ensures) ∙ ap (λ (n : ℕ). take n (c .before .before .before .before .before .before .before .before .before .before .before .before .args .t .now)) (c .before .before .before .before .before .before .before .ion-bytes .ensures)) 2 (c .before .before .before .before .match .keys2))
 
--- src/lib.rt:147:1
 same-length-3 : tie.Need-same-length-3
 same-length-3 c = search needs
 
--- src/lib.rt:147:1
 returns-3 : tie.Need-returns-3
 unfolding kindText
 returns-3 c = put-as (c .before .before .print-immonium .ensures) (kind-is _ _ _ (c .before .before .before .before .before .byte-of .ensures) ((c .before .before .before .before .before .before .first-of .ensures) ∙ ap (λ (n : ℕ). take n (c .before .before .before .before .before .before .before .before .before .before .before .before .args .t .now)) (c .before .before .before .before .before .before .before .ion-bytes .ensures)) 3 (c .before .before .before .before .match .keys3))
 
--- src/lib.rt:147:1
 same-length-4 : tie.Need-same-length-4
 same-length-4 c = search needs
 
--- src/lib.rt:147:1
 returns-4 : tie.Need-returns-4
 unfolding kindText
 returns-4 c = put-as (c .before .before .put8 .ensures) (kind-is _ _ _ (c .before .before .before .before .before .byte-of .ensures) ((c .before .before .before .before .before .before .first-of .ensures) ∙ ap (λ (n : ℕ). take n (c .before .before .before .before .before .before .before .before .before .before .before .before .args .t .now)) (c .before .before .before .before .before .before .before .ion-bytes .ensures)) 4 (c .before .before .before .before .match .keys4))
 
--- src/lib.rt:147:1
 same-length-5 : tie.Need-same-length-5
 same-length-5 c = search needs
 
--- src/lib.rt:147:1
 returns-5 : tie.Need-returns-5
 unfolding kindText
 returns-5 c = put-as (c .before .before .print-reference .ensures) (kind-is _ _ _ (c .before .before .before .before .before .byte-of .ensures) ((c .before .before .before .before .before .before .first-of .ensures) ∙ ap (λ (n : ℕ). take n (c .before .before .before .before .before .before .before .before .before .before .before .before .args .t .now)) (c .before .before .before .before .before .before .before .ion-bytes .ensures)) 5 (c .before .before .before .before .match .keys5))
 
--- src/lib.rt:147:1
 same-length-6 : tie.Need-same-length-6
 same-length-6 c = search needs
 
--- src/lib.rt:147:1
 returns-6 : tie.Need-returns-6
 unfolding kindText
 returns-6 c = put-as (c .before .before .print-braced .ensures) (kind-is _ _ _ (c .before .before .before .before .before .byte-of .ensures) ((c .before .before .before .before .before .before .first-of .ensures) ∙ ap (λ (n : ℕ). take n (c .before .before .before .before .before .before .before .before .before .before .before .before .args .t .now)) (c .before .before .before .before .before .before .before .ion-bytes .ensures)) 6 (c .before .before .before .before .match .keys6))
 
--- src/lib.rt:147:1
 same-length-7 : tie.Need-same-length-7
 same-length-7 c = search needs
 
--- src/lib.rt:147:1
 returns-7 : tie.Need-returns-7
 unfolding kindText
 returns-7 c = put-as (c .before .before .print-composed .ensures) (kind-is _ _ _ (c .before .before .before .before .before .byte-of .ensures) ((c .before .before .before .before .before .before .first-of .ensures) ∙ ap (λ (n : ℕ). take n (c .before .before .before .before .before .before .before .before .before .before .before .before .args .t .now)) (c .before .before .before .before .before .before .before .ion-bytes .ensures)) 7 (c .before .before .before .before .match .keys7))
 
--- src/lib.rt:147:1
 same-length-8 : tie.Need-same-length-8
 same-length-8 c = search needs
 
--- src/lib.rt:147:1
 returns-8 : tie.Need-returns-8
 unfolding kindText
 returns-8 c = put-as (c .before .before .print-braced2 .ensures) (kind-is _ _ _ (c .before .before .before .before .before .byte-of .ensures) ((c .before .before .before .before .before .before .first-of .ensures) ∙ ap (λ (n : ℕ). take n (c .before .before .before .before .before .before .before .before .before .before .before .before .args .t .now)) (c .before .before .before .before .before .before .before .ion-bytes .ensures)) 8 (c .before .before .before .before .match .keys8))
 
--- src/lib.rt:147:1
 same-length-9 : tie.Need-same-length-9
 same-length-9 c = search needs
 
--- src/lib.rt:147:1
 returns-9 : tie.Need-returns-9
 unfolding kindText
 returns-9 c = put-as (c .before .before .print-unknown .ensures) (kind-is _ _ _ (c .before .before .before .before .before .byte-of .ensures) ((c .before .before .before .before .before .before .first-of .ensures) ∙ ap (λ (n : ℕ). take n (c .before .before .before .before .before .before .before .before .before .before .before .before .args .t .now)) (c .before .before .before .before .before .before .before .ion-bytes .ensures)) 9 (c .before .before .before .before .match .keys9))
 
--- src/lib.rt:147:1
 returns-10 : tie.Need-returns-10
 returns-10 c = put-as (put-none (omega arith) (omega arith)) (kind-none _ _ _ (c .before .byte-of .ensures) ((c .before .before .first-of .ensures) ∙ ap (λ (n : ℕ). take n (c .before .before .before .before .before .before .before .before .args .t .now)) (c .before .before .before .ion-bytes .ensures)) (none-to 9 _ (c .match .rest)))
 

@@ -7,19 +7,15 @@ use Rattle.print_ions.proofs.print_reference.Lts as lts
 use Rattle.print_ions.proofs.put_brackets.Reads as put-brackets-reads
 use Rattle.puts.proofs.put8.Reads as put8-reads
 
--- src/lib.rt:142:9
 put8-requires : tie.Need-put8-requires
 put8-requires c κs = search needs
 
--- src/lib.rt:143:5
 put-brackets-requires : tie.Need-put-brackets-requires
 put-brackets-requires c κs = search needs
 
--- src/lib.rt:139:1
 same-length : tie.Need-same-length
 same-length c = search needs
 
--- src/lib.rt:139:1
 returns : tie.Need-returns
 returns c = put-then (c .before .before .before .before .before .before .put8 .ensures) (c .before .before .put-brackets .ensures)
 

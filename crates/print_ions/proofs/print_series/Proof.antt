@@ -16,39 +16,30 @@ use Rattle.print_ions.proofs.put_series.Reads as put-series-reads
 use Rattle.prints.proofs.byte_of.Reads as byte-of-reads
 use Rattle.terms.proofs.rest.Reads as rest-reads
 
--- src/lib.rt:85:33
 byte-of-requires : tie.Need-byte-of-requires
 byte-of-requires c κs = search needs
 
--- src/lib.rt:85:9
 put-series-requires : tie.Need-put-series-requires
 put-series-requires c κs = search needs
 
--- src/lib.rt:86:40
 rest-requires : tie.Need-rest-requires
 rest-requires c κs = search needs
 
--- src/lib.rt:86:32
 word-at-requires : tie.Need-word-at-requires
 word-at-requires c κs = search needs
 
--- src/lib.rt:86:32
 cast-put-number : tie.Need-cast-put-number
 cast-put-number c = search needs
 
--- src/lib.rt:86:9
 put-number-requires : tie.Need-put-number-requires
 put-number-requires c κs = search needs
 
--- src/lib.rt:87:5
 put-braces-requires : tie.Need-put-braces-requires
 put-braces-requires c κs = search needs
 
--- src/lib.rt:82:1
 same-length : tie.Need-same-length
 same-length c = search needs
 
--- src/lib.rt:82:1
 returns : tie.Need-returns
 unfolding positionText
 returns c = put-then (put-as (c .before .before .before .before .before .before .before .before .before .before .before .before .put-series .ensures) (ap seriesText (c .before .before .before .before .before .before .before .before .before .before .before .before .before .byte-of .ensures))) (put-then (put-as (c .before .before .before .before .before .before .put-number .ensures) (ap digits ((c .before .before .before .before .before .before .before .word-at .ensures) ∙ ap wordOf (c .before .before .before .before .before .before .before .before .rest .ensures)))) (c .before .before .put-braces .ensures))

@@ -12,39 +12,30 @@ use Rattle.numbers.proofs.put_number.Reads as put-number-reads
 use Rattle.puts.proofs.put8.Reads as put8-reads
 use Rattle.terms.proofs.rest.Reads as rest-reads
 
--- src/lib.rt:114:9
 put8-requires : tie.Need-put8-requires
 put8-requires c κs = search needs
 
--- src/lib.rt:115:21
 rest-requires : tie.Need-rest-requires
 rest-requires c κs = search needs
 
--- src/lib.rt:115:9
 word-at-requires : tie.Need-word-at-requires
 word-at-requires c κs = search needs
 
--- src/lib.rt:117:9
 same-length : tie.Need-same-length
 same-length c = search needs
 
--- src/lib.rt:117:9
 returns : tie.Need-returns
 returns c = put-as (c .before .before .before .before .before .put8 .ensures) (label-none _ ((c .before .word-at .ensures) ∙ ap wordOf (c .before .before .rest .ensures)) (c .if1 .taken))
 
--- src/lib.rt:119:24
 cast-put-number : tie.Need-cast-put-number
 cast-put-number c = search needs
 
--- src/lib.rt:119:5
 put-number-requires : tie.Need-put-number-requires
 put-number-requires c κs = search needs
 
--- src/lib.rt:111:1
 same-length-2 : tie.Need-same-length-2
 same-length-2 c = search needs
 
--- src/lib.rt:111:1
 returns-2 : tie.Need-returns-2
 returns-2 c = put-as (put-then (c .before .before .before .before .before .before .before .before .before .put8 .ensures) (c .before .before .put-number .ensures)) (label-some _ ((c .before .before .before .before .before .word-at .ensures) ∙ ap wordOf (c .before .before .before .before .before .before .rest .ensures)) (c .before .before .before .before .if1 .left))
 

@@ -10,192 +10,148 @@ use Rattle.print_ions.proofs.put_series.Lts as lts
 use Rattle.puts.proofs.put8.Reads as put8-reads
 use Rattle.puts.proofs.put_run.Reads as put-run-reads
 
--- src/lib.rt:25:14
 put8-requires : tie.Need-put8-requires
 put8-requires c κs = search needs
 
--- src/lib.rt:26:14
 put8-requires-2 : tie.Need-put8-requires-2
 put8-requires-2 c κs = search needs
 
--- src/lib.rt:27:14
 put8-requires-3 : tie.Need-put8-requires-3
 put8-requires-3 c κs = search needs
 
--- src/lib.rt:28:14
 put8-requires-4 : tie.Need-put8-requires-4
 put8-requires-4 c κs = search needs
 
--- src/lib.rt:29:14
 put8-requires-5 : tie.Need-put8-requires-5
 put8-requires-5 c κs = search needs
 
--- src/lib.rt:30:14
 put8-requires-6 : tie.Need-put8-requires-6
 put8-requires-6 c κs = search needs
 
--- src/lib.rt:31:14
 put8-requires-7 : tie.Need-put8-requires-7
 put8-requires-7 c κs = search needs
 
--- src/lib.rt:32:14
 put8-requires-8 : tie.Need-put8-requires-8
 put8-requires-8 c κs = search needs
 
--- src/lib.rt:33:14
 put8-requires-9 : tie.Need-put8-requires-9
 put8-requires-9 c κs = search needs
 
--- src/lib.rt:34:32
 slice-aggregate-put-run : tie.Need-slice-aggregate-put-run
 slice-aggregate-put-run c = search needs
 
--- src/lib.rt:34:15
 put-run-requires : tie.Need-put-run-requires
 put-run-requires c κs = search needs
 
--- src/lib.rt:35:32
 slice-aggregate-put-run-2 : tie.Need-slice-aggregate-put-run-2
 slice-aggregate-put-run-2 c = search needs
 
--- src/lib.rt:35:15
 put-run-requires-2 : tie.Need-put-run-requires-2
 put-run-requires-2 c κs = search needs
 
--- src/lib.rt:36:32
 slice-aggregate-put-run-3 : tie.Need-slice-aggregate-put-run-3
 slice-aggregate-put-run-3 c = search needs
 
--- src/lib.rt:36:15
 put-run-requires-3 : tie.Need-put-run-requires-3
 put-run-requires-3 c κs = search needs
 
--- src/lib.rt:37:32
 slice-aggregate-put-run-4 : tie.Need-slice-aggregate-put-run-4
 slice-aggregate-put-run-4 c = search needs
 
--- src/lib.rt:37:15
 put-run-requires-4 : tie.Need-put-run-requires-4
 put-run-requires-4 c κs = search needs
 
--- src/lib.rt:21:1
 same-length : tie.Need-same-length
 same-length c = search needs
 
--- src/lib.rt:21:1
 returns : tie.Need-returns
 unfolding seriesText
 returns c = put-as (c .before .before .put8 .ensures) (series-is 1 (c .before .before .before .before .match .keys1))
 
--- src/lib.rt:21:1
 same-length-2 : tie.Need-same-length-2
 same-length-2 c = search needs
 
--- src/lib.rt:21:1
 returns-2 : tie.Need-returns-2
 unfolding seriesText
 returns-2 c = put-as (c .before .before .put82 .ensures) (series-is 2 (c .before .before .before .before .match .keys2))
 
--- src/lib.rt:21:1
 same-length-3 : tie.Need-same-length-3
 same-length-3 c = search needs
 
--- src/lib.rt:21:1
 returns-3 : tie.Need-returns-3
 unfolding seriesText
 returns-3 c = put-as (c .before .before .put83 .ensures) (series-is 3 (c .before .before .before .before .match .keys3))
 
--- src/lib.rt:21:1
 same-length-4 : tie.Need-same-length-4
 same-length-4 c = search needs
 
--- src/lib.rt:21:1
 returns-4 : tie.Need-returns-4
 unfolding seriesText
 returns-4 c = put-as (c .before .before .put84 .ensures) (series-is 4 (c .before .before .before .before .match .keys4))
 
--- src/lib.rt:21:1
 same-length-5 : tie.Need-same-length-5
 same-length-5 c = search needs
 
--- src/lib.rt:21:1
 returns-5 : tie.Need-returns-5
 unfolding seriesText
 returns-5 c = put-as (c .before .before .put85 .ensures) (series-is 5 (c .before .before .before .before .match .keys5))
 
--- src/lib.rt:21:1
 same-length-6 : tie.Need-same-length-6
 same-length-6 c = search needs
 
--- src/lib.rt:21:1
 returns-6 : tie.Need-returns-6
 unfolding seriesText
 returns-6 c = put-as (c .before .before .put86 .ensures) (series-is 6 (c .before .before .before .before .match .keys6))
 
--- src/lib.rt:21:1
 same-length-7 : tie.Need-same-length-7
 same-length-7 c = search needs
 
--- src/lib.rt:21:1
 returns-7 : tie.Need-returns-7
 unfolding seriesText
 returns-7 c = put-as (c .before .before .put87 .ensures) (series-is 7 (c .before .before .before .before .match .keys7))
 
--- src/lib.rt:21:1
 same-length-8 : tie.Need-same-length-8
 same-length-8 c = search needs
 
--- src/lib.rt:21:1
 returns-8 : tie.Need-returns-8
 unfolding seriesText
 returns-8 c = put-as (c .before .before .put88 .ensures) (series-is 8 (c .before .before .before .before .match .keys8))
 
--- src/lib.rt:21:1
 same-length-9 : tie.Need-same-length-9
 same-length-9 c = search needs
 
--- src/lib.rt:21:1
 returns-9 : tie.Need-returns-9
 unfolding seriesText
 returns-9 c = put-as (c .before .before .put89 .ensures) (series-is 9 (c .before .before .before .before .match .keys9))
 
--- src/lib.rt:21:1
 same-length-10 : tie.Need-same-length-10
 same-length-10 c = search needs
 
--- src/lib.rt:21:1
 returns-10 : tie.Need-returns-10
 unfolding seriesText
 returns-10 c = put-as (c .before .before .put-run .ensures) (series-is 10 (c .before .before .before .before .before .match .keys10))
 
--- src/lib.rt:21:1
 same-length-11 : tie.Need-same-length-11
 same-length-11 c = search needs
 
--- src/lib.rt:21:1
 returns-11 : tie.Need-returns-11
 unfolding seriesText
 returns-11 c = put-as (c .before .before .put-run2 .ensures) (series-is 11 (c .before .before .before .before .before .match .keys11))
 
--- src/lib.rt:21:1
 same-length-12 : tie.Need-same-length-12
 same-length-12 c = search needs
 
--- src/lib.rt:21:1
 returns-12 : tie.Need-returns-12
 unfolding seriesText
 returns-12 c = put-as (c .before .before .put-run3 .ensures) (series-is 12 (c .before .before .before .before .before .match .keys12))
 
--- src/lib.rt:21:1
 same-length-13 : tie.Need-same-length-13
 same-length-13 c = search needs
 
--- src/lib.rt:21:1
 returns-13 : tie.Need-returns-13
 unfolding seriesText
 returns-13 c = put-as (c .before .before .put-run4 .ensures) (series-is 13 (c .before .before .before .before .before .match .keys13))
 
--- src/lib.rt:21:1
 returns-14 : tie.Need-returns-14
 returns-14 c = put-as (put-none (omega arith) (omega arith)) (series-none _ (none-to 13 _ (c .match .rest)))
 

@@ -1,0 +1,48 @@
+-- Lines that are refused: without a shape, or with confidences that sum to more than 1. Assumes nothing.
+use Prim.Native.Nat.{ℕ, _≤_}
+use Prim.Native.String.{String}
+use mathlib.Core.Path.{_≡_, refl, sym, subst}
+use mathlib.Core.Bool.{Bool}
+use mathlib.Core.List.{List}
+use native.Mathlib.Omega.{arith}
+use lib.Dec.{T, ltb, ltb→lt}
+use lib.ListN.{length, getD}
+use Rattle.lang.specs.Parts.{silent, written}
+use Rattle.lang.proofs.Machine.{allB, all→}
+use Rattle.rules.specs.Bytes.{bytes}
+use Rattle.rules.specs.Lines.{Spelling, Misshapen, Judged, fine, misshapen}
+use Rattle.rules.specs.Limits.{maxLine, lineMarks}
+use Rattle.rules.specs.Answers.{refuses, ReadsSum, ReadsRules, ReadsSpelling, Reads}
+use Rattle.rules.proofs.worked.Bounds.{Ruled}
+use Rattle.shape.specs.declared.Verdict.{Verdict}
+use Rattle.shape.specs.Verdicts.{numberOf, placeOf}
+use Rattle.shape.proofs.Unambiguous.{reads-one}
+use Rattle.starred.specs.Becomes.{RefusedAs}
+use Rattle.starred.proofs.Judge.{judge, judge-right}
+use Rattle.starred.proofs.Only.{only}
+use Rattle.starred.proofs.Worked.{none-broken}
+
+-- one refusal that the rules say is the only answer
+refused-only : (line : String) (number place : ℕ) → ((room : ℕ) → Reads (bytes line) room (refuses room number place)) → RefusedAs line number place
+refused-only line number place r room =
+    only (Reads (bytes line) room) (λ a. a ≡ refuses room number place) (λ a b. reads-one)
+    (λ a e. subst (Reads (bytes line) room) (sym e) (r room)) (refuses room number place) refl
+
+judged-misshapen : {line : List ℕ} {n p : ℕ} → Judged line n p → (n ≡ 0 → ⊥) → Misshapen line n p
+judged-misshapen (fine x) h = absurd (h refl)
+judged-misshapen (misshapen x) h = x
+
+abbrev byteAt : List ℕ → ℕ → Bool
+byteAt line i = ltb (getD line i 0) 256
+
+pub no-shape : (line : String) (v : Verdict) → T (allB (byteAt (bytes line)) (length (bytes line))) → length (bytes line) ≤ maxLine
+    → judge (bytes line) ≡ v → (numberOf v ≡ 0 → ⊥) → RefusedAs line (numberOf v) (placeOf (bytes line) v)
+no-shape line v all h e n =
+    let j = judge-right (bytes line) (λ i l. ltb→lt (getD (bytes line) i 0) 256 (all→ (byteAt (bytes line)) (length (bytes line)) all i l)) (omega arith) in
+    let k = subst (λ (u : Verdict). Judged (bytes line) (numberOf u) (placeOf (bytes line) u)) e j in
+    refused-only line (numberOf v) (placeOf (bytes line) v) (λ room. Reads.misshapen h (judged-misshapen k n))
+
+pub past-one : {line : String} {s : Spelling} {place : ℕ} → Ruled line s silent (written place) → length (bytes line) ≤ maxLine → RefusedAs line 7 place
+past-one {line} {s} {place} w h =
+    refused-only line 7 place
+    (λ room. Reads.spelled h s (w .text) (ReadsSpelling.kept (none-broken (lineMarks s) (w .limits)) (ReadsRules.kept (w .breach) (ReadsSum.excess place (w .excess)))))

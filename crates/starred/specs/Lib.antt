@@ -1,0 +1,3 @@
+pub mod Becomes
+pub mod Tables
+pub mod Rows
