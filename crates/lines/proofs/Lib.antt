@@ -1,0 +1,2 @@
+pub mod Relabelled
+pub mod Right

@@ -3,3 +3,5 @@ pub mod Steps
 pub mod Parts
 pub mod Sections
 pub mod Laws
+pub mod Lengths
+pub mod Short

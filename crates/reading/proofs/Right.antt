@@ -156,12 +156,12 @@ spelled-right room small s l =
 
 -- ---- any line
 
-judged-shape : {line : List ℕ} {n p : ℕ} → Judged line n p → n ≡ 0 → Shape line
+pub judged-shape : {line : List ℕ} {n p : ℕ} → Judged line n p → n ≡ 0 → Shape line
 judged-shape (fine x) e = x
 judged-shape (misshapen (stray p x)) e = absurd (omega arith)
 judged-shape (misshapen (short x y)) e = absurd (omega arith)
 
-judged-misshapen : {line : List ℕ} {n p : ℕ} → Judged line n p → (n ≡ 0 → ⊥) → Misshapen line n p
+pub judged-misshapen : {line : List ℕ} {n p : ℕ} → Judged line n p → (n ≡ 0 → ⊥) → Misshapen line n p
 judged-misshapen (fine x) h = absurd (h refl)
 judged-misshapen (misshapen x) h = x
 

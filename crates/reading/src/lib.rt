@@ -214,9 +214,9 @@ fn read_spelled(line: &[u8], out: &mut [u8]) -> Answer
     ensures { λ r. ⌜ ReadsSpelled (now (line .entry)) (now (out .entry)) (now (out .exit)) r ⌝ }
 {
     let t = total(line);
-    let f = first_refusal(t);
-    if f.number != 0 {
-        return refuse(f.number, f.place);
+    let found = first_refusal(t);
+    if found.number != 0 {
+        return refuse(found.number, found.place);
     }
     let n = counts(t);
     let size = size_of(n);

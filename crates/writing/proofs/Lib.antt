@@ -1,0 +1,11 @@
+pub mod Same
+pub mod Lines
+pub mod Found
+pub mod Low
+pub mod Within
+pub mod Limited
+pub mod Unbroken
+pub mod Prefers
+pub mod Shorter
+pub mod Holds
+pub mod Right
