@@ -1,2 +1,3 @@
 pub mod Relabelled
 pub mod Right
+pub mod Back

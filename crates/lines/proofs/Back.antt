@@ -1,0 +1,102 @@
+-- Back again: what was written reads to the very table; what was read is written in the preferred spelling of the line; and reading and
+-- writing one after the other has one answer. Assumes nothing.
+use Prim.Native.Nat.{ℕ, _<_, _≤_}
+use mathlib.Core.Path.{_≡_, refl, sym, ap, _∙_, subst}
+use mathlib.Core.List.{List}
+use native.Mathlib.Omega.{arith}
+use lib.ListN.{length, take}
+use Rattle.lang.specs.Order.{Each}
+use Rattle.rules.specs.Lines.{Spelling, lineText}
+use Rattle.rules.specs.Fields.{Table, Says, Spells}
+use Rattle.rules.specs.Limits.{maxLine}
+use Rattle.rules.specs.Preferred.{preferred, preferredSpelling}
+use Rattle.rules.specs.Stored.{stored}
+use Rattle.rules.specs.Answers.{Answer, refuses, gives, Delivers, no-room, done, Sound, Holds, Reads, ReadsSpelling, ReadsRules, ReadsSum, Writes, no-table, long, fits}
+use Rattle.rules.proofs.PreferredSpells.{said-in-order, preferred-says}
+use Rattle.rules.proofs.WritesOne.{holds-one, writes-one}
+use Rattle.shape.proofs.Unambiguous.{reads-one}
+use Rattle.writing.proofs.Prefers.{preferred-kept, preferred-rules, preferred-sum}
+use Rattle.writing.proofs.Shorter.{preferred-shorter}
+use Rattle.writing.proofs.Holds.{take-given}
+use Rattle.lines.specs.Relabels.{Relabels, refused, relabelled}
+use Rattle.lines.proofs.Right.{Read, reads-table, bytes-read}
+
+-- ---- reading what was written
+
+-- the preferred line of a sound table, within its bound, reads to the table
+reads-preferred : (t : Table) → Sound t → length (preferred t) ≤ maxLine → (room : ℕ) → length (stored t) ≤ room → Reads (preferred t) room (gives room (stored t))
+reads-preferred t s l room h =
+    Reads.spelled l (preferredSpelling t) refl
+    (ReadsSpelling.kept (preferred-kept t s)
+    (ReadsRules.kept (preferred-rules t s) (ReadsSum.kept (preferred-sum t s) t (preferred-says (said-in-order (s .says))) (done h))))
+
+delivered-back : (t : Table) → Sound t → length (preferred t) ≤ maxLine → {room : ℕ} {a : Answer} → Delivers room (preferred t) a → a .number ≡ 0
+    → (room′ : ℕ) → length (stored t) ≤ room′ → Reads (take (a .size) (a .out)) room′ (gives room′ (stored t))
+delivered-back t s l (no-room h) e room′ g = absurd (omega arith)
+delivered-back t s l {room} (done h) e room′ g =
+    subst (λ (w : List ℕ). Reads w room′ (gives room′ (stored t))) (sym (take-given room (preferred t))) (reads-preferred t s l room′ g)
+
+-- some answer of reading, and so every one, is the table that was written
+pub read-back : {table : List ℕ} {room : ℕ} {a : Answer} → Writes table room a → a .number ≡ 0 → (room′ : ℕ) → length table ≤ room′
+    → Reads (take (a .size) (a .out)) room′ (gives room′ table)
+read-back (no-table n) e room′ g = absurd (omega arith)
+read-back (long t h l) e room′ g = absurd (omega arith)
+read-back {table} {a = a} (fits t h l d) e room′ g =
+    subst (λ (w : List ℕ). Reads (take (a .size) (a .out)) room′ (gives room′ w)) (h .is) (delivered-back t (h .sound) l d e room′ (omega (arith, ap length (h .is))))
+
+pub read-back-one : {table : List ℕ} {room room′ : ℕ} {a b : Answer} → Writes table room a → a .number ≡ 0 → length table ≤ room′
+    → Reads (take (a .size) (a .out)) room′ b → b ≡ gives room′ table
+read-back-one {room′ = room′} w e g r = reads-one r (read-back w e room′ g)
+
+-- ---- writing what was read
+
+-- the bytes are this table's, whose preferred line is within its bound: every answer of writing delivers that line
+writes-delivers : {bytes : List ℕ} (t : Table) → Holds bytes t → length (preferred t) ≤ maxLine → {room : ℕ} {b : Answer} → Writes bytes room b → Delivers room (preferred t) b
+writes-delivers t h l (no-table n) = absurd (n t h)
+writes-delivers t h l (long u g k) = absurd (omega (arith, ap (λ (x : Table). length (preferred x)) (holds-one h g)))
+writes-delivers t h l {room} {b} (fits u g k d) = subst (λ (x : Table). Delivers room (preferred x) b) (holds-one g h) d
+
+-- what was read, and what it is written as
+pub record Written (line bytes : List ℕ) : Type 0 where
+  pub table : Table
+  pub spells : Spells table line
+  pub is : stored table ≡ bytes
+  pub writes : (room : ℕ) (b : Answer) → Writes bytes room b → Delivers room (preferred table) b
+
+pub write-back : (line : List ℕ) {room : ℕ} {a : Answer} → Reads line room a → a .number ≡ 0 → Written line (take (a .size) (a .out))
+write-back line {room} {a} r e =
+    let x = reads-table line room r e in
+    let t = x .table in
+    let q = bytes-read line room x in
+    let l : length (preferred t) ≤ maxLine = omega (arith, preferred-shorter (x .says), ap length (x .text), x .short) in
+    let h : Holds (take (a .size) (a .out)) t = record { sound = x .sound; is = sym q } in
+    record { table = t; spells = record { spelling = x .spelling; text = x .text; says = x .says }; is = sym q; writes = λ room b w. writes-delivers t h l w }
+
+-- ---- both
+
+-- with number 0, the preferred spelling of what the line spells
+pub record Relabelled (line : List ℕ) (room : ℕ) (b : Answer) : Type 0 where
+  pub table : Table
+  pub spells : Spells table line
+  pub is : b ≡ gives room (preferred table)
+
+given : (t : Table) (room : ℕ) {b : Answer} → Delivers room (preferred t) b → b .number ≡ 0 → b ≡ gives room (preferred t)
+given t room (no-room h) e = absurd (omega arith)
+given t room (done h) e = refl
+
+pub relabels-preferred : (line : List ℕ) {tableRoom room : ℕ} {table : List ℕ} {b : Answer} → Relabels line tableRoom room table b → b .number ≡ 0 → Relabelled line room b
+relabels-preferred line (refused r h) e = absurd (h e)
+relabels-preferred line {room = room} {b = b} (relabelled r n w) e =
+    let x = write-back line r n in
+    record { table = x .table; spells = x .spells; is = given (x .table) room (x .writes room b w) e }
+
+-- two answers are equal, and so are the bytes of the table
+pub relabels-one : (line : List ℕ) {tableRoom room : ℕ} {s t : List ℕ} {a b : Answer} → Relabels line tableRoom room s a → Relabels line tableRoom room t b
+    → (s ≡ t) × (a ≡ b)
+relabels-one line {room = room} (refused x h) (refused y g) =
+    let q = reads-one x y in (ap (λ (a : Answer). a .out) q, ap (λ (a : Answer). refuses room (a .number) (a .place)) q)
+relabels-one line (refused x h) (relabelled y n w) = absurd (h (ap (λ (a : Answer). a .number) (reads-one x y) ∙ n))
+relabels-one line (relabelled x n w) (refused y g) = absurd (g (ap (λ (a : Answer). a .number) (reads-one y x) ∙ n))
+relabels-one line {room = room} (relabelled x n w) (relabelled {b = b} y m v) =
+    let q = reads-one y x in
+    (ap (λ (a : Answer). a .out) (sym q), writes-one w (subst (λ (a : Answer). Writes (take (a .size) (a .out)) room b) q v))
