@@ -3,9 +3,9 @@
 // cannot be stated; these functions are proved safe and ending.
 use feeds::behind;
 use feeds::stretch;
+use numbers::read_number;
 use reading::Answer;
 use reading::read_by;
-use numbers::read_number;
 use streams::Stream;
 use streams::flush;
 use streams::next_line;

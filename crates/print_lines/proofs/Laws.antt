@@ -43,7 +43,7 @@ next-printed i [] q h = refl
 next-printed i (a ∷ t) q h =
     ap₂ (λ (v w : List ℕ). v ++ w) (sym (comma-next (suc i) (λ z. omega arith)))
     (ap₂ (λ (v w : List ℕ). v ++ w) (first-text a t q (h a here))
-      (ap (annotationsText (suc (suc i)) (length t)) (first-behind a t q (h a here)) ∙ next-printed (suc i) t q (λ b j. h b (later j))))
+    (ap (annotationsText (suc (suc i)) (length t)) (first-behind a t q (h a here)) ∙ next-printed (suc i) t q (λ b j. h b (later j))))
 
 line-printed : (t : Table) (q : Parts) → Within t → annotationsText 0 (length t) (sectioned t q) ≡ preferred t
 unfolding annotationsText commaText

@@ -165,8 +165,8 @@ module _ (a : Annotation Number) (q : Parts) (b : Bounded a) (r : InRange a) whe
       let n = optText analyteText (a .analyte) in
       let x = ionText (ionMap shortened (a .ion)) in
       let more =
-          ap₂ (λ (v w : List ℕ). v ++ w) losses-text
-          (ap₂ (λ (v w : List ℕ). v ++ w) isotopes-text (ap₂ (λ (v w : List ℕ). v ++ w) adduct-text (tail-printed a (q .notes) (tail-ok a r)))) in
+      ap₂ (λ (v w : List ℕ). v ++ w) losses-text
+      (ap₂ (λ (v w : List ℕ). v ++ w) isotopes-text (ap₂ (λ (v w : List ℕ). v ++ w) adduct-text (tail-printed a (q .notes) (tail-ok a r)))) in
       ap₂ (λ (v w : List ℕ). v ++ w) front-text more ∙ append-assoc f (n ++ x) _ ∙ ap (λ (w : List ℕ). f ++ w) (append-assoc n x _)
 
   -- what is left
@@ -175,12 +175,12 @@ module _ (a : Annotation Number) (q : Parts) (b : Bounded a) (r : InRange a) whe
   behind-laid =
       let losses-left = drop-row (length (a .losses)) (flat (λ l. stores (lossRecord l)) (a .losses)) (q .losses) 6 losses-are (section-length lossRecord 6 (a .losses) (λ l i. loss-length l)) in
       let isotopes-left = drop-row (length (isotopeRecords (a .isotopes))) (flat (λ fs. stores fs) (isotopeRecords (a .isotopes))) (q .isotopes) 8 isotopes-are
-          (section-length (λ x. x) 8 (isotopeRecords (a .isotopes)) (each-isotope (a .isotopes))) in
+      (section-length (λ x. x) 8 (isotopeRecords (a .isotopes)) (each-isotope (a .isotopes))) in
       let items-left = drop-row (length (a .adduct)) (flat (λ x. stores (itemRecord x)) (a .adduct)) (q .items) 6 items-are (section-length itemRecord 6 (a .adduct) (λ x i. item-length x)) in
       let units-left : drop (unitBytes (itemsIn (laid a q)) (laid a q .items)) (unitsBehindLosses (laid a q)) ≡ q .units =
-          ap₂ (λ (n : ℕ) (l : List ℕ). drop n l)
-          (ap (λ (n : ℕ). unitBytes n (laid a q .items)) items-are ∙ added .units ∙ sym (unit-rows (itemUnits a))) units-after-losses
-          ∙ drop-append-seam (unitRows (itemUnits a)) (q .units) in
+      ap₂ (λ (n : ℕ) (l : List ℕ). drop n l)
+      (ap (λ (n : ℕ). unitBytes n (laid a q .items)) items-are ∙ added .units ∙ sym (unit-rows (itemUnits a))) units-after-losses
+      ∙ drop-append-seam (unitRows (itemUnits a)) (q .units) in
       let text-left : drop (nameBytes (itemsIn (laid a q)) (laid a q .items)) (textBehindLosses (laid a q)) ≡ q .text =
-          ap₂ (λ (n : ℕ) (l : List ℕ). drop n l) (ap (λ (n : ℕ). nameBytes n (laid a q .items)) items-are ∙ added .names) text-after-losses in
+      ap₂ (λ (n : ℕ) (l : List ℕ). drop n l) (ap (λ (n : ℕ). nameBytes n (laid a q .items)) items-are ∙ added .names) text-after-losses in
       λ i. record { notes = q .notes; losses = losses-left i; isotopes = isotopes-left i; items = items-left i; units = units-left i; text = text-left i }

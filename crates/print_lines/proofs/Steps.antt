@@ -57,7 +57,7 @@ module _ (table : List ℕ) (c : Cursors) where
       → ki ≡ min (c .isotopes + 8 * ni) (length table) → kx ≡ min (c .items + 6 * nx) (length table)
       → ku ≡ min (v + x .units) (length table) → kt ≡ min (w + x .text) (length table)
       → PrintsAnnotation table c d to e
-        (record { to = end; cursors = record { annotations = ka; losses = kl; isotopes = ki; items = kx; units = ku; text = kt } })
+      (record { to = end; cursors = record { annotations = ka; losses = kl; isotopes = ki; items = kx; units = ku; text = kt } })
   unfolding annotationText behind
   annotation-printed {s} {ll = ll} {d1 = d1} {d2 = d2} {d3 = d3} {d4 = d4} {to = to} {a = a} {b = b} {nl = nl} {ni = ni} {nx = nx} {iu = iu} {ib = ib} {u = u} {t = t} {v = v} {w = w} {l = l} {x = x}
       notes el ei ex efu eft front eiu eu eib et ell elu elt losses ev ew esi isotopes exx exu ext adduct tail ka kl ki kx ku kt =
@@ -66,7 +66,7 @@ module _ (table : List ℕ) (c : Cursors) where
       let ni-is : ni ≡ isotopesIn p = ei ∙ ap (λ (z : List ℕ). rowOf z 33 4) notes in
       let nx-is : nx ≡ itemsIn p = ex ∙ ap (λ (z : List ℕ). rowOf z 34 4) notes in
       let u-is : drop u table ≡ unitsBehindIon p =
-          ahead-drop table (c .units) (6 * iu) eu ∙ ap (λ (n : ℕ). drop (6 * n) (p .units)) (eiu ∙ ap ionUnits notes) in
+      ahead-drop table (c .units) (6 * iu) eu ∙ ap (λ (n : ℕ). drop (6 * n) (p .units)) (eiu ∙ ap ionUnits notes) in
       let t-is : drop t table ≡ textBehindIon p = ahead-drop table (c .text) ib et ∙ ap (λ (n : ℕ). drop n (p .text)) (eib ∙ ap ionBytes notes) in
       let losses-are = same-of (λ n p q r. PrintsPieces n p q r d1 a d2 l) losses nl-is ell (elu ∙ u-is) (elt ∙ t-is) in
       let v-is = ahead-part table u (unitBytes (lossesIn p) (p .losses)) (unitsBehindIon p) ev u-is (losses-are .units) in

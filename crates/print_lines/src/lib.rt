@@ -19,8 +19,8 @@ use prints::byte_of;
 use prints::print_isotopes;
 use prints::print_pieces;
 use prints::print_tail;
-use puts::put8;
 use puts::put_run;
+use puts::put8;
 use terms::rest;
 
 // The place behind an annotation in the output, and the cursors behind what it has in the table.
@@ -69,11 +69,25 @@ pub fn print_annotation(out: &mut [u8], to: usize, table: &[u8], c: Cursors) -> 
     let a = print_front(out, to, s, rest(table, c.units), rest(table, c.text));
     let u = ahead(c.units, 6 * ion_units(s), all);
     let t = ahead(c.text, ion_bytes(s), all);
-    let l = print_pieces(out, a, rest(table, c.losses), rest(table, u), rest(table, t), losses);
+    let l = print_pieces(
+        out,
+        a,
+        rest(table, c.losses),
+        rest(table, u),
+        rest(table, t),
+        losses,
+    );
     let v = ahead(u, l.units, all);
     let w = ahead(t, l.text, all);
     let b = print_isotopes(out, l.to, rest(table, c.isotopes), isotopes);
-    let x = print_adduct(out, b, rest(table, c.items), rest(table, v), rest(table, w), items);
+    let x = print_adduct(
+        out,
+        b,
+        rest(table, c.items),
+        rest(table, v),
+        rest(table, w),
+        items,
+    );
     let end = print_tail(out, x.to, s);
     Printed {
         to: end,

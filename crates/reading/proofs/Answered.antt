@@ -46,8 +46,8 @@ module _ (line : List ℕ) {t : Totals} {f : Fault} (pt : t ≡ totalsOf line) (
       let z : (firstOf t .number ≡ 0 → ⊥) = λ q. h (ap (λ (g : Fault). g .number) pf ∙ q) in
       record {
         is =
-          ap (λ (r : Answer). answered r d) e ∙ ap (λ (g : Fault). record { number = g .number; place = g .place; size = 0; out = d }) pf
-          ∙ sym (counted-is d ∙ counted-some d line t z);
+            ap (λ (r : Answer). answered r d) e ∙ ap (λ (g : Fault). record { number = g .number; place = g .place; size = 0; out = d }) pf
+            ∙ sym (counted-is d ∙ counted-some d line t z);
       }
 
   module _ (none : f .number ≡ 0) {n : Counts} (pn : n ≡ countsIn t) {size : ℕ} (ps : size ≡ endAt n) where
@@ -58,8 +58,8 @@ module _ (line : List ℕ) {t : Totals} {f : Fault} (pt : t ≡ totalsOf line) (
     spelled-no-room {d} {r} h e =
         record {
           is =
-            ap (λ (r : Answer). answered r d) e ∙ ap (λ (k : ℕ). record { number = 8; place = k; size = 0; out = d }) ps
-            ∙ sym (stored-is d ∙ no-room-over d line n (subst (λ (k : ℕ). length d < k) ps h));
+              ap (λ (r : Answer). answered r d) e ∙ ap (λ (k : ℕ). record { number = 8; place = k; size = 0; out = d }) ps
+              ∙ sym (stored-is d ∙ no-room-over d line n (subst (λ (k : ℕ). length d < k) ps h));
         }
 
     pub spelled-stored : {d e g : List ℕ} {c : Cursors} → size ≤ length d → Headed d n e c → StoresLine line e c g
@@ -68,8 +68,8 @@ module _ (line : List ℕ) {t : Totals} {f : Fault} (pt : t ≡ totalsOf line) (
         let w : g ≡ tableOver d line n = q .ran .made ∙ ap₂ (λ (x : List ℕ) (k : Cursors). run x k (lineEvents line)) (p .put .made) (p .starts) in
         record {
           is =
-            ap₂ (λ (k : ℕ) (o : List ℕ). record { number = 0; place = 0; size = k; out = o }) ps w
-            ∙ sym (stored-is d ∙ room-over d line n (subst (λ (k : ℕ). k ≤ length d) ps h));
+              ap₂ (λ (k : ℕ) (o : List ℕ). record { number = 0; place = 0; size = k; out = o }) ps w
+              ∙ sym (stored-is d ∙ room-over d line n (subst (λ (k : ℕ). k ≤ length d) ps h));
         }
 
 -- ---- any line

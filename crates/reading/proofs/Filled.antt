@@ -78,8 +78,8 @@ module _ (line : List ℕ) (small : length line ≤ maxPlace) where
       let on = loop-on (λ (d : Done). goesOn line (d .at)) (doneNext line) (λ (d : Done). length line - d .at) (done-falls line) n d l (rw e) in
       let is : doneNext line d ≡ u = ap (doneOne line (d .events)) b in
       let p : drop (u .at) line ≡ flat nextText more =
-        ap (λ (n : ℕ). drop n line) o ∙ sym (drop-drop (length (annotationText a)) (d .at + 1) line) ∙ ap (drop (length (annotationText a))) f
-        ∙ drop-append-seam (annotationText a) (flat nextText more) in
+      ap (λ (n : ℕ). drop n line) o ∙ sym (drop-drop (length (annotationText a)) (d .at + 1) line) ∙ ap (drop (length (annotationText a))) f
+      ∙ drop-append-seam (annotationText a) (flat nextText more) in
       let q : d .at + length (nextText a) ≡ u .at = omega arith in
       let k = subst (λ (at : ℕ). Kept (rowMarks nextText nextMarks (i + 1) more at)) q (kept-right (nextMarks i a (d .at)) others kept) in
       let y = filled-through more n u (i + 1) k (omega arith) (omega arith) p in
@@ -95,7 +95,7 @@ module _ (line : List ℕ) (small : length line ≤ maxPlace) where
       let u = doneOne line [] 0 in
       let o : u .at ≡ length (annotationText a) = omega (arith, x .behind) in
       let p : drop (u .at) line ≡ flat nextText more =
-        ap (λ (n : ℕ). drop n line) o ∙ ap (drop (length (annotationText a))) e ∙ drop-append-seam (annotationText a) (flat nextText more) in
+      ap (λ (n : ℕ). drop n line) o ∙ ap (drop (length (annotationText a))) e ∙ drop-append-seam (annotationText a) (flat nextText more) in
       let k = subst (λ (at : ℕ). Kept (rowMarks nextText nextMarks 1 more at)) (sym o) (kept-right (annotationMarks 0 a 0) others kept) in
       filled-more (x .reads) (filled-through more (length line) u 1 k (omega arith) (omega arith) p)
 

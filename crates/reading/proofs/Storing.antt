@@ -77,9 +77,9 @@ module _ (line : List ℕ) {d e r : List ℕ} {t₀ t : Going} (s : Storing line
           es = s .es ++ annotationEvents (drop from line);
           ran = ran-then (s .ran) (x .ran);
           left =
-            s .left
-            ∙ loop-on (λ (a : Done). goesOn line (a .at)) (doneNext line) (λ (a : Done). length line - a .at) (done-falls line) (length line) (done (t .at) (s .es)) (omega arith) (goes q)
-            ∙ ap (doneFrom line (length line)) next-is;
+              s .left
+              ∙ loop-on (λ (a : Done). goesOn line (a .at)) (doneNext line) (λ (a : Done). length line - a .at) (done-falls line) (length line) (done (t .at) (s .es)) (omega arith) (goes q)
+              ∙ ap (doneFrom line (length line)) next-is;
         }
 
     pub storing-falls : length line - u .at < length line - t .at
@@ -97,9 +97,9 @@ module _ (line : List ℕ) {d e r : List ℕ} {t₀ t : Going} (s : Storing line
       let ev = annotationEvents (drop 0 line) in
       let z : (length line ≡ 0 → ⊥) = λ q. omega arith in
       let w : doneFrom line (length line) (doneOne line [] 0) .events ≡ ev ++ s .es =
-        ap (λ (l : List Event). doneFrom line (length line) (done (behindOne line 0) l) .events) (sym (append-nil ev))
-        ∙ before-stays line (length line) ev [] (behindOne line 0)
-        ∙ ap (λ (n : ℕ). ev ++ doneFrom line (length line) (done n []) .events) (sym (x .at)) ∙ ap (λ (l : List Event). ev ++ l) (storing-is q) in
+      ap (λ (l : List Event). doneFrom line (length line) (done (behindOne line 0) l) .events) (sym (append-nil ev))
+      ∙ before-stays line (length line) ev [] (behindOne line 0)
+      ∙ ap (λ (n : ℕ). ev ++ doneFrom line (length line) (done n []) .events) (sym (x .at)) ∙ ap (λ (l : List Event). ev ++ l) (storing-is q) in
       let v : lineEvents line ≡ ev ++ s .es = rw (ne-eqb (length line) 0 z) w in
       let a = ran-as (ran-then (x .ran) (s .ran)) (sym v) in
       record { ran = record { small = a .small; made = a .made; place = refl } }

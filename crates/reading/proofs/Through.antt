@@ -212,12 +212,12 @@ module _ (line : List ℕ) (small : length line ≤ maxPlace) where
         record {
           limit = f .limit ∙ ap (λ (e : Fault). after e others) (o .limit) ∙ sym (after-append (t .limit) marks others);
           breach = λ k.
-            f .breach (kept-right marks others k) ∙ ap₂ (λ (e : Fault) (n : ℕ). foldBreach e n more) (o .breach (kept-left marks others k)) begins-are;
+              f .breach (kept-right marks others k) ∙ ap₂ (λ (e : Fault) (n : ℕ). foldBreach e n more) (o .breach (kept-left marks others k)) begins-are;
           excess = λ k.
-            let l = kept-left marks others k in
-            f .excess (kept-right marks others k)
-            ∙ ap₂ (λ (e : Fault) (n : ℕ). foldExcess e n (next .at + 1) more) (o .excess l) (one-sum a t from m g h l)
-            ∙ ap (λ (n : ℕ). foldExcess (noted (t .excess) 7 from (leb (summed (t .sum) (shareIn a)) one)) (summed (t .sum) (shareIn a)) n more) begins-are;
+              let l = kept-left marks others k in
+              f .excess (kept-right marks others k)
+              ∙ ap₂ (λ (e : Fault) (n : ℕ). foldExcess e n (next .at + 1) more) (o .excess l) (one-sum a t from m g h l)
+              ∙ ap (λ (n : ℕ). foldExcess (noted (t .excess) 7 from (leb (summed (t .sum) (shareIn a)) one)) (summed (t .sum) (shareIn a)) n more) begins-are;
         }
 
     counted-more : {u : Totals} → Through more next u → Counts (a ∷ more) t u
@@ -245,15 +245,15 @@ module _ (line : List ℕ) (small : length line ≤ maxPlace) where
       let on = loop-on (λ (t : Totals). goesOn line (t .at)) (addNext line) (λ (t : Totals). length line - t .at) (add-falls line) n t l (rw e) in
       let is : addNext line t ≡ u = ap (addOf line t) b ∙ x .is in
       let p : drop (u .at) line ≡ flat nextText more =
-        ap (λ (n : ℕ). drop n line) o ∙ sym (drop-drop (length (annotationText a)) (t .at + 1) line) ∙ ap (drop (length (annotationText a))) f
-        ∙ drop-append-seam (annotationText a) (flat nextText more) in
+      ap (λ (n : ℕ). drop n line) o ∙ sym (drop-drop (length (annotationText a)) (t .at + 1) line) ∙ ap (drop (length (annotationText a))) f
+      ∙ drop-append-seam (annotationText a) (flat nextText more) in
       let y = through more n u (small-added t (t .at + 1) m) (omega arith) (omega arith) p (omega arith) in
       subst (λ (v : Totals). Through (a ∷ more) t v) (sym (on ∙ ap (totalsFrom line n) is))
       (record {
         counts = counted-more a more t (t .at + 1) m (omega arith) (x .inside) (x .measures) y;
         finds =
-          subst (λ (at : ℕ). Finds (nextMarks (t .annotations) a (t .at) ++ rowMarks nextText nextMarks (t .annotations + 1) more at) (a ∷ more) (t .at + 1) t (totalsFrom line n u))
-          (omega arith) (finds-more a more t (t .at + 1) m (omega arith) (x .inside) (x .measures) y);
+            subst (λ (at : ℕ). Finds (nextMarks (t .annotations) a (t .at) ++ rowMarks nextText nextMarks (t .annotations + 1) more at) (a ∷ more) (t .at + 1) t (totalsFrom line n u))
+            (omega arith) (finds-more a more t (t .at + 1) m (omega arith) (x .inside) (x .measures) y);
       })
 
   -- ---- the whole line
@@ -271,13 +271,14 @@ module _ (line : List ℕ) (small : length line ≤ maxPlace) where
       let o : u .at ≡ length (annotationText a) = omega (arith, one-at a nothing 0 m (x .inside) (x .measures)) in
       let z : 0 + length (annotationText a) ≡ length (annotationText a) = omega arith in
       let p : drop (u .at) line ≡ flat nextText more =
-        ap (λ (n : ℕ). drop n line) o ∙ ap (drop (length (annotationText a))) e ∙ drop-append-seam (annotationText a) (flat nextText more) in
+      ap (λ (n : ℕ). drop n line) o ∙ ap (drop (length (annotationText a))) e ∙ drop-append-seam (annotationText a) (flat nextText more) in
       let y = through more (length line) u (small-added nothing 0 m) (omega arith) (omega arith) p (omega arith) in
       subst (λ (v : Totals). Counts (a ∷ more) nothing v × Finds (lineMarks (a ∷ more)) (a ∷ more) 0 nothing v)
-      (sym (ap (totalsFrom line (length line)) (x .is)))
-      (counted-more a more nothing 0 m (omega arith) (x .inside) (x .measures) y,
-      subst (λ (at : ℕ). Finds (annotationMarks 0 a 0 ++ rowMarks nextText nextMarks 1 more at) (a ∷ more) 0 nothing (totalsFrom line (length line) u))
-      z (finds-more a more nothing 0 m (omega arith) (x .inside) (x .measures) y))
+      (sym (ap (totalsFrom line (length line)) (x .is))) (
+        counted-more a more nothing 0 m (omega arith) (x .inside) (x .measures) y,
+        subst (λ (at : ℕ). Finds (annotationMarks 0 a 0 ++ rowMarks nextText nextMarks 1 more at) (a ∷ more) 0 nothing (totalsFrom line (length line) u))
+            z (finds-more a more nothing 0 m (omega arith) (x .inside) (x .measures) y),
+      )
 
 -- ---- for callers
 

@@ -45,9 +45,9 @@ module _ (line : List ℕ) where
       counting-turns =
           record {
             is =
-              ap (totalsFrom line (length line)) next-is
-              ∙ sym (loop-on (λ (t : Totals). goesOn line (t .at)) (addNext line) (λ (t : Totals). length line - t .at) (add-falls line) (length line) t (omega arith) (goes e))
-              ∙ c .is;
+                ap (totalsFrom line (length line)) next-is
+                ∙ sym (loop-on (λ (t : Totals). goesOn line (t .at)) (addNext line) (λ (t : Totals). length line - t .at) (add-falls line) (length line) t (omega arith) (goes e))
+                ∙ c .is;
           }
 
       pub counting-falls : length line - u .at < length line - t .at

@@ -58,7 +58,10 @@ pub struct Going {
 fn before_all() -> Totals
     ensures { λ r. ⌜ r ≡ nothing ⌝ }
 {
-    let none = Fault { number: 0, place: 0 };
+    let none = Fault {
+        number: 0,
+        place: 0,
+    };
     Totals {
         annotations: 0,
         losses: 0,

@@ -5,9 +5,9 @@ ghost use Rattle.lang.specs.Parts.{flat};
 ghost use Rattle.puts.specs.Puts.{Put};
 ghost use Rattle.tells.specs.Tells.{hexDigit, hexByte, field, shown, told};
 use feeds::stretch;
-use reading::Answer;
 use numbers::put_number;
 use puts::put8;
+use reading::Answer;
 
 // The digit of a byte's low half.
 fn low_digit(b: u8) -> u8

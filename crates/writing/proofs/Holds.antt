@@ -146,7 +146,7 @@ holds-reads t sound room small fits short v j =
     let b = line-bytes s in
     let f = shape-fine (preferred t) v (j b) (s, refl) in
     let g : spelledOver (zeros room) (preferred t) ≡ gives room (stored t) =
-      spelling-it t (preferred-kept t sound) (preferred-rules t sound) (preferred-sum t sound) (preferred-says (said-in-order (sound .says))) room fits (spelled-right room small s short) in
+    spelling-it t (preferred-kept t sound) (preferred-rules t sound) (preferred-sum t sound) (preferred-says (said-in-order (sound .says))) room fits (spelled-right room small s short) in
     let a : anyOver (zeros room) v (preferred t) ≡ gives room (stored t) = ap (λ (v : Verdict). anyOver (zeros room) v (preferred t)) f ∙ g in
     let i : isRead (gives room (stored t)) (stored t) ≡ true = ap (λ (l : List ℕ). sameBytes l (stored t)) (take-given room (stored t)) ∙ same-refl (stored t) in
     rw (b, a) i

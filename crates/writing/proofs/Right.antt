@@ -51,7 +51,7 @@ module _ (machine table : List ℕ) (room : ℕ) (judged : (l : List ℕ) → al
     found l t h =
         let q = printed-is table t h in
         let r = holds-reads t (h .sound) size n (table-fits t h) (omega (arith, ap length q)) (scannedBy machine (preferred t))
-          (λ b. judged (preferred t) b (omega (arith, ap length q))) in
+        (λ b. judged (preferred t) b (omega (arith, ap length q))) in
         subst (λ (x : List ℕ). readsTo (scannedBy machine w) (zeros size) w x ≡ true) (h .is)
         (subst (λ (x : List ℕ). readsTo (scannedBy machine x) (zeros size) x (stored t) ≡ true) (sym q) r)
 

@@ -8,79 +8,60 @@ use Rattle.print_lines.proofs.counts_at.Lts as lts
 use Rattle.formulas.proofs.word_at.Reads as word-at-reads
 use Rattle.terms.proofs.rest.Reads as rest-reads
 
--- src/lib.rt:106:30
 rest-requires : tie.Need-rest-requires
 rest-requires c κs = search needs
 
--- src/lib.rt:106:22
 word-at-requires : tie.Need-word-at-requires
 word-at-requires c κs = search needs
 
--- src/lib.rt:106:22
 cast-t4 : tie.Need-cast-t4
 cast-t4 c = search needs
 
--- src/lib.rt:107:25
 rest-requires-2 : tie.Need-rest-requires-2
 rest-requires-2 c κs = search needs
 
--- src/lib.rt:107:17
 word-at-requires-2 : tie.Need-word-at-requires-2
 word-at-requires-2 c κs = search needs
 
--- src/lib.rt:107:17
 cast-t7 : tie.Need-cast-t7
 cast-t7 c = search needs
 
--- src/lib.rt:108:27
 rest-requires-3 : tie.Need-rest-requires-3
 rest-requires-3 c κs = search needs
 
--- src/lib.rt:108:19
 word-at-requires-3 : tie.Need-word-at-requires-3
 word-at-requires-3 c κs = search needs
 
--- src/lib.rt:108:19
 cast-t10 : tie.Need-cast-t10
 cast-t10 c = search needs
 
--- src/lib.rt:109:24
 rest-requires-4 : tie.Need-rest-requires-4
 rest-requires-4 c κs = search needs
 
--- src/lib.rt:109:16
 word-at-requires-4 : tie.Need-word-at-requires-4
 word-at-requires-4 c κs = search needs
 
--- src/lib.rt:109:16
 cast-t13 : tie.Need-cast-t13
 cast-t13 c = search needs
 
--- src/lib.rt:110:24
 rest-requires-5 : tie.Need-rest-requires-5
 rest-requires-5 c κs = search needs
 
--- src/lib.rt:110:16
 word-at-requires-5 : tie.Need-word-at-requires-5
 word-at-requires-5 c κs = search needs
 
--- src/lib.rt:110:16
 cast-t16 : tie.Need-cast-t16
 cast-t16 c = search needs
 
--- src/lib.rt:111:23
 rest-requires-6 : tie.Need-rest-requires-6
 rest-requires-6 c κs = search needs
 
--- src/lib.rt:111:15
 word-at-requires-6 : tie.Need-word-at-requires-6
 word-at-requires-6 c κs = search needs
 
--- src/lib.rt:111:15
 cast-t19 : tie.Need-cast-t19
 cast-t19 c = search needs
 
--- src/lib.rt:102:1
 returns : tie.Need-returns
 returns c = λ i. record { annotations = ((c .before .before .before .before .before .before .before .before .before .before .word-at .ensures) ∙ ap wordOf (c .before .before .before .before .before .before .before .before .before .before .before .rest .ensures)) i; losses = ((c .before .before .before .before .before .before .before .before .word-at2 .ensures) ∙ ap wordOf (c .before .before .before .before .before .before .before .before .before .rest2 .ensures)) i; isotopes = ((c .before .before .before .before .before .before .word-at3 .ensures) ∙ ap wordOf (c .before .before .before .before .before .before .before .rest3 .ensures)) i; items = ((c .before .before .before .before .word-at4 .ensures) ∙ ap wordOf (c .before .before .before .before .before .rest4 .ensures)) i; units = ((c .before .before .word-at5 .ensures) ∙ ap wordOf (c .before .before .before .rest5 .ensures)) i; text = ((c .word-at6 .ensures) ∙ ap wordOf (c .before .rest6 .ensures)) i }
 

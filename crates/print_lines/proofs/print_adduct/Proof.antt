@@ -9,31 +9,24 @@ use Rattle.prints.proofs.print_pieces.Reads as print-pieces-reads
 use Rattle.puts.proofs.put8.Reads as put8-reads
 use Rattle.puts.proofs.put_run.Reads as put-run-reads
 
--- src/lib.rt:44:9
 returns : tie.Need-returns
 returns c = adduct-none (c .before .before .before .before .before .args .n) (c .before .before .before .before .before .args .x .now) (c .before .before .before .before .before .args .u .now) (c .before .before .before .before .before .args .t .now) (c .if1 .taken) (omega arith) (omega arith)
 
--- src/lib.rt:50:30
 slice-aggregate-put-run : tie.Need-slice-aggregate-put-run
 slice-aggregate-put-run c = search needs
 
--- src/lib.rt:50:9
 put-run-requires : tie.Need-put-run-requires
 put-run-requires c κs = search needs
 
--- src/lib.rt:51:9
 print-pieces-requires : tie.Need-print-pieces-requires
 print-pieces-requires c κs = search needs
 
--- src/lib.rt:52:9
 put8-requires : tie.Need-put8-requires
 put8-requires c κs = search needs
 
--- src/lib.rt:40:1
 same-length : tie.Need-same-length
 same-length c = search needs
 
--- src/lib.rt:40:1
 returns-2 : tie.Need-returns-2
 returns-2 c = adduct-some (c .before .before .before .before .before .before .before .before .before .before .before .before .before .before .before .before .before .before .args .n) (c .before .before .before .before .before .before .before .before .before .before .before .before .before .before .before .before .before .before .args .x .now) (c .before .before .before .before .before .before .before .before .before .before .before .before .before .before .before .before .before .before .args .u .now) (c .before .before .before .before .before .before .before .before .before .before .before .before .before .before .before .before .before .before .args .t .now) (c .before .before .before .before .before .before .before .before .before .before .before .before .before .if1 .left) (c .before .before .before .before .before .before .before .before .before .before .put-run .ensures) (c .before .before .before .before .before .before .print-pieces .ensures) (c .before .before .put8 .ensures)
 

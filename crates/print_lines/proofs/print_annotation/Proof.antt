@@ -18,149 +18,135 @@ use Rattle.prints.proofs.print_pieces.Reads as print-pieces-reads
 use Rattle.prints.proofs.print_tail.Reads as print-tail-reads
 use Rattle.terms.proofs.rest.Reads as rest-reads
 
--- src/lib.rt:65:9
 rest-requires : tie.Need-rest-requires
 rest-requires c κs = search needs
 
--- src/lib.rt:66:9
 row-of-requires : tie.Need-row-of-requires
 row-of-requires c κs = search needs
 
--- src/lib.rt:67:9
 row-of-requires-2 : tie.Need-row-of-requires-2
 row-of-requires-2 c κs = search needs
 
--- src/lib.rt:68:9
 row-of-requires-3 : tie.Need-row-of-requires-3
 row-of-requires-3 c κs = search needs
 
--- src/lib.rt:69:37
 rest-requires-2 : tie.Need-rest-requires-2
 rest-requires-2 c κs = search needs
 
--- src/lib.rt:69:59
 rest-requires-3 : tie.Need-rest-requires-3
 rest-requires-3 c κs = search needs
 
--- src/lib.rt:69:9
 print-front-requires : tie.Need-print-front-requires
 print-front-requires c κs = search needs
 
--- src/lib.rt:70:32
 ion-units-requires : tie.Need-ion-units-requires
 ion-units-requires c κs = search needs
 
--- src/lib.rt:70:28
 mul-ahead : tie.Need-mul-ahead
 mul-ahead c = omega (arith, c .ion-units .ensures, few-units (c .before .before .before .before .before .before .before .before .before .before .rest .result .now))
 
--- src/lib.rt:70:9
 ahead-requires : tie.Need-ahead-requires
 ahead-requires c κs = search needs
 
--- src/lib.rt:71:27
 ion-bytes-requires : tie.Need-ion-bytes-requires
 ion-bytes-requires c κs = search needs
 
--- src/lib.rt:71:9
 ahead-requires-2 : tie.Need-ahead-requires-2
 ahead-requires-2 c κs = search needs
 
--- src/lib.rt:72:34
 rest-requires-4 : tie.Need-rest-requires-4
 rest-requires-4 c κs = search needs
 
--- src/lib.rt:72:57
 rest-requires-5 : tie.Need-rest-requires-5
 rest-requires-5 c κs = search needs
 
--- src/lib.rt:72:73
 rest-requires-6 : tie.Need-rest-requires-6
 rest-requires-6 c κs = search needs
 
--- src/lib.rt:72:9
 print-pieces-requires : tie.Need-print-pieces-requires
 print-pieces-requires c κs = search needs
 
--- src/lib.rt:73:9
 ahead-requires-3 : tie.Need-ahead-requires-3
 ahead-requires-3 c κs = search needs
 
--- src/lib.rt:74:9
 ahead-requires-4 : tie.Need-ahead-requires-4
 ahead-requires-4 c κs = search needs
 
--- src/lib.rt:75:39
 rest-requires-7 : tie.Need-rest-requires-7
 rest-requires-7 c κs = search needs
 
--- src/lib.rt:75:9
 print-isotopes-requires : tie.Need-print-isotopes-requires
 print-isotopes-requires c κs = search needs
 
--- src/lib.rt:76:34
 rest-requires-8 : tie.Need-rest-requires-8
 rest-requires-8 c κs = search needs
 
--- src/lib.rt:76:56
 rest-requires-9 : tie.Need-rest-requires-9
 rest-requires-9 c κs = search needs
 
--- src/lib.rt:76:72
 rest-requires-10 : tie.Need-rest-requires-10
 rest-requires-10 c κs = search needs
 
--- src/lib.rt:76:9
 print-adduct-requires : tie.Need-print-adduct-requires
 print-adduct-requires c κs = search needs
 
--- src/lib.rt:77:9
 print-tail-requires : tie.Need-print-tail-requires
 print-tail-requires c κs = search needs
 
--- src/lib.rt:81:26
 ahead-requires-5 : tie.Need-ahead-requires-5
 ahead-requires-5 c κs = search needs
 
--- src/lib.rt:82:37
 mul-ahead-2 : tie.Need-mul-ahead-2
 mul-ahead-2 c = omega (arith, c .before .before .before .before .before .before .before .before .before .before .before .before .before .before .before .before .before .before .before .before .before .before .before .before .before .before .before .before .before .before .before .before .before .before .before .before .before .before .row-of .ensures)
 
--- src/lib.rt:82:21
 ahead-requires-6 : tie.Need-ahead-requires-6
 ahead-requires-6 c κs = search needs
 
--- src/lib.rt:83:41
 mul-ahead-3 : tie.Need-mul-ahead-3
 mul-ahead-3 c = omega (arith, c .before .before .before .before .before .before .before .before .before .before .before .before .before .before .before .before .before .before .before .before .before .before .before .before .before .before .before .before .before .before .before .before .before .before .before .before .before .before .row-of2 .ensures)
 
--- src/lib.rt:83:23
 ahead-requires-7 : tie.Need-ahead-requires-7
 ahead-requires-7 c κs = search needs
 
--- src/lib.rt:84:35
 mul-ahead-4 : tie.Need-mul-ahead-4
 mul-ahead-4 c = omega (arith, c .before .before .before .before .before .before .before .before .before .before .before .before .before .before .before .before .before .before .before .before .before .before .before .before .before .before .before .before .before .before .before .before .before .before .before .before .before .before .row-of3 .ensures)
 
--- src/lib.rt:84:20
 ahead-requires-8 : tie.Need-ahead-requires-8
 ahead-requires-8 c κs = search needs
 
--- src/lib.rt:85:20
 ahead-requires-9 : tie.Need-ahead-requires-9
 ahead-requires-9 c κs = search needs
 
--- src/lib.rt:86:19
 ahead-requires-10 : tie.Need-ahead-requires-10
 ahead-requires-10 c κs = search needs
 
--- src/lib.rt:61:1
 same-length : tie.Need-same-length
-same-length c = put-length (put-then (c .before .before .before .before .before .before .before .before .before .before .before .before .before .before .before .before .before .before .before .before .before .before .before .before .before .before .before .before .before .before .before .before .before .before .before .before .before .print-front .ensures) (put-then (c .before .before .before .before .before .before .before .before .before .before .before .before .before .before .before .before .before .before .before .before .before .before .before .before .before .before .print-pieces .ensures .put) (put-then (c .before .before .before .before .before .before .before .before .before .before .before .before .before .before .before .before .before .before .before .print-isotopes .ensures) (put-then (c .before .before .before .before .before .before .before .before .before .before .before .before .print-adduct .ensures .put) (c .before .before .before .before .before .before .before .before .print-tail .ensures)))))
+same-length c =
+    let tail = c .before .before .before .before .before .before .before .before in
+    let adduct = tail .before .before .before .before in
+    let isotopes = adduct .before .before .before .before .before .before .before in
+    let losses = isotopes .before .before .before .before .before .before .before in
+    let front = losses .before .before .before .before .before .before .before .before .before .before .before in
+    put-length (put-then (front .print-front .ensures) (put-then (losses .print-pieces .ensures .put) (put-then (isotopes .print-isotopes .ensures) (put-then (adduct .print-adduct .ensures .put) (tail .print-tail .ensures)))))
 
--- src/lib.rt:61:1
 returns : tie.Need-returns
-returns c = annotation-printed (c .before .before .before .before .before .before .before .before .before .before .before .before .before .before .before .before .before .before .before .before .before .before .before .before .before .before .before .before .before .before .before .before .before .before .before .before .before .before .before .before .before .before .before .before .before .before .before .args .table .now) (c .before .before .before .before .before .before .before .before .before .before .before .before .before .before .before .before .before .before .before .before .before .before .before .before .before .before .before .before .before .before .before .before .before .before .before .before .before .before .before .before .before .before .before .before .before .before .before .args .c) (c .before .before .before .before .before .before .before .before .before .before .before .before .before .before .before .before .before .before .before .before .before .before .before .before .before .before .before .before .before .before .before .before .before .before .before .before .before .before .before .before .before .before .before .before .rest .ensures) (c .before .before .before .before .before .before .before .before .before .before .before .before .before .before .before .before .before .before .before .before .before .before .before .before .before .before .before .before .before .before .before .before .before .before .before .before .before .before .before .before .before .before .before .row-of .ensures) (c .before .before .before .before .before .before .before .before .before .before .before .before .before .before .before .before .before .before .before .before .before .before .before .before .before .before .before .before .before .before .before .before .before .before .before .before .before .before .before .before .before .before .row-of2 .ensures) (c .before .before .before .before .before .before .before .before .before .before .before .before .before .before .before .before .before .before .before .before .before .before .before .before .before .before .before .before .before .before .before .before .before .before .before .before .before .before .before .before .before .row-of3 .ensures) (c .before .before .before .before .before .before .before .before .before .before .before .before .before .before .before .before .before .before .before .before .before .before .before .before .before .before .before .before .before .before .before .before .before .before .before .before .before .before .before .rest2 .ensures) (c .before .before .before .before .before .before .before .before .before .before .before .before .before .before .before .before .before .before .before .before .before .before .before .before .before .before .before .before .before .before .before .before .before .before .before .before .before .before .rest3 .ensures) (c .before .before .before .before .before .before .before .before .before .before .before .before .before .before .before .before .before .before .before .before .before .before .before .before .before .before .before .before .before .before .before .before .before .before .before .before .before .print-front .ensures) (c .before .before .before .before .before .before .before .before .before .before .before .before .before .before .before .before .before .before .before .before .before .before .before .before .before .before .before .before .before .before .before .before .before .before .ion-units .ensures) (c .before .before .before .before .before .before .before .before .before .before .before .before .before .before .before .before .before .before .before .before .before .before .before .before .before .before .before .before .before .before .before .before .before .ahead .ensures) (c .before .before .before .before .before .before .before .before .before .before .before .before .before .before .before .before .before .before .before .before .before .before .before .before .before .before .before .before .before .before .before .before .ion-bytes .ensures) (c .before .before .before .before .before .before .before .before .before .before .before .before .before .before .before .before .before .before .before .before .before .before .before .before .before .before .before .before .before .before .before .ahead2 .ensures) (c .before .before .before .before .before .before .before .before .before .before .before .before .before .before .before .before .before .before .before .before .before .before .before .before .before .before .before .before .before .rest4 .ensures) (c .before .before .before .before .before .before .before .before .before .before .before .before .before .before .before .before .before .before .before .before .before .before .before .before .before .before .before .before .rest5 .ensures) (c .before .before .before .before .before .before .before .before .before .before .before .before .before .before .before .before .before .before .before .before .before .before .before .before .before .before .before .rest6 .ensures) (c .before .before .before .before .before .before .before .before .before .before .before .before .before .before .before .before .before .before .before .before .before .before .before .before .before .before .print-pieces .ensures) (c .before .before .before .before .before .before .before .before .before .before .before .before .before .before .before .before .before .before .before .before .before .before .before .ahead3 .ensures) (c .before .before .before .before .before .before .before .before .before .before .before .before .before .before .before .before .before .before .before .before .before .before .ahead4 .ensures) (c .before .before .before .before .before .before .before .before .before .before .before .before .before .before .before .before .before .before .before .before .rest7 .ensures) (c .before .before .before .before .before .before .before .before .before .before .before .before .before .before .before .before .before .before .before .print-isotopes .ensures) (c .before .before .before .before .before .before .before .before .before .before .before .before .before .before .before .rest8 .ensures) (c .before .before .before .before .before .before .before .before .before .before .before .before .before .before .rest9 .ensures) (c .before .before .before .before .before .before .before .before .before .before .before .before .before .rest10 .ensures) (c .before .before .before .before .before .before .before .before .before .before .before .before .print-adduct .ensures) (c .before .before .before .before .before .before .before .before .print-tail .ensures) (c .before .before .before .before .before .ahead5 .ensures) (c .before .before .before .before .ahead6 .ensures) (c .before .before .before .ahead7 .ensures) (c .before .before .ahead8 .ensures) (c .before .ahead9 .ensures) (c .ahead10 .ensures)
+returns c =
+    let tail = c .before .before .before .before .before .before .before .before in
+    let adduct = tail .before .before .before .before in
+    let isotopes = adduct .before .before .before .before .before .before .before in
+    let losses = isotopes .before .before .before .before .before .before .before in
+    let front = losses .before .before .before .before .before .before .before .before .before .before .before in
+    let start = front .before .before .before .before .before .before .before in
+    annotation-printed (start .before .before .before .args .table .now) (start .before .before .before .args .c)
+    (start .rest .ensures) (front .before .before .before .before .before .before .row-of .ensures) (front .before .before .before .before .before .row-of2 .ensures) (front .before .before .before .before .row-of3 .ensures)
+    (front .before .before .rest2 .ensures) (front .before .rest3 .ensures) (front .print-front .ensures)
+    (losses .before .before .before .before .before .before .before .before .ion-units .ensures) (losses .before .before .before .before .before .before .before .ahead .ensures) (losses .before .before .before .before .before .before .ion-bytes .ensures) (losses .before .before .before .before .before .ahead2 .ensures)
+    (losses .before .before .before .rest4 .ensures) (losses .before .before .rest5 .ensures) (losses .before .rest6 .ensures) (losses .print-pieces .ensures)
+    (isotopes .before .before .before .before .ahead3 .ensures) (isotopes .before .before .before .ahead4 .ensures)
+    (isotopes .before .rest7 .ensures) (isotopes .print-isotopes .ensures)
+    (adduct .before .before .before .rest8 .ensures) (adduct .before .before .rest9 .ensures) (adduct .before .rest10 .ensures) (adduct .print-adduct .ensures)
+    (tail .print-tail .ensures)
+    (c .before .before .before .before .before .ahead5 .ensures) (c .before .before .before .before .ahead6 .ensures) (c .before .before .before .ahead7 .ensures) (c .before .before .ahead8 .ensures) (c .before .ahead9 .ensures) (c .ahead10 .ensures)
 
 pub print-annotation-spec : {M : Type 1} → statement M
 print-annotation-spec =

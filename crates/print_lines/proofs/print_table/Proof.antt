@@ -29,55 +29,42 @@ Inv-loop out₀ to table n c₀ at₀ i₀ out c at i = Going out₀ to (annotat
 abbrev μ-loop : tie.MeasureT-loop
 μ-loop out₀ to table n c₀ at₀ i₀ out c at i = n - i
 
--- src/lib.rt:119:29
 rest-requires : tie.Need-rest-requires Inv-loop μ-loop
 rest-requires c κs = search needs
 
--- src/lib.rt:119:21
 word-at-requires : tie.Need-word-at-requires Inv-loop μ-loop
 word-at-requires c κs = search needs
 
--- src/lib.rt:119:9
 at-most-requires : tie.Need-at-most-requires Inv-loop μ-loop
 at-most-requires c κs = search needs
 
--- src/lib.rt:120:24
 counts-at-requires : tie.Need-counts-at-requires Inv-loop μ-loop
 counts-at-requires c κs = search needs
 
--- src/lib.rt:120:9
 starts-requires : tie.Need-starts-requires Inv-loop μ-loop
 starts-requires c κs = search needs
 
--- src/lib.rt:123:5
 loop-holds : tie.Need-loop-holds Inv-loop μ-loop
 loop-holds c = line-begins _ _ (omega arith) (omega arith)
 
--- src/lib.rt:124:13
 put-comma-requires : tie.Need-put-comma-requires Inv-loop μ-loop
 put-comma-requires c κs = search needs
 
--- src/lib.rt:125:13
 print-annotation-requires : tie.Need-print-annotation-requires Inv-loop μ-loop
 print-annotation-requires c κs = search needs
 
--- src/lib.rt:129:9
 add-i : tie.Need-add-i Inv-loop μ-loop
 add-i c = search needs
 
--- src/lib.rt:123:5
 loop-less : tie.Need-loop-less Inv-loop μ-loop
 loop-less c = search needs
 
--- src/lib.rt:123:5
 loop-again : tie.Need-loop-again Inv-loop μ-loop
 loop-again c = line-turn _ (c .before .before .before .before .before .before .before .before .before .before .before .before .before .before .before .before .before .before .args .table .now) (c .before .before .before .before .before .before .before .before .before .before .loop .inv) (c .before .before .before .before .before .before .before .before .before .loop-test .taken) (c .before .before .before .before .before .before .before .put-comma .ensures) (c .before .before .before .print-annotation .ensures)
 
--- src/lib.rt:116:1
 same-length : tie.Need-same-length Inv-loop μ-loop
 same-length c = c .before .loop .inv .same
 
--- src/lib.rt:116:1
 returns : tie.Need-returns Inv-loop μ-loop
 unfolding printedTable
 returns c = put-as (line-ends _ _ _ (c .before .loop .inv) (c .loop-test .left)) (ap₂ (λ (n : ℕ) (k : Cursors). annotationsText 0 n (partsAt (c .before .before .before .before .before .before .before .before .before .args .table .now) k)) ((c .before .before .before .before .at-most .ensures) ∙ ap (λ (n : ℕ). min n 16) ((c .before .before .before .before .before .word-at .ensures) ∙ ap wordOf (c .before .before .before .before .before .before .rest .ensures))) ((c .before .before .starts .ensures) ∙ ap startsOf (c .before .before .before .counts-at .ensures)))

@@ -8,19 +8,15 @@ use Rattle.print_lines.proofs.put_comma.Reads as reads
 use Rattle.print_lines.proofs.put_comma.Lts as lts
 use Rattle.puts.proofs.put8.Reads as put8-reads
 
--- src/lib.rt:96:9
 returns : tie.Need-returns
 returns c = put-as (put-none (omega arith) (omega arith)) (comma-first _ (c .if1 .taken))
 
--- src/lib.rt:98:5
 put8-requires : tie.Need-put8-requires
 put8-requires c κs = search needs
 
--- src/lib.rt:92:1
 same-length : tie.Need-same-length
 same-length c = search needs
 
--- src/lib.rt:92:1
 returns-2 : tie.Need-returns-2
 returns-2 c = put-as (c .before .before .put8 .ensures) (comma-next _ (c .before .before .before .before .if1 .left))
 
