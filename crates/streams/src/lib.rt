@@ -11,10 +11,6 @@ use feeds::stretch;
 use libc::STDIN_FILENO;
 use libc::STDOUT_FILENO;
 
-// How many bytes are kept of a line that goes on past the end of the buffer, twice what a line may have; further ones are passed over.
-// The buffer has to be longer.
-pub const KEPT: usize = 8192;
-
 // How far the lines were taken.
 pub struct Stream {
     // Whether there is a line; where it stands in the buffer; how many bytes it has.
@@ -118,10 +114,11 @@ fn look(buf: &[u8], s: Stream) -> Stream
     s.at_line(0 < n, n, feed)
 }
 
-// More is read behind what stands in the buffer of the line that goes on.
+// More is read behind what stands in the buffer of the line that goes on. No more than half of the buffer is kept, so that there is
+// room to read: of a longer line further bytes are passed over, and so many at least come.
 fn refill(buf: &mut [u8], out: &[u8], s: Stream) -> Stream {
     flush(out, s.waiting);
-    let held = keep(buf, s.next, behind(s.filled, s.next, KEPT));
+    let held = keep(buf, s.next, behind(s.filled, s.next, buf.len() / 2));
     let came = read_behind(buf, held);
     Stream {
         found: false,

@@ -1,0 +1,106 @@
+// The programs `writes` and `write_rooms`: stored tables come from standard input, one a line in hexadecimal digits, and each is
+// answered by number, place and length, and its line in such digits, `-` where there is none or it is empty. Lines end at line feeds,
+// and the last may lack its own. What is read and written cannot be stated; these functions are proved safe and ending.
+use feeds::behind;
+use feeds::stretch;
+use hexes::is_hex;
+use hexes::put_unhexed;
+use numbers::read_number;
+use reading::Answer;
+use reading::MAX_LINE;
+use reading::refuse;
+use streams::Stream;
+use streams::flush;
+use streams::next_line;
+use streams::room;
+use tells::put_answer;
+use writing::write_by;
+
+// One byte more than the header of a table can name as its length, so that what is cut to so many bytes is no table either.
+pub const TABLE: usize = 65536;
+
+// Half of the buffer holds the digits of so many bytes.
+const BUFFER: usize = 4 * TABLE;
+
+// The longest answer: three numbers of at most 20 digits, each with a blank; the line; a line feed.
+const ANSWER: usize = 64 + 2 * MAX_LINE;
+
+// All tables. Where they are sized, each stands behind the length of its output, a number of at most 4,096, and a blank; else the
+// output is as long as a line may be.
+pub fn answer_tables(sized: bool) {
+    let machine = shape::machine();
+    let mut buf = [0u8; BUFFER];
+    let mut out = io::large_buffer();
+    let mut table = [0u8; TABLE];
+    let mut line = [0u8; MAX_LINE];
+    all(&machine, &mut buf, &mut out, &mut table, &mut line, sized);
+}
+
+// Table after table, until none comes. A proved loop has to end, so it counts down from a number that no run uses up.
+fn all(
+    machine: &[u8],
+    buf: &mut [u8],
+    out: &mut [u8],
+    table: &mut [u8],
+    line: &mut [u8],
+    sized: bool,
+) {
+    let mut s = next_line(buf, out, Stream::begin());
+    let mut turns = u64::MAX;
+    while turns > 0 {
+        if !s.found {
+            flush(out, s.waiting);
+            return;
+        }
+        let said = one_table(machine, buf, out, table, line, s, sized);
+        s = next_line(buf, out, said);
+        turns -= 1;
+    }
+}
+
+// The table that was found is answered.
+fn one_table(
+    machine: &[u8],
+    buf: &[u8],
+    out: &mut [u8],
+    table: &mut [u8],
+    line: &mut [u8],
+    s: Stream,
+    sized: bool,
+) -> Stream {
+    let at = room(out, s.waiting, ANSWER);
+    let asked = stretch(buf, s.from, s.len);
+    let a = write_one(machine, asked, table, line, sized);
+    let end = put_answer(out, at, a, line);
+    s.answered(end)
+}
+
+fn write_one(
+    machine: &[u8],
+    asked: &[u8],
+    table: &mut [u8],
+    line: &mut [u8],
+    sized: bool,
+) -> Answer {
+    if sized {
+        return write_sized(machine, asked, table, line);
+    }
+    write_hex(machine, asked, table, line)
+}
+
+// The digits behind a number and a blank, into so many bytes.
+fn write_sized(machine: &[u8], asked: &[u8], table: &mut [u8], line: &mut [u8]) -> Answer {
+    let n = read_number(asked);
+    let digits = stretch(stretch(asked, n.len, asked.len()), 1, asked.len());
+    let bytes = behind(n.value as usize, 0, line.len());
+    write_hex(machine, digits, table, &mut line[..bytes])
+}
+
+// What no digits spell is no table.
+fn write_hex(machine: &[u8], digits: &[u8], table: &mut [u8], line: &mut [u8]) -> Answer {
+    if !is_hex(digits) {
+        return refuse(9, 0);
+    }
+    let n = put_unhexed(table, 0, digits);
+    write_by(machine, stretch(table, 0, n), line)
+}

@@ -1,0 +1,505 @@
+#!/usr/bin/env python3
+"""The cases of the programs `writes` and `write_rooms`: stored tables, and what the rules say of them in words.
+
+    python3 tools/table_cases.py                   writes crates/writes/stdin and crates/write_rooms/stdin
+    python3 tools/table_cases.py --check           holds the stored outputs to what is stated here; prints differences
+    python3 tools/table_cases.py --with PROGRAM    makes the stored outputs by a writer of tables, then checks
+
+PROGRAM, with `--write --hex`, reads tables in hexadecimal digits from standard input, one a line, and prints `NUMBER PLACE LENGTH HEX`
+for each, HEX being the line, `-` where it is none or empty; with `--out N` too it does so with an output of N bytes. It is a writer
+other than this repository's, so that two agree on the stored outputs. Lines that are no pairs of digits are not asked of it: they are
+no table. Tables are made here from fields, by the section "The stored table" of document 01; those of the program `reads` come from
+its stored output. Where a table is written, its line is held to the fields that its bytes have.
+"""
+import copy
+import os
+import subprocess
+import sys
+
+ROOT = os.path.join(os.path.dirname(os.path.abspath(__file__)), "..", "crates")
+SERIES = "a b c d v w x y z da db wa wb".split()
+SYMBOLS = (
+    "H He Li Be B C N O F Ne Na Mg Al Si P S Cl Ar K Ca Sc Ti V Cr Mn Fe Co Ni Cu Zn Ga Ge As Se Br Kr Rb Sr Y Zr Nb Mo Tc Ru Rh Pd Ag Cd In Sn Sb Te I Xe "
+    "Cs Ba La Ce Pr Nd Pm Sm Eu Gd Tb Dy Ho Er Tm Yb Lu Hf Ta W Re Os Ir Pt Au Hg Tl Pb Bi Po At Rn Fr Ra Ac Th Pa U Np Pu Am Cm Bk Cf Es Fm Md No Lr "
+    "Rf Db Sg Bh Hs Mt Ds Rg Cn Nh Fl Mc Lv Ts Og"
+).split()
+C, H, H2O, NA = [(0, 6, 1)], [(0, 1, 1)], [(0, 1, 2), (0, 8, 1)], [(0, 11, 1)]
+
+
+def little(n, width):
+    return (n % 256**width).to_bytes(width, "little")
+
+
+def number(table, at, width=2):
+    return int.from_bytes(table[at:at + width], "little")
+
+
+# ---- an annotation's fields, and its bytes. A loss is (sign, kind, count, units or name), an isotope (sign, kind, n, nucleons, atomic
+# number), an adduct item (sign, kind, count, units), a unit (nucleons, atomic number, count).
+
+def annotation(kind=1, **fields):
+    made = dict(kind=kind, also=0, has_analyte=0, series=8 if kind == 1 else 0, analyte=0, position=1 if kind == 1 else 0, end=0, charge=1, deviation=0, decimals=0,
+                sure=0, sure_decimals=0, zero=0, off=0, confidence=0, text=b"", units=[], losses=[], isotopes=[], items=[], last=0)
+    assert set(fields) <= set(made), fields
+    made.update(copy.deepcopy(fields))
+    return made
+
+
+def record(a):
+    one = bytes([a["kind"], a["also"], a["has_analyte"], a["series"]])
+    two = little(a["analyte"], 2) + little(a["position"], 2) + little(a["end"], 2)
+    three = bytes([a["charge"], a["deviation"], a["decimals"], a["sure"], a["sure_decimals"], a["zero"]])
+    four = little(a["off"], 8) + little(a["confidence"], 4) + little(len(a["text"]), 2) + little(len(a["units"]), 2)
+    return one + two + three + four + bytes([len(a["losses"]), len(a["isotopes"]), len(a["items"]), a["last"]])
+
+
+def stored_unit(unit):
+    return b"".join(little(n, 2) for n in unit)
+
+
+def stored_item(sign, kind, count, what):
+    return bytes([sign, kind]) + little(count, 2) + little(len(what), 2)
+
+
+def framed(counts, sections):
+    """The header, and the sections behind it."""
+    offsets = [28 + sum(len(s) for s in sections[:i]) for i in range(6)]
+    head = little(1, 2) + little(28 + sum(len(s) for s in sections), 2)
+    return head + b"".join(little(n, 2) + little(o, 2) for n, o in zip(counts, offsets)) + b"".join(sections)
+
+
+def table(*annotations):
+    losses = [loss for a in annotations for loss in a["losses"]]
+    isotopes = [isotope for a in annotations for isotope in a["isotopes"]]
+    items = [item for a in annotations for item in a["items"]]
+    units, text = [], b""
+    for a in annotations:
+        units += a["units"] + [u for loss in a["losses"] if loss[1] != 1 for u in loss[3]] + [u for item in a["items"] for u in item[3]]
+        text += a["text"] + b"".join(loss[3] for loss in a["losses"] if loss[1] == 1)
+    return framed(
+        (len(annotations), len(losses), len(isotopes), len(items), len(units), len(text)),
+        [b"".join(record(a) for a in annotations), b"".join(stored_item(*loss) for loss in losses),
+         b"".join(bytes(i[:2]) + b"".join(little(n, 2) for n in i[2:]) for i in isotopes),
+         b"".join(stored_item(*item) for item in items), b"".join(stored_unit(u) for u in units), text])
+
+
+# ---- a sound table's line
+
+def formula(table, at, n):
+    units = [[number(table, at + 6 * i + 2 * k) for k in range(3)] for i in range(n)]
+    return "".join("[%d%s%d]" % (a, SYMBOLS[z - 1], n) if a else SYMBOLS[z - 1] + (str(n) if n > 1 else "") for a, z, n in units)
+
+
+def decimal(n, places):
+    return str(n) if places == 0 else "%d.%0*d" % (n // 10**places, places, n % 10**places)
+
+
+def counted(sign, n):
+    return "-+"[sign] + (str(n) if n > 1 else "")
+
+
+class Cursor:
+    """Where the next record of each section stands."""
+    def __init__(self, table):
+        self.table = table
+        self.at = [number(table, 6 + 4 * i) for i in range(6)]
+
+    def take(self, section, size):
+        self.at[section] += size
+        return self.at[section] - size
+
+    def formula(self, n):
+        return formula(self.table, self.take(4, 6 * n), n)
+
+    def text(self, n):
+        at = self.take(5, n)
+        return self.table[at:at + n].decode("ascii")
+
+
+def spelled(table):
+    c = Cursor(table)
+    return ",".join(spelled_annotation(table, c) for _ in range(number(table, 4))).encode()
+
+
+def spelled_annotation(table, c):
+    at = c.take(0, 36)
+    r = table[at:at + 36]
+    text, units = c.text(number(r, 28)), c.formula(number(r, 30))
+    braced = "{" + text + "}" if text else ""
+    named = "[" + text + "]" if text else ""
+    position = str(number(r, 6))
+    ion = ["", SERIES[r[3] - 1 if r[0] == 1 else 0] + position + braced, "m" + position + ":" + str(number(r, 8)) + braced, "I" + chr(r[3]) + named, "p",
+           "r" + named, "_" + braced, "f{" + units + "}", "s" + braced, "?" + (position if position != "0" else "")][r[0]]
+    made = ("&" if r[1] else "") + (str(number(r, 4)) + "@" if r[2] else "") + ion
+    for _ in range(r[32]):
+        i = c.take(1, 6)
+        made += counted(table[i], number(table, i + 2))
+        made += "[" + c.text(number(table, i + 4)) + "]" if table[i + 1] == 1 else c.formula(number(table, i + 4))
+    for _ in range(r[33]):
+        i = c.take(2, 8)
+        made += counted(table[i], number(table, i + 2)) + "i" + ["", "A", str(number(table, i + 4)) + SYMBOLS[number(table, i + 6) - 1]][table[i + 1]]
+    items = ""
+    for _ in range(r[34]):
+        i = c.take(3, 6)
+        items += counted(table[i], number(table, i + 2)) + ("e" if table[i + 1] == 2 else c.formula(number(table, i + 4)))
+    made += "[M" + items + "]" if items else ""
+    made += "^" + str(r[10]) if r[10] > 1 else ""
+    off = int.from_bytes(r[16:24], "little", signed=True)
+    made += "/" + ("-" if off < 0 else "") + decimal(abs(off), r[12]) + ["", "", "ppm"][r[11]] if r[11] else ""
+    return made + ("*" + decimal(number(r, 24, 4), r[14]) if r[13] else "")
+
+
+# ---- cases
+
+cases = []    # lines of digits, in order
+stated = {}   # line: (number, place)
+spare = []    # (room, line, stated)
+
+
+def ask(data):
+    cases.append(data.hex().encode())
+    return cases[-1]
+
+
+def state(data, *answer):
+    digits = ask(data)
+    assert stated.setdefault(digits, answer) == answer, (digits, answer)
+
+
+def no(data):
+    state(data, 9, 0)
+
+
+def yes(data):
+    state(data, 0, 0)
+
+
+def bad(**fields):
+    no(table(annotation(**fields)))
+
+
+def good(**fields):
+    yes(table(annotation(**fields)))
+
+
+def changed(data, at, value, width=1):
+    return data[:at] + little(value, width) + data[at + width:]
+
+
+def rich():
+    return annotation(also=1, has_analyte=1, analyte=1, position=7, charge=3, deviation=2, decimals=2, off=-20, sure=1, sure_decimals=2, confidence=50, text=b"PEPTIDE",
+                      losses=[(1, 1, 1, b"Hex"), (0, 0, 2, H2O)], isotopes=[(1, 2, 2, 13, 6), (0, 2, 1, 15, 7)], items=[(1, 0, 1, NA), (0, 2, 2, [])])
+
+
+def other():
+    return [annotation(2, position=2, end=5, text=b"AB", deviation=1, decimals=1, off=5, losses=[(0, 0, 1, C)]),
+            annotation(7, units=[(0, 6, 2), (13, 6, 1)], isotopes=[(0, 1, 3, 0, 0)], items=[(1, 0, 1, H)], sure=1, sure_decimals=1, confidence=5)]
+
+
+def of_lines():
+    """The tables of short readable lines, among them those of document 01."""
+    with open(os.path.join(ROOT, "reads", "stdin"), "rb") as lines, open(os.path.join(ROOT, "reads", "stdout"), "rb") as answers:
+        pairs = zip(lines.read().split(b"\n"), answers.read().split(b"\n"))
+    for made in dict.fromkeys(bytes.fromhex(a.split(b" ")[3].decode()) for line, a in pairs if a.startswith(b"0 ") and len(line) <= 40):
+        yes(made)
+
+
+def bytes_changed():
+    """Each byte of two tables with all sections, changed: mostly no table, now and then another."""
+    made = table(rich())
+    yes(made)
+    for i, b in enumerate(made):
+        for value in dict.fromkeys(((b + 1) % 256, (b + 255) % 256, 0, 255)):
+            if value != b:
+                ask(changed(made, i, value))
+    made = table(*other())
+    yes(made)
+    for i, b in enumerate(made):
+        ask(changed(made, i, (b + 1) % 256))
+        ask(changed(made, i, (b + 128) % 256))
+
+
+def cut_and_longer():
+    """A table ends where its header says."""
+    small, made = table(annotation()), table(rich())
+    for whole in (small, made, table()):
+        for n in range(len(whole)):
+            no(whole[:n])
+        for tail in (b"\0", b"\1", b"\0" * 36, whole):
+            no(whole + tail)
+            no(changed(whole + tail, 2, len(whole + tail), 2))
+    for n in (1, 27, 28, 29, 36, 64, 70000):
+        no(b"\0" * n)
+    no(b"\xff" * 28)
+    for at in range(4, 28, 2):
+        for value in (0, 1, 27, 28, 63, 65, 1000, 65535):
+            if value != number(small, at):
+                no(changed(small, at, value, 2))
+    for edition in (0, 2, 256, 257, 65535):
+        no(changed(small, 0, edition, 2))
+    # sections with bytes that no annotation counts
+    for width, section in ((6, 1), (8, 2), (6, 3), (6, 4), (1, 5)):
+        sections = [record(annotation())] + [b""] * 5
+        sections[section] = (b"\0\0\1\0\1\0\1\0" if width == 8 else b"\0\0\1\0\1\0")[:width]
+        no(framed([1] + [int(k == section) for k in range(1, 6)], sections))
+    # a section before its place, and a gap
+    no(changed(made, 6, 27, 2))
+    no(changed(made, 6, 29, 2))
+
+
+def ordered():
+    """Losses and adduct items in their order, and out of it; what else keeps its order may stand in any."""
+    losses = [(0, 0, 1, [(13, 6, 1)]), (0, 1, 1, b"HexNAc"), (0, 1, 1, b"Hex"), (0, 0, 1, C), (0, 0, 1, [(0, 6, 1), (13, 6, 1)]), (0, 0, 1, [(0, 6, 2)]), (0, 0, 2, H2O), (1, 0, 1, H2O)]
+    good(losses=losses)
+    for i in range(8):
+        for k in range(i + 1, 8):
+            swapped = list(losses)
+            swapped[i], swapped[k] = swapped[k], swapped[i]
+            bad(losses=swapped)
+    for pair in ([(0, 0, 1, C), (0, 0, 1, H)], [(0, 0, 1, C), (1, 0, 1, C)], [(0, 0, 1, C), (0, 0, 2, C)], [(0, 0, 2, C), (1, 0, 1, C)], [(0, 0, 2, C), (0, 0, 10, C)],
+                 [(0, 0, 1, [(0, 6, 10)]), (0, 0, 1, [(0, 6, 2)])], [(0, 0, 1, [(13, 6, 1)]), (0, 0, 1, C)], [(0, 0, 1, H), (0, 0, 1, [(0, 2, 1)])],
+                 [(0, 0, 1, C), (0, 0, 1, [(0, 6, 1), (13, 6, 1)])], [(0, 0, 1, [(0, 6, 1), (13, 6, 1)]), (0, 0, 1, [(0, 6, 2)])]):
+        good(losses=pair)
+        bad(losses=pair[::-1])
+        good(items=pair)
+        bad(items=pair[::-1])
+    for pair in ([(0, 1, 1, b"HexNAc"), (0, 1, 1, b"Hex")], [(0, 1, 1, b"a"), (0, 0, 1, C)], [(0, 0, 1, [(13, 6, 1)]), (0, 1, 1, b"C")]):
+        good(losses=pair)
+        bad(losses=pair[::-1])
+    good(items=[(0, 0, 1, H), (1, 2, 1, [])])
+    bad(items=[(1, 2, 1, []), (0, 0, 1, H)])
+    for same in ((0, 0, 1, C), (1, 1, 3, b"Hex")):
+        good(losses=[same] * 8)
+    good(items=[(0, 2, 1, [])] * 4)
+    for free in (dict(isotopes=[(1, 2, 1, 13, 6), (1, 2, 1, 15, 7)]), dict(isotopes=[(1, 2, 1, 15, 7), (1, 2, 1, 13, 6)]), dict(kind=7, units=C + H), dict(kind=7, units=H + C)):
+        good(**free)
+    yes(table(rich(), *other()))
+    yes(table(*other(), rich()))
+
+
+def fields():
+    """Numbers at their bounds and past them."""
+    for name, kind, values, more in (
+        ("position", 1, (1, 2, 65535), {}), ("position", 9, (0, 1, 65535), {}), ("end", 2, (2, 3, 65535), dict(position=2)), ("analyte", 1, (0, 1, 65535), dict(has_analyte=1)),
+        ("charge", 1, (1, 2, 255), {}), ("series", 1, range(1, 14), {}), ("series", 3, range(65, 91), {}), ("also", 1, (0, 1), {}),
+        ("decimals", 1, range(10), dict(deviation=1)), ("decimals", 1, range(10), dict(deviation=2, off=-999999999999)),
+        ("sure_decimals", 1, range(10), dict(sure=1, confidence=1)), ("off", 1, (0, 1, -1, 999999999999, -999999999999), dict(deviation=1)),
+        ("confidence", 1, (0, 1, 999999999, 1000000000), dict(sure=1, sure_decimals=9)), ("confidence", 1, (0, 1), dict(sure=1)), ("confidence", 1, (0, 1, 10), dict(sure=1, sure_decimals=1)),
+    ):
+        for value in values:
+            good(kind=kind, **{name: value}, **more)
+    for name, kind, values, more in (
+        ("position", 1, (0,), {}), ("position", 2, (0, 1, 6, 65535), dict(end=5)), ("end", 2, (0, 1), dict(position=2)), ("analyte", 1, (1, 65535), {}), ("has_analyte", 1, (2, 255), {}),
+        ("charge", 1, (0,), {}), ("series", 1, (0, 14, 65, 255), {}), ("series", 3, (0, 64, 91, 97, 255), {}), ("also", 1, (2, 128), {}), ("zero", 1, (1, 255), {}), ("last", 1, (1, 255), {}),
+        ("deviation", 1, (3, 255), {}), ("decimals", 1, (10, 255), dict(deviation=1, off=1)), ("decimals", 1, (1,), {}), ("off", 1, (1, -1), {}),
+        ("off", 1, (10**12, -10**12, 2**63 - 1, -2**63, -2**63 + 1, 2**32 * 10**9), dict(deviation=2)), ("sure", 1, (2, 255), {}), ("sure_decimals", 1, (1,), {}),
+        ("sure_decimals", 1, (10, 255), dict(sure=1, confidence=1)), ("confidence", 1, (1,), {}), ("confidence", 1, (1000000001, 2**32 - 1), dict(sure=1, sure_decimals=9)),
+        ("confidence", 1, (2, 100), dict(sure=1)), ("confidence", 1, (11, 101), dict(sure=1, sure_decimals=1)), ("kind", 1, (0, 10, 255), {}),
+    ):
+        for value in values:
+            bad(**{"kind": kind, name: value, **more})
+    for first, kind, many in (("losses", 0, 8), ("items", 0, 4)):
+        for unit in ((0, 1, 1), (0, 118, 999), (1, 1, 1), (999, 118, 999)):
+            good(**{first: [(0, kind, 1, [unit])]})
+        for unit in ((0, 0, 1), (0, 119, 1), (0, 65535, 1), (0, 1, 0), (0, 1, 1000), (1000, 1, 1), (13, 6, 0), (65535, 1, 1)):
+            bad(**{first: [(0, kind, 1, [unit])]})
+        for count, answer in ((0, bad), (1, good), (2, good), (999, good), (1000, bad), (65535, bad)):
+            answer(**{first: [(0, kind, count, C)]})
+        for sign, answer in ((0, good), (1, good), (2, bad), (255, bad)):
+            answer(**{first: [(sign, kind, 1, C)]})
+        for n in (1, 12):
+            good(**{first: [(0, kind, 1, C * n)]})
+        for n in (0, 13):
+            bad(**{first: [(0, kind, 1, C * n)]})
+        good(**{first: [(0, kind, 1, C)] * many})
+        bad(**{first: [(0, kind, 1, C)] * (many + 1)})
+    bad(losses=[(0, 2, 1, [])])
+    bad(losses=[(0, 3, 1, C)])
+    bad(items=[(0, 1, 1, C)])
+    bad(items=[(0, 2, 1, C)])
+    bad(items=[(0, 2, 0, [])])
+    good(items=[(0, 2, 999, [])])
+    for isotope in ((0, 0, 1, 0, 0), (1, 0, 999, 0, 0), (0, 1, 2, 0, 0), (1, 2, 1, 1, 1), (0, 2, 999, 999, 118)):
+        good(isotopes=[isotope])
+    for isotope in ((2, 0, 1, 0, 0), (0, 3, 1, 0, 0), (0, 0, 0, 0, 0), (0, 0, 1000, 0, 0), (0, 0, 1, 1, 0), (0, 0, 1, 0, 1), (0, 1, 1, 13, 6), (0, 2, 1, 0, 6), (0, 2, 1, 13, 0), (0, 2, 1, 1000, 6), (0, 2, 1, 13, 119), (0, 2, 0, 13, 6)):
+        bad(isotopes=[isotope])
+    good(isotopes=[(0, 2, 1, 13, 6)] * 4)
+    bad(isotopes=[(0, 2, 1, 13, 6)] * 5)
+    for mixed in ([(0, 0, 1, 0, 0)] * 2, [(0, 1, 1, 0, 0)] * 2, [(0, 2, 1, 13, 6), (0, 0, 1, 0, 0)], [(0, 0, 1, 0, 0), (0, 1, 1, 0, 0)]):
+        bad(isotopes=mixed)
+    for n, answer in ((0, yes), (1, yes), (16, yes), (17, no), (255, no)):
+        answer(table(*[annotation(4)] * n))
+
+
+def kinds():
+    """Each kind with its own fields, and with those that are another's."""
+    own = {1: {}, 2: dict(position=2, end=3), 3: dict(series=67), 4: {}, 5: dict(text=b"TMT"), 6: dict(text=b"a b"), 7: dict(units=C), 8: dict(text=b"CN", items=[(1, 0, 1, H)]), 9: {}}
+    for kind, more in own.items():
+        good(kind=kind, **more)
+        for name, value, holders in (("position", 5, (1, 9)), ("end", 7, (2,)), ("series", 3, (1,)), ("series", 70, (3,)), ("text", b"Ab", (1, 2, 3, 5, 6, 8)), ("units", C, (7,)), ("text", b"", (1, 2, 3, 4, 7, 9)), ("units", [], (1, 2, 3, 4, 5, 6, 8, 9))):
+            if name == "position" and kind == 2:
+                continue
+            (good if kind in holders else bad)(**{**more, "kind": kind, name: value})
+        for b in range(256):
+            if more.get("text") and b in b"\0\x1f !,/[]{}~\x7f\x80\xff":
+                fine = 32 <= b <= 126 and bytes([b]) not in (b"[]" if kind == 5 else b"{}")
+                (good if fine else bad)(**{**more, "kind": kind, "text": b"a" + bytes([b])})
+    bad(kind=8, text=b"CN")
+    for name, answer in ((b"M", good), (b"M2", good), (b"M+", bad), (b"M-", bad), (b"M+H", bad), (b"m+H", good), (b"[", bad), (b"a]", bad), (b"+58", good), (b"{", good)):
+        answer(kind=3, series=67, text=name)
+    for name, answer in ((b"M+H", good), (b"2H1", bad), (b"Z", good), (b"a", good), (b" a", bad), (b"[a", bad), (b"a]", bad), (b"a{", good), (b"", bad), (b"a\n", bad), (b"a" * 255, good), (b"a" * 256, bad)):
+        answer(losses=[(0, 1, 1, name)])
+    for kind in (1, 6):
+        good(kind=kind, text=b"x" * 255)
+        bad(kind=kind, text=b"x" * 256)
+    good(kind=7, units=C * 12)
+    bad(kind=7, units=C * 13)
+
+
+def sums():
+    """Confidences over the line."""
+    def share(confidence, decimals):
+        return annotation(sure=1, sure_decimals=decimals, confidence=confidence)
+    yes(table(*[share(1, 1)] * 10))
+    no(table(*[share(1, 1)] * 11))
+    yes(table(share(999999999, 9), share(1, 9), share(0, 3)))
+    no(table(share(999999999, 9), share(2, 9)))
+    yes(table(share(1, 0), share(0, 0)))
+    no(table(share(1, 0), share(1, 9)))
+    yes(table(*[share(625, 4)] * 16))
+
+
+def largest():
+    """The most that one annotation may have, and a line of any length."""
+    names = [(0, 1, 999, b"x" * 255)] * 8
+    items = [(0, 0, 999, [(999, 118, 999)] * 12)] * 4
+    return annotation(also=1, has_analyte=1, analyte=65535, position=65535, series=13, charge=255, deviation=2, decimals=9, off=-999999999999, sure=1, sure_decimals=9, confidence=1,
+                      text=b"x" * 255, losses=names, isotopes=[(1, 2, 999, 999, 118)] * 4, items=items)
+
+
+def texts(*lengths):
+    return table(*[annotation(6, text=b"x" * n) for n in lengths])
+
+
+def long():
+    """Lines at their bound, and tables whose lines are longer: 1, unless they are no tables."""
+    full = [252] * 15
+    for last, answer in ((252, (0, 0)), (253, (0, 0)), (254, (1, 4096)), (255, (1, 4096)), (256, (9, 0))):
+        state(texts(*full, last), *answer)
+    two = table(largest(), largest())
+    state(two, 1, 4096)
+    no(two + b"\0")
+    no(two[:-1])
+    no(changed(two, len(two) - 1, 10))
+    no(changed(two, 28 + 15, 1))
+    yes(table(largest()))
+    # the largest table of all, with one byte more, and with its last adduct item out of order
+    most = table(*[largest()] * 16)
+    assert len(most) == 43596
+    state(most, 1, 4096)
+    no(most + b"\0")
+    last = largest()
+    last["items"] = last["items"][:3] + [(0, 0, 998, last["items"][0][3])]
+    no(table(*[largest()] * 15, last))
+    # lines and tables around 1,024 bytes
+    for n in (249, 250, 251):
+        yes(texts(253, 253, 253, n))
+    for n in (95, 96, 97):
+        yes(texts(252, 252, 252, n))
+    for n in (3, 4, 5):
+        yes(table(*[annotation(7, units=C * 6)] * 13, annotation(7, units=C * n)))
+
+
+def digits():
+    """Lines that are no pairs of digits, and capitals, which are digits."""
+    made = table(annotation()).hex().encode()
+    for line in (b"0", made[:-1], made + b"0", made + b" ", b" " + made, made[:-1] + b"g", b"g" + made[1:], made + b"\r", b"0x" + made, b"zz", b"/0", b":0", b"@0", b"G0", b"`0", b"0\xff", b"0" * 87193):
+        cases.append(line)
+        stated[line] = (9, 0)
+    cases.append(table(rich()).hex().upper().encode())
+    stated[cases[-1]] = (0, 0)
+
+
+def rooms():
+    """Outputs around the length of a line."""
+    for made in (table(), table(annotation()), table(annotation(4), annotation(4)), table(rich()), table(*other()), table(rich(), *other()), table(*[annotation(4)] * 16), table(annotation(9)), texts(252, 252),
+                 table(annotation(3, series=90, items=[(1, 0, 1, H)])), texts(255, 255, 255, 255), texts(*[252] * 15, 250), texts(*[252] * 15, 253), table(largest())):
+        n = len(spelled(made))
+        for room in dict.fromkeys((n, max(n - 1, 0), min(n + 1, 4096), 0) + (() if n > 1000 else (1, 28, 4096))):
+            spare.append((room, made, (0, 0, n) if n <= room else (8, n, 0)))
+    for made, answer in ((b"", (9, 0, 0)), (b"\0", (9, 0, 0)), (table(annotation()) + b"\0", (9, 0, 0)), (table(annotation(4, position=1)), (9, 0, 0)), (texts(*[252] * 15, 254), (1, 4096, 0)), (table(largest(), largest()), (1, 4096, 0))):
+        for room in (0, 1, 2, 4096):
+            spare.append((room, made, answer))
+
+
+# ---- answers
+
+def stored(name, kind):
+    with open(os.path.join(ROOT, name, kind), "rb") as f:
+        return f.read()
+
+
+def store(name, kind, data):
+    with open(os.path.join(ROOT, name, kind), "wb") as f:
+        f.write(data)
+
+
+def fault(data, answer, expected):
+    """What is wrong with an answer to a table, by what is stated and by the table's own fields."""
+    found = answer.split(b" ")
+    line = b"" if found[3] == b"-" else bytes.fromhex(found[3].decode())
+    got = tuple(int(n) for n in found[:3])
+    if len(line) != got[2]:
+        return "a line of the length that is said"
+    if got[:len(expected)] != expected:
+        return expected
+    if got[0] == 0 and line != spelled(data):
+        return spelled(data)
+    if got[0] not in (0, 1, 8, 9):
+        return "0, 1, 8 or 9"
+    return None
+
+
+def is_pairs(line):
+    return len(line) % 2 == 0 and all(b in b"0123456789abcdefABCDEF" for b in line)
+
+
+def check():
+    wrong = []
+    for name, given in (("writes", [(line, stated.get(line, ())) for line in cases]), ("write_rooms", [(made.hex().encode(), answer) for _, made, answer in spare])):
+        answers = stored(name, "stdout").split(b"\n")[:-1]
+        assert len(answers) == len(given), (name, len(answers), len(given))
+        for (line, expected), answer in zip(given, answers):
+            what = fault(bytes.fromhex(line.decode()) if is_pairs(line) else b"", answer, expected)
+            if what is not None:
+                wrong.append((line, what, answer))
+    for line, expected, got in wrong:
+        print("table %s: stated %r, stored %s" % (line[:400].decode("latin-1"), expected, got[:200].decode()))
+    written = sum(answer.startswith(b"0 ") for answer in stored("writes", "stdout").split(b"\n"))
+    print("%d tables, %d of them with a stated answer, %d written; %d rooms; %d differences" % (len(cases), sum(line in stated for line in cases), written, len(spare), len(wrong)))
+    return not wrong
+
+
+def answers_by(program, given, *words):
+    return subprocess.run([program, "--write", "--hex", *words], input=given, stdout=subprocess.PIPE, check=True).stdout
+
+
+def main(words):
+    for part in (of_lines, bytes_changed, cut_and_longer, ordered, fields, kinds, sums, long, digits, rooms):
+        part()
+    if words[:1] == ["--check"]:
+        return 0 if check() else 1
+    # the last line lacks its line feed, as it may
+    store("writes", "stdin", b"\n".join(cases))
+    store("write_rooms", "stdin", b"".join(b"%d " % room + made.hex().encode() + b"\n" for room, made, _ in spare))
+    if words[:1] == ["--with"]:
+        given = [line for line in cases if is_pairs(line)]
+        answers = iter(answers_by(words[1], b"".join(line + b"\n" for line in given)).splitlines(keepends=True))
+        store("writes", "stdout", b"".join(next(answers) if is_pairs(line) else b"9 0 0 -\n" for line in cases))
+        store("write_rooms", "stdout", b"".join(answers_by(words[1], made.hex().encode() + b"\n", "--out", str(room)) for room, made, _ in spare))
+        return 0 if check() else 1
+    return 0
+
+
+if __name__ == "__main__":
+    sys.exit(main(sys.argv[1:]))
