@@ -1,0 +1,59 @@
+-- `relabel::spell_within` is safe. Assumes nothing.
+use mathlib.Core.Path.{sym}
+use lib.Seq.{length-take-le}
+use borrow.Author.Needs.{needs}
+use Rattle.relabel.proofs.spell_within.Statement.{statement}
+use Rattle.relabel.proofs.spell_within.Tie as tie
+
+behind-requires : tie.Need-behind-requires
+behind-requires c κs = search needs
+
+behind-requires-2 : tie.Need-behind-requires-2
+behind-requires-2 c κs = search needs
+
+ahead-requires : tie.Need-ahead-requires
+ahead-requires c κs = search needs
+
+slice-relend-prefix-relabel-by : tie.Need-slice-relend-prefix-relabel-by
+slice-relend-prefix-relabel-by c = search needs
+
+slice-aggregate-relabel-by : tie.Need-slice-aggregate-relabel-by
+slice-aggregate-relabel-by c = sym (length-take-le _ _ (search needs))
+
+sub-relabel-by : tie.Need-sub-relabel-by
+sub-relabel-by c = search needs
+
+part-relabel-by-start : tie.Need-part-relabel-by-start
+part-relabel-by-start c = search needs
+
+part-relabel-by-end : tie.Need-part-relabel-by-end
+part-relabel-by-end c = search needs
+
+relabel-by-requires : tie.Need-relabel-by-requires
+relabel-by-requires c κs = search needs
+
+same-length : tie.Need-same-length
+same-length c = search needs
+
+same-length-2 : tie.Need-same-length-2
+same-length-2 c = search needs
+
+returns : tie.Need-returns
+returns c = search needs
+
+pub spell-within-spec : {M : Type 1} → statement M
+spell-within-spec =
+    tie.close
+    (tie.spec
+    behind-requires
+    behind-requires-2
+    ahead-requires
+    slice-relend-prefix-relabel-by
+    slice-aggregate-relabel-by
+    sub-relabel-by
+    part-relabel-by-start
+    part-relabel-by-end
+    relabel-by-requires
+    same-length
+    same-length-2
+    returns)

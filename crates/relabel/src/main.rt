@@ -1,0 +1,91 @@
+// The relabel program of document 01: for each line of standard input its preferred spelling, or `!`, the number of refusal, a space and
+// the place. Lines end at line feeds, and the last may lack its own. What is read and written cannot be stated; these functions are
+// proved safe and ending, and `lines::relabel_by` states what becomes of a line.
+use feeds::behind;
+use feeds::stretch;
+use lines::relabel_by;
+use numbers::put_number;
+use openings::ahead;
+use puts::put8;
+use reading::Answer;
+use reading::MAX_LINE;
+use streams::Stream;
+use streams::flush;
+use streams::next_line;
+use streams::room;
+use tells::put_field;
+
+// How many bytes a table needs at most.
+const TABLE: usize = 21340;
+
+// What is lent is cleared, and clearing all that any line might need would cost more than reading most lines. So few bytes suffice for
+// the tables of most lines.
+const FEW: usize = 512;
+
+fn main() {
+    let machine = shape::machine();
+    let mut buf = io::large_buffer();
+    let mut out = io::large_buffer();
+    let mut table = [0u8; TABLE];
+    all(&machine, &mut buf, &mut out, &mut table);
+}
+
+// Line after line, until none comes. A proved loop has to end, so it counts down from a number that no run uses up.
+fn all(machine: &[u8], buf: &mut [u8], out: &mut [u8], table: &mut [u8]) {
+    let mut s = next_line(buf, out, Stream::begin());
+    let mut turns = u64::MAX;
+    while turns > 0 {
+        if !s.found {
+            flush(out, s.waiting);
+            return;
+        }
+        let said = one_line(machine, buf, out, table, s);
+        s = next_line(buf, out, said);
+        turns -= 1;
+    }
+}
+
+// The line that was found is answered, behind the answers that wait; a line feed ends its own.
+fn one_line(machine: &[u8], buf: &[u8], out: &mut [u8], table: &mut [u8], s: Stream) -> Stream {
+    let at = room(out, s.waiting, MAX_LINE + 1);
+    let line = stretch(buf, s.from, s.len);
+    let a = spell(machine, line, table, out, at);
+    let end = put_told(out, at, a);
+    s.answered(put8(out, end, b'\n'))
+}
+
+// The preferred spelling at a place of the output. It is no longer than its line; where that or a small table does not suffice, all that
+// any line needs is lent.
+fn spell(machine: &[u8], line: &[u8], table: &mut [u8], out: &mut [u8], at: usize) -> Answer {
+    let a = spell_within(machine, line, table, FEW, out, at, line.len());
+    if a.number != 8 {
+        return a;
+    }
+    spell_within(machine, line, table, TABLE, out, at, MAX_LINE)
+}
+
+// By a table of at most `bytes`, into at most `most` bytes of the output.
+fn spell_within(
+    machine: &[u8],
+    line: &[u8],
+    table: &mut [u8],
+    bytes: usize,
+    out: &mut [u8],
+    at: usize,
+    most: usize,
+) -> Answer {
+    let few = behind(bytes, 0, table.len());
+    let from = behind(at, 0, out.len());
+    let end = ahead(from, most, out.len());
+    relabel_by(machine, line, &mut table[..few], &mut out[from..end])
+}
+
+// The place behind a spelling that stands at a place already, or behind the refusal that is put there.
+fn put_told(out: &mut [u8], at: usize, a: Answer) -> usize {
+    if a.number != 0 {
+        let p = put8(out, at, b'!');
+        let q = put_field(out, p, a.number as u64);
+        return put_number(out, q, a.place as u64);
+    }
+    ahead(at, a.len, out.len())
+}
