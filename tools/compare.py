@@ -3,7 +3,8 @@
 
     python3 tools/compare.py OURS OTHER [--lines N] [--seed S] [--good FILE] [--show K]
 
-OURS and OTHER are programs that read lines from standard input and print one answer a line: `target/bin/reads` and another reader.
+OURS and OTHER are programs that read lines from standard input and print one answer a line: `target/bin/reads` and another reader,
+or `target/bin/relabel` and another relabel program.
 N (100,000 unless said) lines are made from good ones by damage: bytes and whole parts deleted, inserted, swapped, repeated; numbers
 moved to their bounds; parts repeated past their limits; long lines. FILE holds the good lines, one a line; without it the inputs of
 the program `reads` and lines made here serve. The same S makes the same lines. Prints each difference (K of them, 20 unless said)
@@ -13,6 +14,7 @@ import argparse
 import collections
 import os
 import random
+import re
 import subprocess
 import sys
 
@@ -165,6 +167,12 @@ def answers(program, given):
     return subprocess.run([program], input=given, stdout=subprocess.PIPE, check=True).stdout.split(b"\n")[:-1]
 
 
+def answered(answer):
+    """The number of an answer; a spelling, which no number and blank begin, is none."""
+    number = re.match(rb"!?[0-9] ", answer)
+    return number.group()[:-1].decode() if number else "spelled"
+
+
 def main():
     parser = argparse.ArgumentParser(description=__doc__.split("\n")[0])
     parser.add_argument("ours")
@@ -190,7 +198,7 @@ def main():
             print("%d lines, %d answers of ours, %d of the other" % (len(lines), len(ours), len(other)))
             differences += 1
         for line, a, b in zip(lines, ours, other):
-            numbers[b.split(b" ")[0].decode()] += 1
+            numbers[answered(b)] += 1
             if a != b:
                 differences += 1
                 if differences <= given.show:

@@ -18,9 +18,11 @@ use tells::put_field;
 // How many bytes a table needs at most.
 const TABLE: usize = 21340;
 
-// What is lent is cleared, and clearing all that any line might need would cost more than reading most lines. So few bytes suffice for
-// the tables of most lines.
-const FEW: usize = 512;
+// The header and sixteen annotations of a table. What else it has takes no more than SHARE bytes for each byte of the line: 6 for a unit
+// and for the sign of a loss or an adduct item, 8 for an isotope, which has two bytes at least, 1 for a byte of text.
+const FIXED: usize = 28 + 16 * 36;
+
+const SHARE: usize = 6;
 
 fn main() {
     let machine = shape::machine();
@@ -54,10 +56,12 @@ fn one_line(machine: &[u8], buf: &[u8], out: &mut [u8], table: &mut [u8], s: Str
     s.answered(put8(out, end, b'\n'))
 }
 
-// The preferred spelling at a place of the output. It is no longer than its line; where that or a small table does not suffice, all that
-// any line needs is lent.
+// The preferred spelling at a place of the output. What is lent is cleared, and clearing all that any line might need would cost more than
+// reading most lines: so as much is lent as this line might need, its spelling being no longer than itself. That this suffices is not
+// proved; where it did not, all would be lent.
 fn spell(machine: &[u8], line: &[u8], table: &mut [u8], out: &mut [u8], at: usize) -> Answer {
-    let a = spell_within(machine, line, table, FEW, out, at, line.len());
+    let n = behind(line.len(), 0, MAX_LINE);
+    let a = spell_within(machine, line, table, FIXED + SHARE * n, out, at, n);
     if a.number != 8 {
         return a;
     }
