@@ -16,7 +16,8 @@ import os
 import subprocess
 import sys
 
-ROOT = os.path.join(os.path.dirname(os.path.abspath(__file__)), "..", "crates")
+from cases import ROOT, store, stored
+
 SERIES = "a b c d v w x y z da db wa wb".split()
 SYMBOLS = (
     "H He Li Be B C N O F Ne Na Mg Al Si P S Cl Ar K Ca Sc Ti V Cr Mn Fe Co Ni Cu Zn Ga Ge As Se Br Kr Rb Sr Y Zr Nb Mo Tc Ru Rh Pd Ag Cd In Sn Sb Te I Xe "
@@ -433,16 +434,6 @@ def rooms():
 
 
 # ---- answers
-
-def stored(name, kind):
-    with open(os.path.join(ROOT, name, kind), "rb") as f:
-        return f.read()
-
-
-def store(name, kind, data):
-    with open(os.path.join(ROOT, name, kind), "wb") as f:
-        f.write(data)
-
 
 def fault(data, answer, expected):
     """What is wrong with an answer to a table, by what is stated and by the table's own fields."""

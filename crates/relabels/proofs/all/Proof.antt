@@ -3,8 +3,8 @@ use borrow.Author.Needs.{needs}
 use mathlib.Core.Path.{_≡_, refl}
 use lib.ListN.{length}
 use native.Mathlib.Omega.{arith}
-use Rattle.relabel.proofs.all.Statement.{statement}
-use Rattle.relabel.proofs.all.Tie as tie
+use Rattle.relabels.proofs.all.Statement.{statement}
+use Rattle.relabels.proofs.all.Tie as tie
 
 abbrev Inv-loop : tie.InvT-loop
 Inv-loop machine buf₀ out₀ table₀ s₀ turns₀ buf out table s turns = (length buf ≡ length buf₀) × ((length out ≡ length out₀) × (length table ≡ length table₀))

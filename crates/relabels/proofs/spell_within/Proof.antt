@@ -2,8 +2,8 @@
 use mathlib.Core.Path.{sym}
 use lib.Seq.{length-take-le}
 use borrow.Author.Needs.{needs}
-use Rattle.relabel.proofs.spell_within.Statement.{statement}
-use Rattle.relabel.proofs.spell_within.Tie as tie
+use Rattle.relabels.proofs.spell_within.Statement.{statement}
+use Rattle.relabels.proofs.spell_within.Tie as tie
 
 behind-requires : tie.Need-behind-requires
 behind-requires c κs = search needs
