@@ -1,4 +1,4 @@
-// One annotation, read from the rest of a line and stored at six cursors. Its limits were measured before, so places are not told.
+// One annotation, read from the rest of a line and stored at six cursors. Its limits were measured before: what its readers tell of them is not looked at.
 ghost use mathlib.Core.Path.{_≡_};
 ghost use Rattle.puts.specs.Puts.{Put};
 ghost use Rattle.pages.specs.Pages.{Ran};
