@@ -1,8 +1,9 @@
 -- The rules for one annotation, of what is read of spelled parts within their limits. Assumes nothing.
-use Prim.Native.Nat.{ℕ, min}
+use Prim.Native.Nat.{ℕ, _-_, _^_, min}
 use mathlib.Core.Path.{_≡_, refl, ap}
 use mathlib.Core.Bool.{Bool, true, false, cond, not, _||_}
 use mathlib.Core.List.{[], _∷_}
+use native.Mathlib.Nat.{zero-mul}
 use native.Mathlib.Omega.{arith}
 use lib.Dec.{T, leb}
 use borrow.Author.Tests.{leb-true, leb-false, le-leb, lt-leb}
@@ -12,10 +13,11 @@ use Rattle.rules.specs.Bytes.{bytes}
 use Rattle.rules.specs.Decimals.{Decimal}
 use Rattle.rules.specs.Annotations.{Deviation, flagText}
 use Rattle.rules.specs.House.{deviationRule, confidenceOf, one}
-use Rattle.rules.specs.Limits.{fits, bare, decimalMark, decimalPart, optPart, deviationPart, confidencePart}
+use Rattle.rules.specs.Limits.{maxPlaces, fits, bare, decimalMark, decimalPart, optPart, deviationPart, confidencePart}
 use Rattle.rules.proofs.Keeps.{kept-part}
 use Rattle.numbers.specs.Shares.{largest, billionthsOf}
 use Rattle.terms.specs.declared.Fault.{Fault}
+use Rattle.tails.specs.declared.DecimalPart.{DecimalPart}
 use Rattle.tails.proofs.Laws.{deviationRead, confidenceRead}
 use Rattle.annotations.specs.House.{deviationRuleOf, shareOf}
 
@@ -32,6 +34,11 @@ deviation-rule silent at g k = refl
 deviation-rule (written d) at g k =
     let p = kept-part at (bare (bytes "/") ∷ bare (flagText (bytes "-") (d .minus)) ∷ decimalPart (d .size) ∷ []) k (decimalPart (d .size)) (later (later here)) in
     ap (λ (t : Bool). not (d .minus) || leb 1 (cond t (d .size .value) 0)) (fits-kept (d .size) (p .0) (p .1))
+
+-- nothing is no billionths, whatever its places
+pub share-zero : (c : DecimalPart) → c .value ≡ 0 → 0 ≡ shareOf c
+unfolding shareOf billionthsOf
+share-zero c e = rw (e, zero-mul (10 ^ (maxPlaces - c .places)))
 
 pub share-told : (c : Opt Decimal) (at : ℕ) (g : Fault) → Kept (optPart confidencePart c .marks at) → shareOf (confidenceRead c g) ≡ min (confidenceOf c) largest
 unfolding shareOf billionthsOf

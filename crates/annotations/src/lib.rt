@@ -270,6 +270,10 @@ fn keeps_rules(x: IonRead, items: usize, d: DecimalPart, share: u64) -> bool
 fn share_of(c: DecimalPart) -> u64
     ensures { λ r. ⌜ r ≡ shareOf c ⌝ }
 {
+    // Without a confidence there is nothing to scale.
+    if c.value == 0 {
+        return 0;
+    }
     billionths(Decimal {
         value: c.value,
         places: c.places,

@@ -1,6 +1,6 @@
 -- Losses, and adduct items, within the limits have room in the slots and in the buffer of keys. Assumes nothing.
-use Prim.Native.Nat.{ℕ, _+_, _*_, _/_, _%_, _≤_, _<_}
-use mathlib.Core.Path.{_≡_, ap, _∙_, subst}
+use Prim.Native.Nat.{ℕ, _+_, _*_, _/_, _≤_, _<_}
+use mathlib.Core.Path.{_≡_, ap, subst}
 use mathlib.Core.Bool.{Bool, true, false, cond}
 use mathlib.Core.List.{List, [], _∷_, _++_, map}
 use native.Mathlib.Omega.{arith}
@@ -18,36 +18,35 @@ use Rattle.rules.specs.Adducts.{Item, itemText}
 use Rattle.rules.specs.Preferred.{shortened}
 use Rattle.rules.specs.Fields.{filled}
 use Rattle.rules.specs.Limits.{maxLosses, maxItems, maxUnits, maxText, maxCount, bare, optPart, numberPart, rowMarks, unitMarks, lossMarks, itemMarks}
-use Rattle.rules.proofs.Digits.{digits-small, digits-big}
+use Rattle.rules.proofs.Digits.{digits-small}
 use Rattle.rules.proofs.Keeps.{kept-tail, kept-part, not-past, not-many, row-each, row-few}
-use Rattle.rules.proofs.FitParts.{number-within}
+use Rattle.rules.proofs.FitParts.{number-within, filled-within}
 use Rattle.elements.specs.Numbers.{spelled}
 use Rattle.elements.proofs.Laws.{word-symbol}
 use Rattle.formulas.proofs.Chains.{AllOf, all-none, all-more}
 use Rattle.formulas.proofs.Laws.{UnitTold}
 use Rattle.pieces.proofs.Spelled.{What, a-formula, a-name, an-electron, whatPart, Spelled, pieceMarks, ofLoss, loss-marks, ofItem, item-marks}
+use Rattle.rules.proofs.Bounds.{unit-counted}
+use Rattle.numbers.proofs.Bounds.{more-digits}
 use Rattle.arrange.proofs.Told.{whatUnits, whatKey, countValue, PieceFits}
 use Rattle.arrange.proofs.Fed.{RowFits}
 use Rattle.arrange.proofs.Laws.{LossesFit, ItemsFit}
 
 -- ---- how long numbers, symbols and units are
 
-digits-step : (n : ℕ) → 10 ≤ n → length (digits n) ≡ length (digits (n / 10)) + 1
-digits-step n h = ap length (digits-big n h) ∙ length-append (digits (n / 10)) ((48 + n % 10) ∷ [])
-
 digits-two : (n : ℕ) → n < 100 → length (digits n) ≤ 2
 digits-two n h = by (decLt n 10)
   where
     by : Dec (n < 10) → length (digits n) ≤ 2
     by (yes l) = omega (arith, ap length (digits-small n l))
-    by (no l) = omega (arith, digits-step n (omega arith), ap length (digits-small (n / 10) (omega arith)))
+    by (no l) = omega (arith, more-digits n (omega arith), ap length (digits-small (n / 10) (omega arith)))
 
 digits-three : (n : ℕ) → n ≤ maxCount → length (digits n) ≤ 3
 digits-three n h = by (decLt n 10)
   where
     by : Dec (n < 10) → length (digits n) ≤ 3
     by (yes l) = omega (arith, ap length (digits-small n l))
-    by (no l) = omega (arith, digits-step n (omega arith), digits-two (n / 10) (omega arith))
+    by (no l) = omega (arith, more-digits n (omega arith), digits-two (n / 10) (omega arith))
 
 symbol-short : (s : Symbol) → length (wordOf s) ≤ 2
 symbol-short s = subst (λ (w : List ℕ). length w ≤ 2) (word-symbol s) (by (spelled (wordOf s) .first) (spelled (wordOf s) .second) (eqb (spelled (wordOf s) .second) 0))
@@ -69,10 +68,6 @@ shortened-long n h = by (leb (n .value) 1)
 record UnitShort (u : FormulaUnit Written) : Type 0 where
   units : UnitTold u
   short : length (unitText (unitMap shortened (unitMap filled u))) ≤ 10
-
-filled-within : (c : Written) (at : ℕ) → Kept (optPart (numberPart maxCount) c .marks at) → filled c .value ≤ maxCount
-filled-within silent at k = omega arith
-filled-within (written n) at k = number-within maxCount n at k
 
 unit-short : (i : ℕ) (u : FormulaUnit Written) (at : ℕ) → Kept (unitMarks i u at) → UnitShort u
 unit-short i (plain s c) at k =
@@ -103,10 +98,6 @@ unit-short i (labelled a s c) at k =
             digits-three (c .value) y,
           );
     }
-
-unit-counted : (i : ℕ) (u : FormulaUnit Written) (at : ℕ) → Kept (unitMarks i u at) → i < maxUnits
-unit-counted i (plain s c) at k = not-many maxUnits i at _ k
-unit-counted i (labelled a s c) at k = not-many maxUnits i at _ k
 
 -- ---- lists
 

@@ -37,9 +37,20 @@ pub gathered-none : (keys s : List ℕ) → beginsPiece s ≡ false → gathered
 unfolding gathered
 gathered-none keys s e = ap (λ (w : Walked Got). w .known) (walk-ends beginsPiece pieceSize (gatherOne (length s)) size-moves s (gotNone keys) e)
 
-one-at : (all : ℕ) (a : Got) (s : List ℕ) → gatherOne all a s .at ≡ min (a .at + pieceSize s) all
+-- one alone: no other stands behind it
+pub gathered-one : (keys s : List ℕ) → beginsPiece s ≡ true → beginsPiece (drop (pieceSize s) s) ≡ false → gathered keys s ≡ gatherOne (length s) (gotNone keys) s
+unfolding gathered
+gathered-one keys s e z =
+    let a = gatherOne (length s) (gotNone keys) s in
+    ap (λ (w : Walked Got). w .known)
+    (gather-on (length s) s (gotNone keys) e ∙ walk-ends beginsPiece pieceSize (gatherOne (length s)) size-moves (drop (pieceSize s) s) a z)
+
+pub here-long : (s : List ℕ) → pieceHere s .len ≡ pieceSize s
+here-long s = piece-long 0 0 (length s) 0 0 0 s (fault 0 0) (fault 0 0)
+
+pub one-at : (all : ℕ) (a : Got) (s : List ℕ) → gatherOne all a s .at ≡ min (a .at + pieceSize s) all
 unfolding gatherOne
-one-at all a s = ap (λ (n : ℕ). min (a .at + n) all) (piece-long 0 0 (length s) 0 0 0 s (fault 0 0) (fault 0 0))
+one-at all a s = ap (λ (n : ℕ). min (a .at + n) all) (here-long s)
 
 one-long : (all : ℕ) (a : Got) (s : List ℕ) → length (gatherOne all a s .keys) ≡ length (a .keys)
 unfolding gatherOne

@@ -1,6 +1,7 @@
 pub mod Steps
 pub mod Grown
 pub mod Gathers
+pub mod Alone
 pub mod Told
 pub mod Fed
 pub mod Sections

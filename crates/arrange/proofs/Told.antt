@@ -12,7 +12,7 @@ use Rattle.rules.specs.Bytes.{bytes}
 use Rattle.rules.specs.Numbers.{From, numberText}
 use Rattle.rules.specs.Texts.{bracketText}
 use Rattle.rules.specs.Formulas.{Written, FormulaUnit, unitText, unitMap, formulaText, formulaMap}
-use Rattle.rules.specs.Losses.{Sign, minus, plus, signText}
+use Rattle.rules.specs.Losses.{signText}
 use Rattle.rules.specs.Preferred.{signRank, key, shortened}
 use Rattle.rules.specs.Fields.{filled}
 use Rattle.rules.specs.Stored.{Field, u8, u16, stores, unitRecord}
@@ -26,6 +26,7 @@ use Rattle.formulas.proofs.Laws.{EndsUnits, UnitTold, preferred-read, records-r
 use Rattle.openings.proofs.Laws.{countTold, drop-read}
 use Rattle.pieces.proofs.Spelled.{What, a-formula, a-name, an-electron, whatText, whatKind, whatSize, Spelled, pieceText}
 use Rattle.pieces.proofs.Begins.{piece-text}
+use Rattle.openings.proofs.Laws.{sign-long}
 use Rattle.pieces.proofs.Told.{pieceRead, piece-read}
 use Rattle.order.specs.declared.Slot.{Slot}
 use Rattle.pages.specs.Pages.{Event}
@@ -99,10 +100,6 @@ module _ (k : List ℕ) (e : EndsFormula k) where
   what-events an-electron a = refl
 
 -- ---- what is read
-
-sign-long : (g : Sign) → length (signText g) ≡ 1
-sign-long minus = refl
-sign-long plus = refl
 
 pub count-told : {m : ℕ} (c : Opt (From m)) → countValue c ≤ 1000000 → countTold c ≡ countValue c
 count-told silent h = refl

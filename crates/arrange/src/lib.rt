@@ -153,7 +153,22 @@ fn put_slots(out: &mut [u8], c: Cursors, j: usize, s: &[u8], slots: Slots) -> Cu
     to
 }
 
-// All losses (section 1), or adduct items (section 3), that a part begins with, in preferred order.
+// All losses (section 1), or adduct items (section 3), that a part begins with, however many, in preferred order.
+fn store_many(out: &mut [u8], c: Cursors, j: usize, s: &[u8]) -> Arranged
+    ensures { λ r. ⌜ StoresPieces (now (s .entry)) j (now (out .entry)) c (now (out .exit)) r ⌝ }
+{
+    let mut keys = [0u8; KEYS];
+    let g = gather(s, &mut keys);
+    let slots = g.slots;
+    let cursors = put_slots(out, c, j, s, slots);
+    Arranged {
+        n: slots.n,
+        len: g.at,
+        cursors,
+    }
+}
+
+// The same. Most annotations have none or one: one alone needs no key, as there is nothing to put in order.
 pub fn store_pieces(out: &mut [u8], c: Cursors, j: usize, s: &[u8]) -> Arranged
     ensures { λ r. ⌜ StoresPieces (now (s .entry)) j (now (out .entry)) c (now (out .exit)) r ⌝ }
 {
@@ -164,13 +179,27 @@ pub fn store_pieces(out: &mut [u8], c: Cursors, j: usize, s: &[u8]) -> Arranged
             cursors: c,
         };
     }
-    let mut keys = [0u8; KEYS];
-    let g = gather(s, &mut keys);
-    let slots = g.slots;
-    let cursors = put_slots(out, c, j, s, slots);
+    let none = Fault {
+        number: 0,
+        place: 0,
+    };
+    let x = read_piece(0, 0, s, s.len(), none);
+    if begins_piece(rest(s, x.len)) {
+        return store_many(out, c, j, s);
+    }
+    let y = Slot {
+        sign: x.sign,
+        kind: x.kind,
+        count: x.count,
+        size: x.size,
+        start: openings::ahead(0, x.start, s.len()),
+        key: 0,
+        len: 0,
+    };
+    let cursors = put_slot(out, c, j, s, y);
     Arranged {
-        n: slots.n,
-        len: g.at,
+        n: 1,
+        len: x.len,
         cursors,
     }
 }

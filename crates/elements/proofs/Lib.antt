@@ -1,6 +1,7 @@
 pub mod Words
-pub mod Packed
 pub mod Table
 pub mod Walk
 pub mod Laws
 pub mod Begins
+pub mod Codes
+pub mod Sought

@@ -6,7 +6,7 @@ use mathlib.Core.List.{List, [], _∷_}
 use lib.Dec.{T, eqb, eqb→eq, eqb-refl}
 use borrow.Author.Tests.{eq-eqb, ne-eqb, eqb-true, eqb-false}
 use Rattle.lang.proofs.Deriv.{and-0, and-1, and-i}
-use Rattle.lang.proofs.Tests.{case}
+use Rattle.lang.proofs.Tests.{case, and-true}
 use Rattle.lang.specs.Re.{either}
 use Rattle.elements.specs.Numbers.{word, same}
 
@@ -19,10 +19,6 @@ same→ (a ∷ u) (b ∷ v) t = ap₂ (λ (x : ℕ) (w : List ℕ). x ∷ w) (eq
 pub same-refl : (u : List ℕ) → T (same u u)
 same-refl [] = tt
 same-refl (a ∷ u) = and-i (eqb a a) (same u u) (eqb-refl a) (same-refl u)
-
-and-true : (x : Bool) → (x && true) ≡ x
-and-true true = refl
-and-true false = refl
 
 and-false : (x : Bool) → (x && false) ≡ false
 and-false true = refl

@@ -1,5 +1,5 @@
 -- Symbols by their letters and by their atomic numbers, over the list of the rules. Assumes nothing.
-use Prim.Native.Nat.{ℕ, zero, suc}
+use Prim.Native.Nat.{ℕ, zero, suc, _+_, _*_}
 use mathlib.Core.Bool.{Bool, true, false, cond, _&&_}
 use mathlib.Core.List.{List, [], _∷_}
 use lib.Dec.{eqb}
@@ -36,3 +36,7 @@ spelled (a ∷ (b ∷ w)) = record { first = a; second = b }
 unfoldable pub lettersOf : ℕ → Letters
 lettersOf zero = record { first = 0; second = 0 }
 lettersOf (suc w) = spelled (getD symbols w [])
+
+-- the two letters as one number
+unfoldable pub codeOf : ℕ → ℕ
+codeOf n = lettersOf n .first * 256 + lettersOf n .second

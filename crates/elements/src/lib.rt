@@ -3,7 +3,7 @@ ghost use mathlib.Core.Path.{_≡_};
 ghost use lib.ListN.{drop};
 ghost use Rattle.lang.specs.Re.{inC};
 ghost use Rattle.rules.specs.Bytes.{capital};
-ghost use Rattle.elements.specs.Numbers.{atomicOf, lettersOf};
+ghost use Rattle.elements.specs.Numbers.{atomicOf, lettersOf, codeOf};
 ghost use Rattle.elements.specs.Symbols.{smallOf, elementOf};
 
 // The letters of a symbol: a capital, and a small letter or 0 where the symbol has one letter. Both 0: no symbol.
@@ -18,29 +18,142 @@ pub struct Element {
     pub len: usize,
 }
 
+// The letters of the symbol with atomic number n as one number, first * 256 + second: in hex the two bytes stand side by side. 0: no symbol.
+// A match over numbers becomes a table that is read in place; a byte string would be copied at each call.
+fn code_of(n: u16) -> u16
+    ensures { λ r. ⌜ r ≡ codeOf n ⌝ }
+{
+    match n {
+        1 => 0x4800, // H
+        2 => 0x4865, // He
+        3 => 0x4C69, // Li
+        4 => 0x4265, // Be
+        5 => 0x4200, // B
+        6 => 0x4300, // C
+        7 => 0x4E00, // N
+        8 => 0x4F00, // O
+        9 => 0x4600, // F
+        10 => 0x4E65, // Ne
+        11 => 0x4E61, // Na
+        12 => 0x4D67, // Mg
+        13 => 0x416C, // Al
+        14 => 0x5369, // Si
+        15 => 0x5000, // P
+        16 => 0x5300, // S
+        17 => 0x436C, // Cl
+        18 => 0x4172, // Ar
+        19 => 0x4B00, // K
+        20 => 0x4361, // Ca
+        21 => 0x5363, // Sc
+        22 => 0x5469, // Ti
+        23 => 0x5600, // V
+        24 => 0x4372, // Cr
+        25 => 0x4D6E, // Mn
+        26 => 0x4665, // Fe
+        27 => 0x436F, // Co
+        28 => 0x4E69, // Ni
+        29 => 0x4375, // Cu
+        30 => 0x5A6E, // Zn
+        31 => 0x4761, // Ga
+        32 => 0x4765, // Ge
+        33 => 0x4173, // As
+        34 => 0x5365, // Se
+        35 => 0x4272, // Br
+        36 => 0x4B72, // Kr
+        37 => 0x5262, // Rb
+        38 => 0x5372, // Sr
+        39 => 0x5900, // Y
+        40 => 0x5A72, // Zr
+        41 => 0x4E62, // Nb
+        42 => 0x4D6F, // Mo
+        43 => 0x5463, // Tc
+        44 => 0x5275, // Ru
+        45 => 0x5268, // Rh
+        46 => 0x5064, // Pd
+        47 => 0x4167, // Ag
+        48 => 0x4364, // Cd
+        49 => 0x496E, // In
+        50 => 0x536E, // Sn
+        51 => 0x5362, // Sb
+        52 => 0x5465, // Te
+        53 => 0x4900, // I
+        54 => 0x5865, // Xe
+        55 => 0x4373, // Cs
+        56 => 0x4261, // Ba
+        57 => 0x4C61, // La
+        58 => 0x4365, // Ce
+        59 => 0x5072, // Pr
+        60 => 0x4E64, // Nd
+        61 => 0x506D, // Pm
+        62 => 0x536D, // Sm
+        63 => 0x4575, // Eu
+        64 => 0x4764, // Gd
+        65 => 0x5462, // Tb
+        66 => 0x4479, // Dy
+        67 => 0x486F, // Ho
+        68 => 0x4572, // Er
+        69 => 0x546D, // Tm
+        70 => 0x5962, // Yb
+        71 => 0x4C75, // Lu
+        72 => 0x4866, // Hf
+        73 => 0x5461, // Ta
+        74 => 0x5700, // W
+        75 => 0x5265, // Re
+        76 => 0x4F73, // Os
+        77 => 0x4972, // Ir
+        78 => 0x5074, // Pt
+        79 => 0x4175, // Au
+        80 => 0x4867, // Hg
+        81 => 0x546C, // Tl
+        82 => 0x5062, // Pb
+        83 => 0x4269, // Bi
+        84 => 0x506F, // Po
+        85 => 0x4174, // At
+        86 => 0x526E, // Rn
+        87 => 0x4672, // Fr
+        88 => 0x5261, // Ra
+        89 => 0x4163, // Ac
+        90 => 0x5468, // Th
+        91 => 0x5061, // Pa
+        92 => 0x5500, // U
+        93 => 0x4E70, // Np
+        94 => 0x5075, // Pu
+        95 => 0x416D, // Am
+        96 => 0x436D, // Cm
+        97 => 0x426B, // Bk
+        98 => 0x4366, // Cf
+        99 => 0x4573, // Es
+        100 => 0x466D, // Fm
+        101 => 0x4D64, // Md
+        102 => 0x4E6F, // No
+        103 => 0x4C72, // Lr
+        104 => 0x5266, // Rf
+        105 => 0x4462, // Db
+        106 => 0x5367, // Sg
+        107 => 0x4268, // Bh
+        108 => 0x4873, // Hs
+        109 => 0x4D74, // Mt
+        110 => 0x4473, // Ds
+        111 => 0x5267, // Rg
+        112 => 0x436E, // Cn
+        113 => 0x4E68, // Nh
+        114 => 0x466C, // Fl
+        115 => 0x4D63, // Mc
+        116 => 0x4C76, // Lv
+        117 => 0x5473, // Ts
+        118 => 0x4F67, // Og
+        _ => 0,
+    }
+}
+
 // The letters of the symbol with atomic number n.
 pub fn letters_of(n: u16) -> Letters
     ensures { λ r. ⌜ r ≡ lettersOf n ⌝ }
 {
-    if n < 1 {
-        return Letters {
-            first: 0,
-            second: 0,
-        };
-    }
-    if 118 < n {
-        return Letters {
-            first: 0,
-            second: 0,
-        };
-    }
-    // Two bytes to a symbol, so that a number is a place.
-    let packed =
-        b"H\0HeLiBeB\0C\0N\0O\0F\0NeNaMgAlSiP\0S\0ClArK\0CaScTiV\0CrMnFeCoNiCuZnGaGeAsSeBrKrRbSrY\0ZrNbMoTcRuRhPdAgCdInSnSbTeI\0XeCsBaLaCePrNdPmSmEuGdTbDyHoErTmYbLuHfTaW\0ReOsIrPtAuHgTlPbBiPoAtRnFrRaAcThPaU\0NpPuAmCmBkCfEsFmMdNoLrRfDbSgBhHsMtDsRgCnNhFlMcLvTsOg";
-    let at = (n as usize - 1) * 2;
+    let code = code_of(n);
     Letters {
-        first: packed[at],
-        second: packed[at + 1],
+        first: (code / 256) as u8,
+        second: (code % 256) as u8,
     }
 }
 
@@ -48,10 +161,10 @@ pub fn letters_of(n: u16) -> Letters
 pub fn atomic(a: u8, b: u8) -> u16
     ensures { λ r. ⌜ r ≡ atomicOf a b ⌝ }
 {
+    let code = a as u16 * 256 + b as u16;
     let mut n: u16 = 1;
     while n <= 118 {
-        let l = letters_of(n);
-        if l.first == a && l.second == b {
+        if code_of(n) == code {
             return n;
         }
         n += 1;
@@ -85,26 +198,32 @@ fn second_letter(s: &[u8]) -> u8
     b
 }
 
+// How many letters the symbol has that a part begins with; 0 where no capital stands first. No table is walked.
+pub fn symbol_len(s: &[u8]) -> usize
+    ensures { λ r. ⌜ r ≡ elementOf (now (s .entry)) .len ⌝ }
+{
+    if s.len() < 1 {
+        return 0;
+    }
+    if !is_capital(s[0]) {
+        return 0;
+    }
+    if second_letter(s) == 0 {
+        return 1;
+    }
+    2
+}
+
 // The symbol that a part begins with: a capital, and a small letter if one follows. No capital: number 0 and no letters.
 pub fn read_element(s: &[u8]) -> Element
     ensures { λ r. ⌜ r ≡ elementOf (now (s .entry)) ⌝ }
 {
-    if s.len() < 1 {
+    let len = symbol_len(s);
+    if len < 1 {
         return Element { number: 0, len: 0 };
-    }
-    let a = s[0];
-    if !is_capital(a) {
-        return Element { number: 0, len: 0 };
-    }
-    let b = second_letter(s);
-    if b == 0 {
-        return Element {
-            number: atomic(a, b),
-            len: 1,
-        };
     }
     Element {
-        number: atomic(a, b),
-        len: 2,
+        number: atomic(s[0], second_letter(s)),
+        len,
     }
 }

@@ -1,18 +1,14 @@
 -- The pieces of a unit's text, and the words of a record. Assumes nothing.
 use Prim.Native.Nat.{ℕ, _+_, _*_, _<_, _≤_}
-use mathlib.Core.Path.{_≡_, refl, sym, ap, ap₂, _∙_}
-use mathlib.Core.Bool.{cond}
+use mathlib.Core.Path.{_≡_, refl, sym}
 use mathlib.Core.List.{List, [], _∷_, _++_, append-nil}
 use native.Mathlib.Omega.{arith}
-use lib.Dec.{eqb, leb}
 use lib.ListN.{length, getD, List·getD-eq-default}
 use borrow.Author.Tests.{eq-eqb, ne-eqb, le-leb, lt-leb}
 use Rattle.rules.specs.Numbers.{digits}
 use Rattle.elements.specs.declared.Letters.{Letters}
-use Rattle.elements.specs.Numbers.{word, lettersOf}
+use Rattle.elements.specs.Numbers.{lettersOf}
 use Rattle.terms.specs.declared.UnitRead.{UnitRead}
-use Rattle.puts.specs.Puts.{Put}
-use Rattle.puts.proofs.Laws.{put-none, put-then, put-as}
 use Rattle.formulas.specs.Records.{wordOf}
 use Rattle.formulas.specs.Preferred.{symbolText, plainText, labelledText, preferredUnit}
 

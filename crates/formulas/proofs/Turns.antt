@@ -1,25 +1,15 @@
 -- One thing more of a row. Assumes nothing.
-use Prim.Native.Nat.{ℕ, zero, suc, _+_, _-_, _<_, _≤_, min}
-use mathlib.Core.Path.{_≡_, refl, sym, ap, _∙_}
-use mathlib.Core.List.{List, [], _∷_, _++_}
+use Prim.Native.Nat.{ℕ, suc, _+_, _-_, _<_, _≤_, min}
+use mathlib.Core.Path.{_≡_, sym, ap, _∙_}
+use mathlib.Core.List.{List, [], _++_}
 use native.Mathlib.Omega.{arith}
-use native.Mathlib.Decide.{decLe}
-use lib.ListN.{length, drop, drop-of-length-le}
+use lib.ListN.{length, drop}
 use lib.Seq.{drop-drop}
 use Rattle.puts.specs.Puts.{maxPlace, Put}
 use Rattle.puts.proofs.Laws.{put-as}
 use Rattle.puts.proofs.Turns.{Going, begin, more, ends}
+use Rattle.terms.proofs.Parts.{drop-min}
 use Rattle.formulas.specs.Chains.{chain}
-
--- a place past the end drops all there is
-drop-min : (l : List ℕ) (n : ℕ) → drop (min n (length l)) l ≡ drop n l
-drop-min l n = by (decLe n (length l))
-  where
-    by : Dec (n ≤ length l) → drop (min n (length l)) l ≡ drop n l
-    by (yes h) = let e : min n (length l) ≡ n = omega arith in ap (λ (m : ℕ). drop m l) e
-    by (no h) =
-        let e : min n (length l) ≡ length l = omega arith in
-        ap (λ (m : ℕ). drop m l) e ∙ drop-of-length-le l {i = length l} (omega arith) ∙ sym (drop-of-length-le l {i = n} (omega arith))
 
 module _ (give : List ℕ → List ℕ) (size : List ℕ → ℕ) where
   pub chain-none : (n i : ℕ) (s : List ℕ) → n ≤ i → chain give size (n - i) s ≡ []

@@ -16,9 +16,9 @@ use Rattle.terms.specs.Faults.{join, after}
 use Rattle.terms.proofs.Marks.{join-kept, after-append}
 use Rattle.terms.proofs.Spelled.{told}
 use Rattle.terms.proofs.Limits.{mark-told}
-use Rattle.openings.proofs.Laws.{countTold}
+use Rattle.openings.proofs.Laws.{countTold, sign-long}
 use Rattle.isotopes.specs.Isotopes.{isotopeFault}
-use Rattle.isotopes.proofs.Spelled.{sign-long, shift-long, shiftFault}
+use Rattle.isotopes.proofs.Spelled.{shift-long, shiftFault}
 
 -- a silent count has no limit, and 1 breaks none
 count-told : (f : Fault) (x : Shift Written) (place at : ℕ) → place ≡ at + 1 → after f (numberMark maxCount (countTold (x .count)) place) ≡ after f (shiftMarks x at)

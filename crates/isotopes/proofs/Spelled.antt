@@ -13,7 +13,7 @@ use Rattle.rules.specs.Texts.{firstIn, startsWith}
 use Rattle.rules.specs.Numbers.{numberText}
 use Rattle.rules.specs.Elements.{atomicNumber}
 use Rattle.rules.specs.Formulas.{Written, writtenText}
-use Rattle.rules.specs.Losses.{Sign, minus, plus, signText}
+use Rattle.rules.specs.Losses.{signText}
 use Rattle.rules.specs.Isotopes.{Shift, shiftText, Specific, specificText}
 use Rattle.rules.specs.Preferred.{signRank}
 use Rattle.numbers.proofs.Laws.{number-begins, number-read}
@@ -23,7 +23,7 @@ use Rattle.terms.specs.declared.Fault.{Fault}
 use Rattle.terms.proofs.Spelled.{told}
 use Rattle.openings.specs.declared.Head.{Head}
 use Rattle.openings.specs.Heads.{headOf, beginsIsotope, beginsPiece}
-use Rattle.openings.proofs.Laws.{countTold, head-read, isotope-begins}
+use Rattle.openings.proofs.Laws.{countTold, head-read, isotope-begins, sign-long}
 use Rattle.isotopes.specs.declared.IsotopeRead.{IsotopeRead}
 use Rattle.isotopes.specs.Isotopes.{isotopeFault, isotopeWith, isotopeIn, isotopeOf}
 use Rattle.isotopes.proofs.Parts.{in-specific, in-average, in-plain}
@@ -32,10 +32,6 @@ use Rattle.isotopes.proofs.Parts.{in-specific, in-average, in-plain}
 
 abbrev pub headRead : Shift Written → Head
 headRead x = record { sign = signRank (x .sign); count = countTold (x .count); len = 1 + length (writtenText (x .count)) }
-
-pub sign-long : (g : Sign) → length (signText g) ≡ 1
-sign-long minus = refl
-sign-long plus = refl
 
 pub shift-long : (x : Shift Written) → length (shiftText x) ≡ 1 + length (writtenText (x .count)) + 1
 shift-long x = simp length-append (omega (arith, sign-long (x .sign)))

@@ -1,11 +1,11 @@
 -- Antimirov's linear forms: which byte may come next, and what stack of grammars may follow it. Assumes nothing.
 use Prim.Native.Nat.{ℕ}
-use mathlib.Core.Path.{_≡_, refl, sym, ap, _∙_, subst}
+use mathlib.Core.Path.{_≡_, refl, ap, _∙_, subst}
 use mathlib.Core.Bool.{Bool, true, false, _&&_, _||_}
 use mathlib.Core.List.{List, [], _∷_, _++_, head-eq-of-cons-eq, tail-eq-of-cons-eq, nil≢cons, cons≢nil}
 use mathlib.Core.Logic.{_⊎_, inl, inr}
-use lib.Dec.{T, leb}
-use Rattle.lang.specs.Re.{Rng, rng, inC, Re, eps, cls, seq, alt, star, Byte, Tree, texts, either, text}
+use lib.Dec.{T}
+use Rattle.lang.specs.Re.{Rng, inC, Re, eps, cls, seq, alt, star, Tree, texts, either, text}
 
 -- may be empty
 abbrev pub null : Re → Bool

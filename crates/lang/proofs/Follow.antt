@@ -1,16 +1,16 @@
 -- What a text may begin with: a test that antt computes over a grammar, instead of a case for each kind of continuation.
 -- Assumes nothing.
-use Prim.Native.Nat.{ℕ, _<_, _≤_}
+use Prim.Native.Nat.{ℕ, _≤_}
 use mathlib.Core.Path.{_≡_, refl, sym, ap, _∙_, subst}
 use mathlib.Core.Bool.{Bool, true, false, not, _&&_, _||_}
 use mathlib.Core.List.{List, [], _∷_, _++_, head-eq-of-cons-eq}
 use mathlib.Core.Logic.{_⊎_, inl, inr}
 use native.Mathlib.Omega.{arith}
 use native.Mathlib.Decide.{decLe}
-use lib.Dec.{T, T-not, not-T}
-use Rattle.lang.specs.Re.{Rng, rng, inC, Re, eps, cls, seq, alt, star, Byte, Tree, texts, either, text}
+use lib.Dec.{T, T-not}
+use Rattle.lang.specs.Re.{Rng, inC, Re, eps, cls, seq, alt, star, Tree, texts, either, text}
 use Rattle.lang.specs.Parts.{firstIn}
-use Rattle.lang.proofs.Deriv.{null, and-0, and-1, and-i, or-e, or-l, or-r}
+use Rattle.lang.proofs.Deriv.{null, and-0, and-1, and-i, or-l, or-r}
 use Rattle.lang.proofs.Machine.{allB, all→}
 use Rattle.lang.proofs.Unique.{lowC, lowC→}
 use Rattle.lang.proofs.Means.{Means}

@@ -23,3 +23,4 @@ pub mod OneStray
 pub mod Follow
 pub mod Walks
 pub mod Ranges
+pub mod Arms

@@ -1,6 +1,6 @@
 -- The loop that runs a certified machine over a line, for a language Sp that is the start state's: its invariant, and what it answers. Assumes nothing.
 use Prim.Native.Nat.{ℕ, _+_, _<_, _≤_}
-use mathlib.Core.Path.{_≡_, refl, sym, ap, _∙_}
+use mathlib.Core.Path.{_≡_, sym, ap, _∙_}
 use mathlib.Core.Bool.{Bool, true, false}
 use mathlib.Core.List.{List}
 use mathlib.Core.Logic.{_↔_}
@@ -8,7 +8,7 @@ use native.Mathlib.Omega.{arith}
 use lib.ListN.{length, getD}
 use Rattle.lang.specs.Scan.{Begins, Stray}
 use Rattle.lang.proofs.Same.{LA}
-use Rattle.lang.proofs.Machine.{edges, takes, acc}
+use Rattle.lang.proofs.Machine.{edges, takes}
 use Rattle.lang.proofs.Certify.{Tables, Certified, res, step, accepting, goes, step-le, alive, acc-at}
 use Rattle.lang.proofs.Prefix as P
 use Rattle.lang.proofs.Prefix.{Reads}

@@ -1,13 +1,13 @@
 -- A type X with its text, and a grammar: each x has a tree, and each tree an x, with the same text. Assumes nothing.
 use Prim.Native.Nat.{ℕ, _<_}
-use mathlib.Core.Path.{_≡_, refl, sym, ap, ap₂, _∙_, subst}
+use mathlib.Core.Path.{_≡_, refl, sym, ap, ap₂, _∙_}
 use mathlib.Core.Bool.{Bool}
 use mathlib.Core.List.{List, [], _∷_, _++_, append-assoc, append-nil}
 use mathlib.Core.HLevel.{isProp→PathP}
 use lib.Dec.{T, T-prop, ltb, ltb→lt, lt→ltb}
 use lib.ListN.{length}
 use mathlib.Core.Logic.{_⊎_, inl, inr}
-use Rattle.lang.specs.Re.{Rng, rng, inC, Re, eps, cls, seq, alt, star, Byte, Tree, texts, text, either}
+use Rattle.lang.specs.Re.{Rng, Re, eps, cls, seq, alt, star, Byte, Tree, texts, text, either}
 use Rattle.lang.proofs.Lits.{litRe, lit-tree, lit-text, litsRe, lits-tree, lits-text, lits-back}
 use Rattle.lang.specs.Parts.{Opt, silent, written, optText, flat, Such, Listed, wordOf}
 

@@ -1,16 +1,14 @@
 -- What the stacks that may follow say of the prefix that was read, for a language Sp that the first of them have. No machine here. Assumes nothing.
-use Prim.Native.Nat.{ℕ, zero, suc, _+_, _*_, _<_, _≤_, _-_}
-use mathlib.Core.Path.{_≡_, refl, sym, ap, _∙_, subst}
-use mathlib.Core.Bool.{Bool, true, false}
+use Prim.Native.Nat.{ℕ, _+_, _<_, _≤_, _-_}
+use mathlib.Core.Path.{_≡_, sym, ap, _∙_, subst}
+use mathlib.Core.Bool.{true, false}
 use mathlib.Core.List.{List, [], _∷_, _++_, append-nil, append-assoc}
-use mathlib.Core.Logic.{_↔_, _⊎_, inl, inr}
+use mathlib.Core.Logic.{_↔_}
 use native.Mathlib.Omega.{arith}
 use native.Mathlib.Numerals.{add-one}
-use native.Mathlib.Decide.{decLe}
-use native.Mathlib.Nat.{add-sub-of-le}
 use lib.Dec.{T}
-use lib.ListN.{length, getD, take, drop}
-use lib.Seq.{take-suc, take-add, take-length}
+use lib.ListN.{length, getD, take}
+use lib.Seq.{take-suc, take-length}
 use Rattle.lang.specs.Scan.{Begins, Stray}
 use Rattle.lang.proofs.Deriv.{Stack}
 use Rattle.lang.proofs.Same.{LA}

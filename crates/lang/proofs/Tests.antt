@@ -1,6 +1,6 @@
 -- A test's value, and the fact that it passes. Assumes nothing.
 use mathlib.Core.Path.{_≡_, refl, sym, subst}
-use mathlib.Core.Bool.{Bool, true, false}
+use mathlib.Core.Bool.{Bool, true, false, _&&_}
 use mathlib.Core.Logic.{_⊎_, inl, inr}
 use lib.Dec.{T}
 
@@ -21,3 +21,7 @@ Case x = (x ≡ true) ⊎ (x ≡ false)
 pub case : (x : Bool) → Case x
 case true = inl refl
 case false = inr refl
+
+pub and-true : (x : Bool) → (x && true) ≡ x
+and-true true = refl
+and-true false = refl

@@ -1,18 +1,18 @@
 -- A text has at most one tree: by the machine's states, as lists of stacks, with one test each that antt computes. Assumes nothing.
-use Prim.Native.Nat.{ℕ, zero, suc, _<_, _≤_}
+use Prim.Native.Nat.{ℕ, _<_, _≤_}
 use mathlib.Core.Path.{_≡_, refl, sym, ap, ap₂, _∙_, subst}
 use mathlib.Core.Bool.{Bool, true, false, not, _&&_, _||_}
-use mathlib.Core.List.{List, [], _∷_, _++_, head-eq-of-cons-eq, tail-eq-of-cons-eq, nil≢cons, cons≢nil, List·isSet}
-use mathlib.Core.Logic.{_⊎_, inl, inr, _↔_}
-use mathlib.Core.HLevel.{isProp→PathP, Σ-prop-path, hedberg}
+use mathlib.Core.List.{List, [], _∷_, head-eq-of-cons-eq, tail-eq-of-cons-eq, nil≢cons, cons≢nil, List·isSet}
+use mathlib.Core.Logic.{_⊎_, inl, inr}
+use mathlib.Core.HLevel.{Σ-prop-path, hedberg}
 use native.Mathlib.Omega.{arith}
 use native.Mathlib.Decide.{ℕ-discrete, decLe}
-use lib.Dec.{T, T-prop, leb, leb→le, T-not, not-T}
-use Rattle.lang.specs.Re.{Rng, rng, inC, Re, eps, cls, seq, alt, star, Byte, Tree, texts, either, text}
+use lib.Dec.{T, T-prop, leb, leb→le, T-not}
+use Rattle.lang.specs.Re.{Rng, rng, inC, Re, eps, cls, seq, alt, star, Tree, texts, either, text}
 use Rattle.lang.proofs.Deriv.{null, Stack, STree, stext, LS, Edge, whenN, lf, lfs, LE, le-left, le-right, le-split, le-when, when-le, and-0, and-1, and-i, or-e, or-l, or-r, empty, sound, sound-stack, nulls, nulls-complete}
 use Rattle.lang.proofs.Same.{LA}
 use Rattle.lang.proofs.Lits.{byte-path}
-use Rattle.lang.proofs.Machine.{edges, consIf, takes, edges-sound, consIf-l, consIf-r, consIf-e, takes-in, takes-out, derive-out, acc, acc-complete, allB, all→}
+use Rattle.lang.proofs.Machine.{edges, takes, edges-sound, consIf-l, consIf-r, consIf-e, takes-in, takes-out, acc, acc-complete}
 
 -- each empty text has one tree, and no list has an empty member
 abbrev pub ok : Re → Bool

@@ -1,15 +1,14 @@
 -- Laws of walking: more turns than are needed change nothing; a turn, and the end; and a walk over spelled things is a fold.
 -- Assumes nothing.
-use Prim.Native.Nat.{ℕ, zero, suc, _+_, _-_, _<_, _≤_, suc-le-suc}
-use mathlib.Core.Path.{_≡_, refl, sym, ap, _∙_, subst}
-use mathlib.Core.Bool.{Bool, true, false, cond}
+use Prim.Native.Nat.{ℕ, zero, suc, _+_, _-_, _≤_}
+use mathlib.Core.Path.{_≡_, refl, ap, _∙_}
+use mathlib.Core.Bool.{Bool, true, false}
 use mathlib.Core.List.{List, [], _∷_, _++_, append-assoc}
 use native.Mathlib.Omega.{arith}
-use native.Mathlib.Nat.{not-suc-le-zero}
-use lib.ListN.{length, drop, length-drop, length-append}
+use lib.ListN.{length, drop, length-drop}
 use lib.Seq.{drop-append-seam}
 use Rattle.lang.specs.Parts.{flat}
-use Rattle.lang.specs.Walk.{Walked, walked, walkIn, walk, folded}
+use Rattle.lang.specs.Walk.{walked, walkIn, walk, folded}
 
 module _ {S : Type 0} (here : List ℕ → Bool) (size : List ℕ → ℕ) (step : S → List ℕ → S)
     (moves : (s : List ℕ) → here s ≡ true → (1 ≤ size s) × (size s ≤ length s)) where

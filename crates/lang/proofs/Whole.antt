@@ -1,10 +1,9 @@
 -- A type with its text, the grammar that it means, and the stacks that begin with it: the same language, and no two with one text. Assumes nothing.
 use Prim.Native.Nat.{ℕ}
-use mathlib.Core.Path.{_≡_, refl, sym, ap, _∙_}
+use mathlib.Core.Path.{_≡_, sym, ap, _∙_}
 use mathlib.Core.List.{List, [], _∷_, append-nil}
-use mathlib.Core.Logic.{_↔_, _⊎_, inl, inr}
+use mathlib.Core.Logic.{_↔_, inl}
 use Rattle.lang.specs.Re.{Re, either}
-use Rattle.lang.proofs.Deriv.{Stack}
 use Rattle.lang.proofs.Same.{LA}
 use Rattle.lang.proofs.Means.{Means}
 

@@ -1,13 +1,11 @@
 -- Back again: what was written reads to the very table; what was read is written in the preferred spelling of the line; and reading and
 -- writing one after the other has one answer. Assumes nothing.
-use Prim.Native.Nat.{ℕ, _<_, _≤_}
+use Prim.Native.Nat.{ℕ, _≤_}
 use mathlib.Core.Path.{_≡_, refl, sym, ap, _∙_, subst}
 use mathlib.Core.List.{List}
 use native.Mathlib.Omega.{arith}
 use lib.ListN.{length, take}
-use Rattle.lang.specs.Order.{Each}
-use Rattle.rules.specs.Lines.{Spelling, lineText}
-use Rattle.rules.specs.Fields.{Table, Says, Spells}
+use Rattle.rules.specs.Fields.{Table, Spells}
 use Rattle.rules.specs.Limits.{maxLine}
 use Rattle.rules.specs.Preferred.{preferred, preferredSpelling}
 use Rattle.rules.specs.Stored.{stored}
@@ -19,7 +17,7 @@ use Rattle.writing.proofs.Prefers.{preferred-kept, preferred-rules, preferred-s
 use Rattle.writing.proofs.Shorter.{preferred-shorter}
 use Rattle.writing.proofs.Holds.{take-given}
 use Rattle.lines.specs.Relabels.{Relabels, refused, relabelled}
-use Rattle.lines.proofs.Right.{Read, reads-table, bytes-read}
+use Rattle.lines.proofs.Right.{reads-table, bytes-read}
 
 -- ---- reading what was written
 

@@ -1,3 +1,5 @@
+pub mod Plain
+pub mod Given
 pub mod Relabelled
 pub mod Right
 pub mod Back

@@ -1,23 +1,23 @@
 -- The code's answers to a line that is read and written are those of the model. Assumes nothing.
-use Prim.Native.Nat.{ℕ, _<_, _≤_, min}
-use mathlib.Core.Path.{_≡_, refl, sym, ap, ap₂, _∙_, subst}
+use Prim.Native.Nat.{ℕ, _<_, _≤_}
+use mathlib.Core.Path.{_≡_, ap, _∙_}
 use mathlib.Core.List.{List}
 use native.Mathlib.Omega.{arith}
 use lib.ListN.{length, take, replicate}
-use borrow.Author.Tests.{eq-eqb, ne-eqb}
+use borrow.Author.Tests.{ne-eqb}
 use Rattle.rules.specs.Limits.{maxLine}
 use Rattle.rules.specs.Answers as rules
-use Rattle.puts.specs.Puts.{maxPlace, Put}
+use Rattle.puts.specs.Puts.{Put}
 use Rattle.puts.proofs.Laws.{put-length}
 use Rattle.shape.specs.declared.Verdict.{Verdict}
-use Rattle.print_lines.specs.Tables.{printedTable}
 use Rattle.reading.specs.declared.Answer.{Answer}
 use Rattle.reading.specs.Readings.{answered, refusedOf, readOf}
 use Rattle.writing.specs.Writings.{cleared, lineOver}
 use Rattle.writing.proofs.Lines.{line-cleared, line-long, line-no-room, line-fits}
+use Rattle.lines.specs.Plain.{spellingOf}
 use Rattle.lines.specs.Relabels.{relabelledFrom, RelabelsBy}
 
--- ---- the line that is printed
+-- ---- the line that is put
 
 module _ {d e w : List ℕ} {n : ℕ} (put : Put d 0 w e n) where
   zeros-are : {out : List ℕ} → out ≡ replicate (length e) 0 → out ≡ replicate (length d) 0
@@ -50,11 +50,11 @@ module _ (v : Verdict) (line : List ℕ) (tableRoom room : ℕ) {table : List �
   pub refused-by : {out : List ℕ} {r : Answer} → (a .number ≡ 0 → ⊥) → out ≡ replicate room 0 → r ≡ refusedOf (a .number) (a .place)
       → RelabelsBy v line tableRoom room table (answered r out)
   refused-by {out} {r} h z e =
-      let w : answered r out ≡ relabelledFrom (answered a table) room = rw (ne-eqb (a .number) 0 h, e, z) in
-      record { table-is = table-is; is = w ∙ ap (λ (x : rules.Answer). relabelledFrom x room) q }
+      let w : answered r out ≡ relabelledFrom line (answered a table) room = rw (ne-eqb (a .number) 0 h, e, z) in
+      record { table-is = table-is; is = w ∙ ap (λ (x : rules.Answer). relabelledFrom line x room) q }
 
-  pub relabelled-by : {b : rules.Answer} {p : List ℕ} → a .number ≡ 0 → p ≡ take (a .len) table → b ≡ lineOver (printedTable p) room
+  pub relabelled-by : {b : rules.Answer} {p : List ℕ} → a .number ≡ 0 → p ≡ take (a .len) table → b ≡ lineOver (spellingOf line p) room
       → RelabelsBy v line tableRoom room table b
   relabelled-by {b} {p} h e f =
-      let w : b ≡ relabelledFrom (answered a table) room = f ∙ ap (λ (x : List ℕ). lineOver (printedTable x) room) e ∙ rw h in
-      record { table-is = table-is; is = w ∙ ap (λ (x : rules.Answer). relabelledFrom x room) q }
+      let w : b ≡ relabelledFrom line (answered a table) room = f ∙ ap (λ (x : List ℕ). lineOver (spellingOf line x) room) e ∙ rw h in
+      record { table-is = table-is; is = w ∙ ap (λ (x : rules.Answer). relabelledFrom line x room) q }

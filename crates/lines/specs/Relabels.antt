@@ -7,9 +7,9 @@ use lib.Dec.{eqb}
 use lib.ListN.{take}
 use Rattle.rules.specs.Answers.{Answer, refuses, Reads, Writes}
 use Rattle.shape.specs.declared.Verdict.{Verdict}
-use Rattle.print_lines.specs.Tables.{printedTable}
 use Rattle.reading.specs.Readings.{readOf}
 use Rattle.writing.specs.Writings.{lineOver}
+use Rattle.lines.specs.Plain.{spellingOf}
 
 -- read into an output of tableRoom bytes, which are then `table`; what was read is written, or the refusal told again
 pub data Relabels (line : List ℕ) (tableRoom room : ℕ) : List ℕ → Answer → Type 0 where
@@ -18,9 +18,10 @@ pub data Relabels (line : List ℕ) (tableRoom room : ℕ) : List ℕ → Answer
 
 -- ---- what the code means, for a machine of any bytes
 
-abbrev pub relabelledFrom : Answer → ℕ → Answer
-relabelledFrom a room = cond (eqb (a .number) 0) (lineOver (printedTable (take (a .size) (a .out))) room) (refuses room (a .number) (a .place))
+-- the line, and what was answered to it
+abbrev pub relabelledFrom : List ℕ → Answer → ℕ → Answer
+relabelledFrom line a room = cond (eqb (a .number) 0) (lineOver (spellingOf line (take (a .size) (a .out))) room) (refuses room (a .number) (a .place))
 
 pub record RelabelsBy (v : Verdict) (line : List ℕ) (tableRoom room : ℕ) (table : List ℕ) (r : Answer) : Type 0 where
   pub table-is : table ≡ readOf v line tableRoom .out
-  pub is : r ≡ relabelledFrom (readOf v line tableRoom) room
+  pub is : r ≡ relabelledFrom line (readOf v line tableRoom) room

@@ -23,7 +23,7 @@ use Rattle.numbers.specs.Making.{madeOf}
 one-digit : (n : ℕ) → n < 10 → length (digits n) ≡ 1
 one-digit n h = ap length (digits-small n h)
 
-more-digits : (n : ℕ) → 10 ≤ n → length (digits n) ≡ length (digits (n / 10)) + 1
+pub more-digits : (n : ℕ) → 10 ≤ n → length (digits n) ≡ length (digits (n / 10)) + 1
 more-digits n h = ap length (digits-big n h) ∙ length-append (digits (n / 10)) ((48 + n % 10) ∷ [])
 
 pub some-digits : (n : ℕ) → 1 ≤ length (digits n)

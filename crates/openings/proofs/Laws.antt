@@ -54,6 +54,10 @@ count-long : {m : ℕ} (c : Opt (From m)) → countNumber c .len ≡ length (opt
 count-long silent = refl
 count-long (written n) = refl
 
+pub sign-long : (g : Sign) → length (signText g) ≡ 1
+sign-long minus = refl
+sign-long plus = refl
+
 sign-begins : (g : Sign) (k : List ℕ) → beginsSign (signText g ++ k) ≡ true
 sign-begins minus k = refl
 sign-begins plus k = refl

@@ -9,7 +9,7 @@ use Rattle.lang.specs.Parts.{Opt, silent, written, optText}
 use Rattle.lang.specs.Mark.{Mark}
 use Rattle.rules.specs.Bytes.{bytes}
 use Rattle.rules.specs.Numbers.{From, numberText}
-use Rattle.rules.specs.Losses.{Sign, minus, plus, signText}
+use Rattle.rules.specs.Losses.{signText}
 use Rattle.rules.specs.Preferred.{signRank}
 use Rattle.rules.specs.Limits.{maxCount, manyMark, optPart, numberPart}
 use Rattle.texts.proofs.Laws.{loss-is-name}
@@ -20,7 +20,7 @@ use Rattle.terms.proofs.Limits.{mark-told}
 use Rattle.terms.proofs.Ends.{EndsFormula}
 use Rattle.terms.proofs.Formulas.{formula-read, begins-formula}
 use Rattle.openings.specs.declared.Head.{Head}
-use Rattle.openings.proofs.Laws.{countTold, head-read, drop-read, name-here}
+use Rattle.openings.proofs.Laws.{countTold, head-read, drop-read, name-here, sign-long}
 use Rattle.pieces.specs.declared.Piece.{Piece}
 use Rattle.pieces.specs.Pieces.{headFault, whatOf, pieceOf}
 use Rattle.pieces.proofs.Spelled.{What, a-formula, a-name, an-electron, whatText, whatPart, whatKind, whatSize, Spelled, pieceText, pieceMarks}
@@ -52,10 +52,6 @@ module _ (s : List ℕ) (h : Head) (k : List ℕ) (end : ℕ) (f : Fault) (e : E
   what-read an-electron p g = rw (p, electron-no-unit k)
 
 -- ---- limits
-
-sign-long : (g : Sign) → length (signText g) ≡ 1
-sign-long minus = refl
-sign-long plus = refl
 
 count-text : {m : ℕ} (c : Opt (From m)) → optPart (numberPart maxCount) c .text ≡ optText numberText c
 count-text silent = refl

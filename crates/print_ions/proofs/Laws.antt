@@ -22,12 +22,13 @@ use Rattle.rules.specs.Stored.{stores, flag, present, valueOr0, number, bytesOf
 use Rattle.rules.proofs.FitParts.{UnitFits}
 use Rattle.rules.proofs.FitAnnotations.{InRange}
 use Rattle.rules.proofs.Bounds.{Bounded}
-use Rattle.formulas.specs.Records.{wordOf as storedWord}
 use Rattle.formulas.specs.Preferred.{printedUnits}
 use Rattle.formulas.proofs.Chains.{AllOf}
 use Rattle.formulas.proofs.Laws.{UnitUpTo, printed-read}
 use Rattle.prints.proofs.Words.{word-stored}
-use Rattle.prints.proofs.Rows.{all-in}
+use Rattle.formulas.specs.Records.{wordOf as storedWord}
+use Rattle.prints.proofs.Rows.{all-in, unitRows}
+use Rattle.prints.proofs.Tails.{byte-kept}
 use Rattle.print_ions.specs.Texts.{seriesText, bracesText, bracketsText, ionUnits, ionBytes}
 use Rattle.print_ions.specs.Ions.{positionText, internalText, immoniumText, labelText, composedText, kindText, ionText}
 use Rattle.print_ions.specs.Fronts.{flagText, analyteText, frontText}
@@ -46,10 +47,6 @@ pub record FrontOk (a : Annotation Number) : Type 0 where
 -- the bytes of the record of an annotation, and what follows it
 abbrev pub noted : Annotation Number → List ℕ → List ℕ
 noted a k = stores (annotationRecord a) ++ k
-
--- the bytes of the records of units
-abbrev pub unitsNoted : List (FormulaUnit Number) → List ℕ
-unitsNoted us = flat (λ u. stores (unitRecord u)) us
 
 -- ---- how many units and bytes of text
 
@@ -81,9 +78,6 @@ position-stored a ks h = word-stored (ionFields (a .ion) .position) (drop 8 (not
 
 end-stored : (a : Annotation Number) (ks : List ℕ) → ionFields (a .ion) .end ≤ 65535 → storedWord (drop 8 (noted a ks)) ≡ ionFields (a .ion) .end
 end-stored a ks h = word-stored (ionFields (a .ion) .end) (drop 10 (noted a ks)) h
-
-byte-kept : (n : ℕ) → n ≤ 255 → n % 256 ≡ n
-byte-kept n h = omega arith
 
 series-stored : (s : Series) → seriesText ((s .which + 1) % 256) ≡ wordOf s
 unfolding seriesText
@@ -165,7 +159,7 @@ withIon a x =
 -- by kind
 module _ (a : Annotation Number) (ks : List ℕ) where
   kind-printed : (x : Ion Number) (ku : List ℕ) → FrontOk (withIon a x)
-      → kindText (getD (noted (withIon a x) ks) 0 0) (noted (withIon a x) ks) (unitsNoted (ionFields x .units) ++ ku) (ionFields x .text) ≡ ionSpelled (ionMap shortened x)
+      → kindText (getD (noted (withIon a x) ks) 0 0) (noted (withIon a x) ks) (unitRows (ionFields x .units) ++ ku) (ionFields x .text) ≡ ionSpelled (ionMap shortened x)
   unfolding kindText
   kind-printed (series s n t) ku h =
       let b = withIon a (series s n t) in
@@ -181,16 +175,16 @@ module _ (a : Annotation Number) (ks : List ℕ) where
   kind-printed (named t) ku h = ap (λ (w : List ℕ). bytes "_" ++ w) (braced t)
   kind-printed (composed f) ku h =
       let b = withIon a (composed f) in
-      composed-is (noted b ks) (unitsNoted (items f) ++ ku) (length (items f)) (ion-units-stored b ks (h .few)) (printed-read (items f) ku (h .units))
+      composed-is (noted b ks) (unitRows (items f) ++ ku) (length (items f)) (ion-units-stored b ks (h .few)) (printed-read (items f) ku (h .units))
   kind-printed (smiles t) ku h = ap (λ (w : List ℕ). bytes "s" ++ w) (braced t)
   kind-printed (unknown n) ku h =
       let b = withIon a (unknown n) in
       label-is n (noted b ks) (position-stored b ks (h .position))
 
 ion-printed : (a : Annotation Number) (ks ku kt : List ℕ) → FrontOk a
-    → ionText (noted a ks) (unitsNoted (ionFields (a .ion) .units) ++ ku) (ionFields (a .ion) .text ++ kt) ≡ ionSpelled (ionMap shortened (a .ion))
+    → ionText (noted a ks) (unitRows (ionFields (a .ion) .units) ++ ku) (ionFields (a .ion) .text ++ kt) ≡ ionSpelled (ionMap shortened (a .ion))
 ion-printed a ks ku kt h =
-    ap (kindText (getD (noted a ks) 0 0) (noted a ks) (unitsNoted (ionFields (a .ion) .units) ++ ku)) (text-taken a ks kt (h .short))
+    ap (kindText (getD (noted a ks) 0 0) (noted a ks) (unitRows (ionFields (a .ion) .units) ++ ku)) (text-taken a ks kt (h .short))
     ∙ kind-printed a ks (a .ion) ku h
 
 -- ---- before the ion

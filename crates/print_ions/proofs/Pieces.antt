@@ -17,20 +17,6 @@ use Rattle.print_ions.specs.Texts.{seriesText, bracesText, bracketsText,
 use Rattle.print_ions.specs.Ions.{labelText, kindText, ionText}
 use Rattle.print_ions.specs.Fronts.{flagText, analyteText}
 
--- ---- a match that no arm from 1 to m takes
-
-abbrev pub NoneTo : ℕ → ℕ → Type 0
-NoneTo zero n = Unit {0}
-NoneTo (suc m) n = NoneTo m n × (n ≡ suc m → ⊥)
-
-pub none-to : (m n : ℕ) → NoneTo m n → 1 ≤ n → n ≤ m → ⊥
-none-to zero n h a b = omega arith
-none-to (suc m) n h a b = by (decLe n m) (λ g. none-to m n (h .0) a g)
-  where
-    by : Dec (n ≤ m) → (n ≤ m → ⊥) → ⊥
-    by (yes g) f = f g
-    by (no g) f = h .1 (omega arith)
-
 -- ---- series
 
 pub series-is : {n : ℕ} (k : ℕ) → n ≡ k → seriesText k ≡ seriesText n

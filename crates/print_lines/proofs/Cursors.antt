@@ -3,20 +3,10 @@ use Prim.Native.Nat.{ℕ, _+_, _≤_, min}
 use mathlib.Core.Path.{_≡_, sym, ap, _∙_, subst}
 use mathlib.Core.List.{List}
 use native.Mathlib.Omega.{arith}
-use native.Mathlib.Decide.{decLe}
-use lib.ListN.{length, drop, drop-of-length-le}
+use lib.ListN.{length, drop}
 use lib.Seq.{drop-drop}
+use Rattle.terms.proofs.Parts.{drop-min}
 use Rattle.print_ions.specs.Texts.{ionUnits}
-
--- a place past the end drops all there is
-pub drop-min : (l : List ℕ) (n : ℕ) → drop (min n (length l)) l ≡ drop n l
-drop-min l n = by (decLe n (length l))
-  where
-    by : Dec (n ≤ length l) → drop (min n (length l)) l ≡ drop n l
-    by (yes h) = let e : min n (length l) ≡ n = omega arith in ap (λ (m : ℕ). drop m l) e
-    by (no h) =
-        let e : min n (length l) ≡ length l = omega arith in
-        ap (λ (m : ℕ). drop m l) e ∙ drop-of-length-le l {i = length l} (omega arith) ∙ sym (drop-of-length-le l {i = n} (omega arith))
 
 -- n bytes further
 pub ahead-drop : (s : List ℕ) (a n : ℕ) {m : ℕ} → m ≡ min (a + n) (length s) → drop m s ≡ drop n (drop a s)

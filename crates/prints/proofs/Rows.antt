@@ -10,7 +10,7 @@ use Rattle.lang.specs.Mark.{In, here, later}
 use Rattle.rules.specs.Bytes.{bytes}
 use Rattle.rules.specs.Numbers.{Number}
 use Rattle.rules.specs.Texts.{inBrackets}
-use Rattle.rules.specs.Formulas.{FormulaUnit, plain, labelled, unitText, unitMap}
+use Rattle.rules.specs.Formulas.{FormulaUnit, unitText, unitMap}
 use Rattle.rules.specs.Losses.{Sign, minus, plus, signText}
 use Rattle.rules.specs.Preferred.{shortened, signRank}
 use Rattle.rules.specs.Stored.{Field, u8, u16, stores, unitRecord}
@@ -18,6 +18,7 @@ use Rattle.formulas.specs.Records.{wordOf}
 use Rattle.formulas.specs.Preferred.{printedUnits}
 use Rattle.formulas.proofs.Chains.{AllOf, all-none, all-more}
 use Rattle.formulas.proofs.Laws.{UnitUpTo, printed-read}
+use Rattle.rules.proofs.Lengths.{unit-length}
 use Rattle.prints.specs.Numbers.{countText}
 use Rattle.prints.specs.Pieces.{signBytes, pieceUnits, pieceName, whatText, pieceText, piecesText, unitBytes, nameBytes}
 use Rattle.prints.proofs.Words.{word-stored}
@@ -41,13 +42,9 @@ drop-part n l m e = ap (λ (k : ℕ). drop k (l ++ m)) e ∙ drop-append-seam l 
 abbrev pub unitRows : List (FormulaUnit Number) → List ℕ
 unitRows us = flat (λ u. stores (unitRecord u)) us
 
-unit-row : (u : FormulaUnit Number) → length (stores (unitRecord u)) ≡ 6
-unit-row (plain s c) = refl
-unit-row (labelled a s c) = refl
-
 unit-rows : (us : List (FormulaUnit Number)) → length (unitRows us) ≡ 6 * length us
 unit-rows [] = refl
-unit-rows (u ∷ us) = omega (arith, length-append (stores (unitRecord u)) (unitRows us), unit-row u, unit-rows us)
+unit-rows (u ∷ us) = omega (arith, length-append (stores (unitRecord u)) (unitRows us), unit-length u, unit-rows us)
 
 -- ---- one piece
 

@@ -95,7 +95,7 @@ signed-kept (written d) h g = by (d .minus) (d .size .value) h g
     by true v h g = let some = leb→le 1 v g in omega arith
     by false v h g = omega arith
 
-byte-kept : (n : ℕ) → n ≤ 255 → n % 256 ≡ n
+pub byte-kept : (n : ℕ) → n ≤ 255 → n % 256 ≡ n
 byte-kept n h = omega arith
 
 pub tail-printed : (a : Annotation Number) (k : List ℕ) → TailOk a

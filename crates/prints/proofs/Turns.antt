@@ -4,13 +4,13 @@ use mathlib.Core.Path.{_≡_, sym, ap, ap₂, _∙_}
 use mathlib.Core.Bool.{Bool, true, false, cond}
 use mathlib.Core.List.{List, _++_}
 use native.Mathlib.Omega.{arith}
-use native.Mathlib.Decide.{decLe}
 use lib.Dec.{eqb}
-use lib.ListN.{length, getD, drop, drop-of-length-le}
+use lib.ListN.{length, getD, drop}
 use lib.Seq.{drop-drop}
 use Rattle.rules.specs.Limits.{maxUnits}
 use Rattle.puts.specs.Puts.{maxPlace, Put}
 use Rattle.puts.proofs.Turns.{Going, begin, more, ends}
+use Rattle.terms.proofs.Parts.{drop-min}
 use Rattle.formulas.specs.Records.{wordOf}
 use Rattle.prints.specs.Pieces.{pieceUnits, pieceName, pieceText, piecesText, unitBytes, nameBytes, PrintsPieces}
 
@@ -22,16 +22,6 @@ few-units l = by (eqb (getD l 1 0) 0)
     by : (b : Bool) → cond b (min (wordOf (drop 4 l)) maxUnits) 0 ≤ 12
     by true = omega arith
     by false = omega arith
-
--- a place past the end drops all there is
-drop-min : (l : List ℕ) (n : ℕ) → drop (min n (length l)) l ≡ drop n l
-drop-min l n = by (decLe n (length l))
-  where
-    by : Dec (n ≤ length l) → drop (min n (length l)) l ≡ drop n l
-    by (yes h) = let e : min n (length l) ≡ n = omega arith in ap (λ (m : ℕ). drop m l) e
-    by (no h) =
-        let e : min n (length l) ≡ length l = omega arith in
-        ap (λ (m : ℕ). drop m l) e ∙ drop-of-length-le l {i = length l} (omega arith) ∙ sym (drop-of-length-le l {i = n} (omega arith))
 
 further : (l : List ℕ) (at n : ℕ) {to : ℕ} → to ≡ min (at + n) (length l) → drop n (drop at l) ≡ drop to l
 further l at n e = drop-drop n at l ∙ sym (drop-min l (at + n)) ∙ ap (λ (m : ℕ). drop m l) (sym e)

@@ -1,12 +1,12 @@
 -- Laws of what is put at a cursor, for whoever puts one thing after the other. Assumes nothing.
 use Prim.Native.Nat.{ℕ, zero, suc, _+_, _-_, _*_, _≤_, min}
 use mathlib.Core.Path.{_≡_, refl, sym, ap, ap₂, _∙_, subst}
-use mathlib.Core.List.{List, [], _∷_, _++_, append-nil}
+use mathlib.Core.List.{List, [], _∷_, _++_, append-nil, append-assoc}
 use native.Mathlib.Omega.{arith}
 use native.Mathlib.Nat.{add-zero, zero-add, sub-zero}
 use native.Mathlib.Decide.{decLe}
-use lib.ListN.{length, take, drop, set, replicate, length-append, length-replicate, length-set}
-use lib.Seq.{sets, sets-eq, set-out, length-sets}
+use lib.ListN.{length, take, drop, set, replicate, length-append, length-replicate}
+use lib.Seq.{sets, sets-eq, set-out, length-sets, drop-length, drop-drop}
 use Rattle.lang.specs.Parts.{flat}
 use Rattle.rules.specs.Stored.{little}
 use Rattle.puts.specs.Puts.{maxPlace, Put}
@@ -77,11 +77,28 @@ pub over-zeros : {n r : ℕ} {l e : List ℕ} → Put (replicate n 0) 0 l e r �
 over-zeros {n} {r} {l} {e} p h =
     p .made ∙ sets-eq l (replicate n 0) 0 (omega (arith, length-replicate {A = ℕ} n 0)) ∙ simp (zero-add, drop-zeros)
 
+-- over all that there is
+pub put-over : {d l e : List ℕ} {r : ℕ} → Put d 0 l e r → length l ≡ length d → e ≡ l
+put-over {d} {l} {e} p h =
+    p .made ∙ sets-eq l d 0 (omega arith) ∙ ap (λ (n : ℕ). l ++ drop n d) (zero-add (length l) ∙ h)
+    ∙ ap (λ (x : List ℕ). l ++ x) (drop-length d) ∙ append-nil l
+
+-- over a part of n bytes, where e came to stand
+pub put-part : {d e l : List ℕ} {at n k : ℕ} → length d ≤ maxPlace → at + n ≤ length d → k ≡ n → length l ≡ n → e ≡ l
+    → Put d at l (take at d ++ (e ++ drop k (drop at d))) (at + n)
+put-part {d} {e} {l} {at} {n} {k} h g q z w =
+    record {
+      small = h;
+      next = omega arith;
+      made =
+          ap₂ (λ (x : List ℕ) (i : ℕ). take at d ++ (x ++ drop i (drop at d))) w (q ∙ sym z)
+          ∙ ap (λ (x : List ℕ). take at d ++ (l ++ x)) (drop-drop (length l) at d)
+          ∙ sym (append-assoc (take at d) l (drop (at + length l) d)) ∙ sym (sets-eq l d at (omega arith));
+    }
+
 -- a cleared output, filled
 pub filled : {n r : ℕ} {l e : List ℕ} → Put (replicate n 0) 0 l e r → length l ≡ n → e ≡ l
-filled {n} {r} {l} {e} p h =
-    let z : n - length l ≡ 0 = omega arith in
-    over-zeros p (omega arith) ∙ ap (λ (k : ℕ). l ++ replicate k 0) z ∙ append-nil l
+filled {n} {r} {l} {e} p h = put-over p (h ∙ sym (length-replicate n 0))
 
 -- words are of eight bytes
 pub words-length : (s : List ℕ) → length (flat (little 8) s) ≡ length s * 8

@@ -1,10 +1,10 @@
 -- What is answered to a line is what the rules say of it. Assumes nothing.
-use Prim.Native.Nat.{ℕ, _+_, _-_, _<_, _≤_, min}
+use Prim.Native.Nat.{ℕ, _+_, _-_, _≤_}
 use mathlib.Core.Path.{_≡_, refl, sym, ap, ap₂, _∙_, subst}
 use mathlib.Core.Bool.{Bool, true, false, cond}
-use mathlib.Core.List.{List, [], _∷_, _++_}
+use mathlib.Core.List.{List, _++_}
 use native.Mathlib.Omega.{arith}
-use lib.Dec.{eqb, ltb}
+use lib.Dec.{ltb}
 use lib.ListN.{length, replicate, length-replicate}
 use lib.Seq.{sets, length-sets}
 use borrow.Author.Tests.{ltb-true, ltb-false, ne-eqb}
@@ -12,23 +12,20 @@ use Rattle.lang.specs.Parts.{Opt, silent, written}
 use Rattle.lang.specs.Mark.{Mark, Kept}
 use Rattle.lang.specs.Order.{Each}
 use Rattle.lang.proofs.FirstBroken.{firstBroken}
-use Rattle.rules.specs.Formulas.{Written}
-use Rattle.rules.specs.Annotations.{Annotation, annotationText}
-use Rattle.rules.specs.Lines.{Spelling, lineText, Shape, Misshapen, stray, short, Judged, fine, misshapen}
+use Rattle.rules.specs.Lines.{Spelling, lineText, misshapen}
 use Rattle.rules.specs.Fields.{Table, Says}
-use Rattle.rules.specs.Limits.{maxLine, lineMarks, annotationMarks}
+use Rattle.rules.specs.Limits.{maxLine, lineMarks}
 use Rattle.rules.specs.House.{firstBreach, firstExcess}
-use Rattle.rules.specs.Stored.{headerSize, stored}
+use Rattle.rules.specs.Stored.{stored}
 use Rattle.rules.specs.Answers as rules
-use Rattle.rules.specs.Answers.{refuses, gives, Delivers, no-room, done, Sound, ReadsSum, ReadsRules, ReadsSpelling, Reads}
+use Rattle.rules.specs.Answers.{refuses, Delivers, no-room, done, Sound, ReadsSum, ReadsRules, ReadsSpelling, Reads}
 use Rattle.rules.proofs.FirstBroken.{first-wins, first-keeps}
-use Rattle.rules.proofs.Sizes.{sizes-fit}
-use Rattle.rules.proofs.Lengths.{header-length}
-use Rattle.puts.specs.Puts.{maxPlace, Put}
+use Rattle.rules.proofs.OneShape.{judged-shape, judged-misshapen}
+use Rattle.puts.specs.Puts.{maxPlace}
 use Rattle.terms.specs.declared.Fault.{Fault}
-use Rattle.terms.specs.Faults.{fault, after}
+use Rattle.terms.specs.Faults.{fault}
 use Rattle.pages.specs.declared.Counts.{Counts}
-use Rattle.pages.specs.Pages.{Event, Ran, run, ends}
+use Rattle.pages.specs.Pages.{Ran, ends}
 use Rattle.pages.specs.Headers.{startsOf, endAt, headerBytes, Headed, countsOf}
 use Rattle.pages.specs.Fills.{Fills}
 use Rattle.pages.proofs.Tables.{table-stored}
@@ -42,7 +39,7 @@ use Rattle.reading.specs.Readings.{firstOf, countsIn, tableOver, storedO
 use Rattle.reading.proofs.Folds as folds
 use Rattle.reading.proofs.Folds.{breach-told, excess-told}
 use Rattle.reading.proofs.Through.{TotalsRead, totals-read}
-use Rattle.reading.proofs.Filled.{FilledBy, line-filled}
+use Rattle.reading.proofs.Filled.{line-filled}
 use Rattle.reading.proofs.Numbered.{told, after-first, first-numbered, line-numbered}
 use Rattle.reading.proofs.Counted.{counts-are, end-is}
 use Rattle.reading.proofs.Firsts.{first-limit, first-breach, first-excess}
@@ -155,15 +152,6 @@ spelled-right room small s l =
     spelling-read room small s l (totalsOf (lineText s)) (totals-read s l) (firstBroken (lineMarks s)) refl
 
 -- ---- any line
-
-pub judged-shape : {line : List ℕ} {n p : ℕ} → Judged line n p → n ≡ 0 → Shape line
-judged-shape (fine x) e = x
-judged-shape (misshapen (stray p x)) e = absurd (omega arith)
-judged-shape (misshapen (short x y)) e = absurd (omega arith)
-
-pub judged-misshapen : {line : List ℕ} {n p : ℕ} → Judged line n p → (n ≡ 0 → ⊥) → Misshapen line n p
-judged-misshapen (fine x) h = absurd (h refl)
-judged-misshapen (misshapen x) h = x
 
 verdict-right : (line : List ℕ) (room : ℕ) → room ≤ maxPlace → length line ≤ maxLine → (v : Verdict) → JudgedBy line v → Reads line room (anyOver (replicate room 0) v line)
 verdict-right line room small h Fine j =

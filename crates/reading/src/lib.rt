@@ -26,7 +26,7 @@ pub const MAX_LINE: usize = 4096;
 
 // The number of refusal, or 0; its place, or the bytes needed; and how many bytes of the output were written.
 pub struct Answer {
-    pub number: u8,
+    pub number: usize,
     pub place: usize,
     pub len: usize,
 }
@@ -78,7 +78,7 @@ fn before_all() -> Totals
 }
 
 // A broken rule counts where none was before it.
-fn note(f: Fault, number: u8, place: usize, kept: bool) -> Fault
+fn note(f: Fault, number: usize, place: usize, kept: bool) -> Fault
     ensures { λ r. ⌜ r ≡ noted f number place kept ⌝ }
 {
     if f.number != 0 {
@@ -174,7 +174,7 @@ fn store_all(out: &mut [u8], c: Cursors, line: &[u8])
 
 // ---- reading
 
-pub fn refuse(number: u8, place: usize) -> Answer
+pub fn refuse(number: usize, place: usize) -> Answer
     ensures { λ r. ⌜ r ≡ refusedOf number place ⌝ }
 {
     Answer {

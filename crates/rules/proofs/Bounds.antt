@@ -6,24 +6,24 @@ use mathlib.Core.List.{List, [], _∷_, map}
 use native.Mathlib.Omega.{arith}
 use lib.ListN.{length, length-map}
 use Rattle.lang.specs.Parts.{Opt, silent, written, items, Such}
-use Rattle.lang.specs.Mark.{In, here, later, Kept, Part, marksOf}
+use Rattle.lang.specs.Mark.{In, here, later, Kept, marksOf}
 use Rattle.lang.specs.Order.{Each, none, next}
 use Rattle.rules.specs.Bytes.{bytes}
 use Rattle.rules.specs.Numbers.{Number}
 use Rattle.rules.specs.Texts.{bracedText, bracketText}
 use Rattle.rules.specs.Formulas.{Written, FormulaUnit, plain, labelled, unitText, unitMap, Formula, formulaMap}
 use Rattle.rules.specs.Ions.{Ion, series, internal, immonium, precursor, reference, named, composed, smiles, unknown, ionText, ionMap}
-use Rattle.rules.specs.Losses.{signText, Lost, lost-formula, lost-name, lostMap, Loss, lossText, lossMap}
+use Rattle.rules.specs.Losses.{Lost, lost-formula, lost-name, lostMap, Loss, lossText, lossMap}
 use Rattle.rules.specs.Isotopes.{specificText, specificMap, Isotopes, no-isotope, plain-isotope, average-isotope, specific-isotopes}
 use Rattle.rules.specs.Isotopes.{isotopesText, isotopesMap}
 use Rattle.rules.specs.Adducts.{Added, added-formula, electron, addedMap, Item, itemText, adductText, itemMap}
-use Rattle.rules.specs.Annotations.{Annotation, flagText, annotationText, annotationMap}
+use Rattle.rules.specs.Annotations.{Annotation, annotationText, annotationMap}
 use Rattle.rules.specs.Lines.{Spelling, nextText}
 use Rattle.rules.specs.Fields.{Table, filled, SameFields}
-use Rattle.rules.specs.Limits.{maxAnnotations, maxLosses, maxIsotopes, maxItems, maxUnits, maxText, maxCount}
-use Rattle.rules.specs.Limits.{bare, part, optPart, numberPart, closedPart, rowMarks, rowPart}
+use Rattle.rules.specs.Limits.{maxAnnotations, maxLosses, maxIsotopes, maxItems, maxUnits, maxText}
+use Rattle.rules.specs.Limits.{bare, part, optPart, closedPart, rowMarks, rowPart}
 use Rattle.rules.specs.Limits.{unitMarks, formulaPart, ionParts, lostPart, lossParts, lossMarks, specificMarks, isotopesMarks, addedPart, itemParts, itemMarks, adductMarks}
-use Rattle.rules.specs.Limits.{analytePart, chargePart, deviationPart, confidencePart, annotationParts, annotationMarks, nextMarks, lineMarks}
+use Rattle.rules.specs.Limits.{annotationParts, annotationMarks, nextMarks, lineMarks}
 use Rattle.rules.specs.Answers.{Sound}
 use Rattle.rules.specs.Stored.{bytesOf, ionFields, lostUnits, lostName, specificRecord, isotopeRecords, addedUnits}
 use Rattle.rules.proofs.Totals.{in-map, perm-length, perm-in}
@@ -40,7 +40,7 @@ opt-short : {f : List ℕ → Bool} (text : Such f → List ℕ) (t : Opt (Such 
 opt-short text silent at k = omega arith
 opt-short text (written t) at k = text-short text t at k
 
-unit-counted : (i : ℕ) (u : FormulaUnit Written) (at : ℕ) → Kept (unitMarks i u at) → i < maxUnits
+pub unit-counted : (i : ℕ) (u : FormulaUnit Written) (at : ℕ) → Kept (unitMarks i u at) → i < maxUnits
 unit-counted i (plain s c) at k = not-many maxUnits i at _ k
 unit-counted i (labelled a s c) at k = not-many maxUnits i at _ k
 

@@ -102,7 +102,7 @@ same-in-range e r =
 -- ---- tables
 
 -- a test that did not end the search for a place passed, and the search went on
-passed : (x : Bool) (more : Opt ℕ) (at : ℕ) → _≡_ {A = Opt ℕ} (elim x [ true ↦ more | false ↦ written at ]) silent → T x × (more ≡ silent)
+pub passed : (x : Bool) (more : Opt ℕ) (at : ℕ) → _≡_ {A = Opt ℕ} (elim x [ true ↦ more | false ↦ written at ]) silent → T x × (more ≡ silent)
 passed true more at e = (tt, e)
 passed false more at e = absurd (written-not-silent (written at) refl e)
 

@@ -20,7 +20,7 @@ use Rattle.rules.proofs.Keeps.{kept-part}
 
 -- ---- decimals
 
-kept-true : (b : Bool) → (T (not b) → ⊥) → T b
+pub kept-true : (b : Bool) → (T (not b) → ⊥) → T b
 kept-true true h = tt
 kept-true false h = h tt
 

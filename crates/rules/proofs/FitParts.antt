@@ -27,7 +27,7 @@ use Rattle.rules.proofs.OneRecord.{Fits}
 pub number-within : {m : ℕ} (bound : ℕ) (n : From m) (at : ℕ) → Kept (numberPart bound n .marks at) → n .value ≤ bound
 number-within bound n at k = not-past bound (n .value) (λ b. k _ here b)
 
-filled-within : (c : Written) (at : ℕ) → Kept (optPart (numberPart maxCount) c .marks at) → filled c .value ≤ maxCount
+pub filled-within : (c : Written) (at : ℕ) → Kept (optPart (numberPart maxCount) c .marks at) → filled c .value ≤ maxCount
 filled-within silent at k = omega arith
 filled-within (written n) at k = number-within maxCount n at k
 

@@ -13,9 +13,9 @@ use Rattle.rules.specs.Isotopes.{Shift, Isotopes, no-isotope, plain-isot
 use Rattle.rules.specs.Adducts.{Item}
 use Rattle.rules.specs.Annotations.{Annotation}
 use Rattle.rules.specs.Fields.{Table}
-use Rattle.rules.specs.Stored.{little, Field, u16, stores, unitRecord, lossRecord}
+use Rattle.rules.specs.Stored.{little, Field, stores, unitRecord, lossRecord}
 use Rattle.rules.specs.Stored.{isotopeRecord, specificRecord, isotopeRecords, itemRecord, annotationRecord}
-use Rattle.rules.specs.Stored.{annotationUnits, annotationTexts, section, sections, edition, headerSize, counts, body, header, stored}
+use Rattle.rules.specs.Stored.{annotationUnits, annotationTexts, section, sections, headerSize, counts, body, header, stored}
 use Rattle.rules.proofs.Totals.{total, length-flat, length-flat-each, in-none, in-map, in-flat}
 
 -- ---- records

@@ -3,6 +3,7 @@
 use Prim.Native.Nat.{ℕ}
 use mathlib.Core.Path.{_≡_, refl}
 use mathlib.Core.List.{List}
+use native.Mathlib.Omega.{arith}
 use Rattle.lang.proofs.OneStray.{begins-whole, stray-not-begun, stray-one}
 use Rattle.rules.specs.Lines.{Shape, Misshapen, stray, short, Judged, fine, misshapen}
 
@@ -21,3 +22,14 @@ judged-one (fine x) (fine y) = (refl, refl)
 judged-one (fine x) (misshapen y) = absurd (misshapen-no-shape y x)
 judged-one (misshapen x) (fine y) = absurd (misshapen-no-shape x y)
 judged-one (misshapen x) (misshapen y) = misshapen-one x y
+
+-- ---- by its number
+
+pub judged-shape : {line : List ℕ} {n p : ℕ} → Judged line n p → n ≡ 0 → Shape line
+judged-shape (fine x) e = x
+judged-shape (misshapen (stray p x)) e = absurd (omega arith)
+judged-shape (misshapen (short x y)) e = absurd (omega arith)
+
+pub judged-misshapen : {line : List ℕ} {n p : ℕ} → Judged line n p → (n ≡ 0 → ⊥) → Misshapen line n p
+judged-misshapen (fine x) h = absurd (h refl)
+judged-misshapen (misshapen x) h = x

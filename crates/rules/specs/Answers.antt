@@ -3,7 +3,7 @@ use Prim.Native.Nat.{ℕ, _-_, _<_, _≤_}
 use mathlib.Core.Path.{_≡_}
 use mathlib.Core.List.{List, _++_}
 use lib.ListN.{length, replicate}
-use Rattle.lang.specs.Parts.{Opt, silent, written}
+use Rattle.lang.specs.Parts.{silent, written}
 use Rattle.lang.specs.Order.{Each}
 use Rattle.lang.specs.Mark.{Mark, Kept, Wins}
 use Rattle.rules.specs.Lines.{Spelling, lineText, Misshapen}

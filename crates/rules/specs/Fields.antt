@@ -3,8 +3,8 @@
 -- items stand in preferred order. Assumes nothing.
 use Prim.Native.Nat.{ℕ}
 use mathlib.Core.Path.{_≡_}
-use mathlib.Core.Bool.{Bool, true, _&&_}
-use mathlib.Core.List.{List, [], _∷_, map}
+use mathlib.Core.Bool.{Bool, _&&_}
+use mathlib.Core.List.{List}
 use lib.Dec.{T}
 use Rattle.lang.specs.Parts.{silent, written}
 use Rattle.lang.specs.Order.{Perm, rising, Each}

@@ -2,11 +2,10 @@
 use Prim.Native.Nat.{ℕ, _+_, _-_, _*_, _^_}
 use mathlib.Core.Bool.{Bool, true, false, not, _&&_, _||_}
 use mathlib.Core.List.{List, [], _∷_}
-use lib.Dec.{leb, ltb, eqb}
+use lib.Dec.{leb}
 use lib.ListN.{length}
 use Rattle.lang.specs.Parts.{Opt, silent, written}
 use Rattle.rules.specs.Decimals.{Decimal}
-use Rattle.rules.specs.Formulas.{Written}
 use Rattle.rules.specs.Ions.{Ion, series, internal, immonium, precursor, reference, named, composed, smiles, unknown}
 use Rattle.rules.specs.Annotations.{Deviation, Annotation, annotationText}
 use Rattle.rules.specs.Lines.{Spelling}

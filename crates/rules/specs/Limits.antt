@@ -1,19 +1,19 @@
 -- Document 01, "Numbers that bound it": the limits of a spelling, each with the place at which a breach is reported
 -- ("Numbers of refusal", 4 and 5). Assumes nothing.
 use Prim.Native.Nat.{ℕ, _+_}
-use mathlib.Core.Bool.{Bool, true, false, not, _&&_}
+use mathlib.Core.Bool.{Bool, not, _&&_}
 use mathlib.Core.List.{List, [], _∷_, _++_}
 use lib.Dec.{leb, ltb}
 use lib.ListN.{length}
-use Rattle.lang.specs.Parts.{Opt, silent, written, optText, Some, items, flat, Such, wordOf}
+use Rattle.lang.specs.Parts.{Opt, silent, written, items, flat, Such, wordOf}
 use Rattle.lang.specs.Mark.{Mark, Part, marksOf}
 use Rattle.rules.specs.Bytes.{bytes}
-use Rattle.rules.specs.Numbers.{digits, From, numberText}
+use Rattle.rules.specs.Numbers.{From, numberText}
 use Rattle.rules.specs.Decimals.{Decimal, decimalText, digitCount}
 use Rattle.rules.specs.Texts.{bracedText, bracketText}
-use Rattle.rules.specs.Formulas.{Written, writtenText, FormulaUnit, plain, labelled, unitText, Formula, formulaText}
+use Rattle.rules.specs.Formulas.{Written, FormulaUnit, plain, labelled, unitText, Formula, formulaText}
 use Rattle.rules.specs.Ions.{Ion, series, internal, immonium, precursor, reference, named, composed, smiles, unknown, ionText}
-use Rattle.rules.specs.Losses.{signText, Lost, lost-formula, lost-name, lostText, Loss, lossText}
+use Rattle.rules.specs.Losses.{signText, Lost, lost-formula, lost-name, Loss, lossText}
 use Rattle.rules.specs.Isotopes.{Shift, shiftText, Specific, specificText, Isotopes, no-isotope, plain-isotope, average-isotope, specific-isotopes, isotopesText}
 use Rattle.rules.specs.Adducts.{Added, added-formula, electron, addedText, Item, itemText, adductText}
 use Rattle.rules.specs.Annotations.{Deviation, Annotation, flagText, analyteText, chargeText, deviationText, confidenceText, annotationText}

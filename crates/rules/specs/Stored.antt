@@ -1,13 +1,12 @@
 -- Document 01, "The stored table": every byte. Little-endian; unused fields zero. Assumes nothing.
-use Prim.Native.Nat.{ℕ, zero, suc, _+_, _-_, _*_, _/_, _%_, _^_}
+use Prim.Native.Nat.{ℕ, zero, suc, _+_, _-_, _/_, _%_, _^_}
 use mathlib.Core.Bool.{Bool, true, false}
 use mathlib.Core.List.{List, [], _∷_, _++_, map}
 use lib.ListN.{length}
-use Rattle.lang.specs.Parts.{Opt, silent, written, Some, items, flat, Such}
+use Rattle.lang.specs.Parts.{Opt, silent, written, items, flat, Such}
 use Rattle.rules.specs.Numbers.{From, Number}
-use Rattle.rules.specs.Decimals.{Decimal}
-use Rattle.rules.specs.Elements.{Symbol, atomicNumber}
-use Rattle.rules.specs.Formulas.{FormulaUnit, plain, labelled, Formula}
+use Rattle.rules.specs.Elements.{atomicNumber}
+use Rattle.rules.specs.Formulas.{FormulaUnit, plain, labelled}
 use Rattle.rules.specs.Ions.{Ion, series, internal, immonium, precursor, reference, named, composed, smiles, unknown}
 use Rattle.rules.specs.Losses.{Lost, lost-formula, lost-name, Loss}
 use Rattle.rules.specs.Isotopes.{Shift, Specific, Isotopes, no-isotope, plain-isotope, average-isotope, specific-isotopes}

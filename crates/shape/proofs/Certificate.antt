@@ -1,7 +1,6 @@
 -- The machine's certificate, computed: each row of its tables leads where the grammar's derivatives do, each class has bytes that
 -- the grammar does not tell apart, each state goes on to some line and has a line's end where the tables say so, and no line has
 -- two trees. Assumes nothing.
-use Prim.Native.Nat.{ℕ}
 use mathlib.Core.Path.{refl}
 use lib.Dec.{T}
 use Rattle.lang.proofs.Machine.{allB, all→}

@@ -2,7 +2,7 @@
 -- that its texts are the texts of the spellings is proved (the files Means..), and so are the machine's tables. Assumes nothing.
 use Prim.Native.Nat.{ℕ}
 use mathlib.Core.List.{List, [], _∷_, map}
-use Rattle.lang.specs.Re.{Rng, rng, Re, eps, cls, seq, alt, star}
+use Rattle.lang.specs.Re.{Rng, Re, eps, cls, seq, alt, star}
 use Rattle.lang.proofs.Lits.{litRe, litsRe}
 use Rattle.lang.proofs.Means.{optRe}
 use Rattle.lang.proofs.Names.{headRe}

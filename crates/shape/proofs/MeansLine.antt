@@ -1,9 +1,9 @@
 -- Annotations and lines are what the grammar says. Assumes nothing.
 use Prim.Native.Nat.{ℕ}
-use mathlib.Core.Path.{_≡_, refl}
+use mathlib.Core.Path.{refl}
 use mathlib.Core.Bool.{Bool, true, false}
-use mathlib.Core.List.{List, [], _∷_, _++_}
-use Rattle.lang.specs.Parts.{Opt, silent, written, optText, Some, flat}
+use mathlib.Core.List.{List, [], _∷_}
+use Rattle.lang.specs.Parts.{Opt, silent, written}
 use Rattle.lang.proofs.Means.{Means, optRe, means-many, means-opt, means-pair, means-as, means-word}
 use Rattle.rules.specs.Bytes.{bytes}
 use Rattle.rules.specs.Numbers.{From}
@@ -13,7 +13,7 @@ use Rattle.rules.specs.Annotations.{Deviation, Annotation, flagText, analyteTex
 use Rattle.rules.specs.Lines.{Spelling, nextText, lineText}
 use Rattle.shape.proofs.Grammar.{word, analyteRe, chargeRe, deviationRe, confidenceRe, annotationRe, nextRe, lineRe}
 use Rattle.shape.proofs.MeansNumbers.{means-two, means-nat, means-decimal}
-use Rattle.shape.proofs.MeansParts.{means-ion, means-loss, means-isotopes, means-adduct, list-to, list-from}
+use Rattle.shape.proofs.MeansParts.{means-ion, means-loss, means-isotopes, means-adduct}
 
 -- ---- flags
 

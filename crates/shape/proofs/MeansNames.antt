@@ -1,18 +1,18 @@
 -- Texts and names are what the grammar says: bytes of a class, with a say in the first of them. Assumes nothing.
 use Prim.Native.Nat.{ℕ}
-use mathlib.Core.Path.{_≡_, refl, sym, ap, ap₂, _∙_}
+use mathlib.Core.Path.{_≡_, refl, ap, ap₂}
 use mathlib.Core.Bool.{Bool, true, false, not, _&&_, _||_}
 use mathlib.Core.List.{List, [], _∷_, _++_}
 use mathlib.Core.Logic.{_⊎_, inl, inr}
 use lib.Dec.{T, T-not, not-T, eqb, eqb→eq}
-use Rattle.lang.specs.Re.{Rng, rng, inC, Re, Tree, text, either}
+use Rattle.lang.specs.Re.{Rng, inC, Re, Tree, text, either}
 use Rattle.lang.specs.Parts.{all}
 use Rattle.lang.proofs.Deriv.{and-0, and-1, and-i, or-e, or-l, or-r}
 use Rattle.lang.proofs.Lits.{one-eq}
 use Rattle.lang.proofs.Means.{Means, optRe, means-such, means-pair, means-as, means-word}
 use Rattle.lang.proofs.Names.{headRe, head-enc, head-dec, cover}
-use Rattle.rules.specs.Bytes.{bytes, _to_, letter, textByte, nameByte}
-use Rattle.rules.specs.Texts.{someOf, firstIn, startsWith, isText, isName, isLossName, isModification, Text, Name, LossName, Modification, bracedText, bracketText}
+use Rattle.rules.specs.Bytes.{bytes, letter, textByte, nameByte}
+use Rattle.rules.specs.Texts.{someOf, startsWith, isText, isName, isLossName, isModification, Text, Name, LossName, Modification}
 use Rattle.shape.proofs.Grammar.{textRe, nameRe, lossNameRe, notM, notSign, modificationRe, closedRe, bracesRe, bracketsRe}
 
 -- l has a tree; a tree has an l that passes the test

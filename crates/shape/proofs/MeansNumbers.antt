@@ -1,16 +1,15 @@
 -- Numbers and decimals are what the grammar says. Assumes nothing.
-use Prim.Native.Nat.{ℕ, zero, suc, _+_, _-_, _*_, _<_, _≤_}
-use mathlib.Core.Path.{_≡_, refl, sym, ap, ap₂, _∙_, subst}
-use mathlib.Core.Bool.{Bool, true, false}
-use mathlib.Core.List.{List, [], _∷_, _++_, append-nil, head-eq-of-cons-eq, tail-eq-of-cons-eq, nil≢cons, cons≢nil}
-use mathlib.Core.Logic.{_⊎_, inl, inr}
+use Prim.Native.Nat.{ℕ, zero, suc, _+_, _-_, _*_, _≤_}
+use mathlib.Core.Path.{_≡_, refl, sym, ap, ap₂, _∙_}
+use mathlib.Core.List.{List, [], _∷_, _++_, tail-eq-of-cons-eq, nil≢cons, cons≢nil}
+use mathlib.Core.Logic.{inl, inr}
 use mathlib.Core.HLevel.{isProp→PathP}
 use native.Mathlib.Omega.{arith}
 use native.Mathlib.Nat.{le-trans}
 use native.Mathlib.Decide.{decLe}
 use lib.Dec.{T, T-prop, leb, leb→le, le→leb}
 use lib.ListN.{length}
-use Rattle.lang.specs.Re.{Rng, rng, inC, Re, seq, Tree, text, either}
+use Rattle.lang.specs.Re.{Rng, inC, Re, seq, Tree, text}
 use Rattle.lang.specs.Digits.{valueFrom}
 use Rattle.lang.specs.Parts.{Such, all}
 use Rattle.lang.proofs.Deriv.{and-0, and-1}
@@ -20,8 +19,9 @@ use Rattle.lang.proofs.Names.{headRe, head-enc, head-dec}
 use Rattle.rules.specs.Bytes.{bytes, _to_, digit}
 use Rattle.rules.specs.Numbers.{digits, From, Number, numberText}
 use Rattle.rules.specs.Decimals.{Decimal, whole, lastDigits, pointText, decimalText}
-use Rattle.rules.proofs.Digits.{value-le, digits-small, digits-value, one-number, leading, read-back, value-digits}
+use Rattle.rules.proofs.Digits.{value-le, digits-small, one-number, leading, read-back}
 use Rattle.rules.proofs.Fractions.{whole-from, last-from, value-back, last-length, last-digits}
+use Rattle.rules.proofs.Shortened.{from-path}
 use Rattle.shape.proofs.Grammar.{numberRe, twoRe, natRe, decimalRe, word}
 
 -- n has a tree, and a tree has an n of at least m
@@ -31,12 +31,9 @@ Tree-of r n = (t : Tree r) × ((k : List ℕ) → text r t k ≡ digits n ++ k)
 abbrev Number-of : ℕ → (r : Re) → Tree r → Type 0
 Number-of m r t = (n : ℕ) × (m ≤ n) × ((k : List ℕ) → text r t k ≡ digits n ++ k)
 
-number-path : {m : ℕ} (x y : From m) → x .value ≡ y .value → x ≡ y
-number-path {m} x y p = λ i. record { value = p i; least = isProp→PathP (λ j. T (leb m (p j))) (λ j. T-prop (leb m (p j))) (x .least) (y .least) i }
-
 means-from : (m : ℕ) (r : Re) → ((n : ℕ) → m ≤ n → Tree-of r n) → ((t : Tree r) → Number-of m r t) → Means (From m) numberText r
 means-from m r e d =
-    means-one (λ x y p. number-path x y (one-number (x .value) (y .value) p)) (λ x. e (x .value) (leb→le m (x .value) (x .least)))
+    means-one (λ x y p. from-path x y (one-number (x .value) (y .value) p)) (λ x. e (x .value) (leb→le m (x .value) (x .least)))
     (λ t. (record { value = d t .0; least = le→leb m (d t .0) (d t .1) }, d t .2))
 
 -- the bytes of a tree are the digits of n

@@ -1,15 +1,14 @@
 -- Formulas, ions, losses, isotopes and adducts are what the grammar says. Assumes nothing.
 use Prim.Native.Nat.{ℕ}
-use mathlib.Core.Path.{_≡_, refl}
-use mathlib.Core.Bool.{Bool, true, false}
+use mathlib.Core.Path.{refl}
 use mathlib.Core.List.{List, [], _∷_, _++_, map}
 use mathlib.Core.Logic.{_⊎_, inl, inr}
 use Rattle.lang.specs.Re.{Re, alt, Byte}
-use Rattle.lang.specs.Parts.{Opt, silent, written, optText, Some, flat, wordOf, Listed}
+use Rattle.lang.specs.Parts.{Opt, silent, written, optText, Some, flat, wordOf}
 use Rattle.lang.proofs.Means.{Means, optRe, means-byte, means-many, means-opt, means-pair, means-as, means-alt, means-word, means-listed}
 use Rattle.rules.specs.Bytes.{bytes, capital}
-use Rattle.rules.specs.Numbers.{From, Number, numberText}
-use Rattle.rules.specs.Texts.{Text, Name, LossName, Modification, bracedText, bracketText}
+use Rattle.rules.specs.Numbers.{Number}
+use Rattle.rules.specs.Texts.{Text, Name, LossName, Modification, bracedText}
 use Rattle.rules.specs.Elements.{symbols, Symbol}
 use Rattle.rules.specs.Formulas.{Written, writtenText, FormulaUnit, plain, labelled, unitText, Formula, formulaText}
 use Rattle.rules.specs.Ions.{seriesNames, Series, Ion, series, internal, immonium, precursor, reference, named, composed, smiles, unknown, ionText}

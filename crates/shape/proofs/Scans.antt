@@ -1,21 +1,20 @@
 -- A scan of a whole line, in one part, by the machine's bytes comes to the verdict that the rules say. Assumes nothing.
 use Prim.Native.Nat.{ℕ, _+_, _-_, _<_, _≤_, _^_}
 use mathlib.Core.Path.{_≡_, refl, sym, ap, _∙_, subst}
-use mathlib.Core.Bool.{Bool, true, false, cond}
+use mathlib.Core.Bool.{Bool, true, false}
 use mathlib.Core.List.{List, [], _∷_, head-eq-of-cons-eq, tail-eq-of-cons-eq, nil≢cons}
 use native.Mathlib.Omega.{arith}
 use native.Mathlib.Decide.{decLe}
-use lib.Dec.{ltb, leb}
 use lib.ListN.{length, length-drop, getD, drop, drop-of-length-le}
 use borrow.Author.Tests.{lt-ltb, le-ltb, le-leb, lt-leb}
 use Rattle.lang.proofs.Certify.{step, step-le}
 use Rattle.lang.proofs.Loop as Loop
 use Rattle.lang.proofs.Loop.{Reading}
-use Rattle.rules.specs.Lines.{Shape, Judged, stray, short, fine, misshapen}
+use Rattle.rules.specs.Lines.{Shape, stray, short, fine, misshapen}
 use Rattle.shape.specs.Tables.{states, size}
 use Rattle.shape.specs.declared.Progress.{Progress}
 use Rattle.shape.specs.declared.Verdict.the-variants.{Fine, Short, Stray}
-use Rattle.shape.specs.Steps.{machineBytes, stepBy, endsBy, standing, runBy, takenBy, verdictBy, scannedBy}
+use Rattle.shape.specs.Steps.{machineBytes, stepBy, endsBy, standing, runBy, verdictBy, scannedBy}
 use Rattle.shape.specs.Verdicts.{JudgedBy}
 use Rattle.shape.proofs.TableMachine.{machine}
 use Rattle.shape.proofs.Certificate.{certified}

@@ -1,5 +1,5 @@
 -- The scan's tables, as a machine of the grammar. Assumes nothing.
-use mathlib.Core.List.{List, [], _∷_}
+use mathlib.Core.List.{[], _∷_}
 use Rattle.lang.proofs.Certify.{Tables}
 use Rattle.shape.specs.Tables.{states, kinds, classes, reps, rows, accepts, words}
 use Rattle.shape.proofs.Grammar.{lineRe}

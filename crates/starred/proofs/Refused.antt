@@ -10,9 +10,10 @@ use lib.ListN.{length, getD}
 use Rattle.lang.specs.Parts.{silent, written}
 use Rattle.lang.proofs.Machine.{allB, all→}
 use Rattle.rules.specs.Bytes.{bytes}
-use Rattle.rules.specs.Lines.{Spelling, Misshapen, Judged, fine, misshapen}
+use Rattle.rules.specs.Lines.{Spelling, Judged, misshapen}
 use Rattle.rules.specs.Limits.{maxLine, lineMarks}
 use Rattle.rules.specs.Answers.{refuses, ReadsSum, ReadsRules, ReadsSpelling, Reads}
+use Rattle.rules.proofs.OneShape.{judged-misshapen}
 use Rattle.rules.proofs.worked.Bounds.{Ruled}
 use Rattle.shape.specs.declared.Verdict.{Verdict}
 use Rattle.shape.specs.Verdicts.{numberOf, placeOf}
@@ -27,10 +28,6 @@ refused-only : (line : String) (number place : ℕ) → ((room : ℕ) → Reads 
 refused-only line number place r room =
     only (Reads (bytes line) room) (λ a. a ≡ refuses room number place) (λ a b. reads-one)
     (λ a e. subst (Reads (bytes line) room) (sym e) (r room)) (refuses room number place) refl
-
-judged-misshapen : {line : List ℕ} {n p : ℕ} → Judged line n p → (n ≡ 0 → ⊥) → Misshapen line n p
-judged-misshapen (fine x) h = absurd (h refl)
-judged-misshapen (misshapen x) h = x
 
 abbrev byteAt : List ℕ → ℕ → Bool
 byteAt line i = ltb (getD line i 0) 256

@@ -13,7 +13,7 @@ use Rattle.lang.proofs.Tests.{not-t}
 use Rattle.lang.proofs.Ranges.{in-range}
 use Rattle.rules.specs.Bytes.{bytes, digit}
 use Rattle.rules.specs.Texts.{firstIn, startsWith}
-use Rattle.rules.specs.Numbers.{digits, From, numberText}
+use Rattle.rules.specs.Numbers.{digits, From}
 use Rattle.rules.specs.Decimals.{Decimal, whole, pointText, decimalText}
 use Rattle.rules.specs.Annotations.{Deviation, flagText, chargeText, deviationText, confidenceText}
 use Rattle.rules.specs.Limits.{maxCharge, fits, decimalMark, optPart, chargePart, deviationPart, confidencePart}
@@ -26,7 +26,6 @@ use Rattle.terms.specs.Faults.{join, after}
 use Rattle.terms.proofs.Marks.{join-kept}
 use Rattle.terms.proofs.Spelled.{told}
 use Rattle.terms.proofs.Limits.{mark-told}
-use Rattle.tails.specs.declared.ChargeRead.{ChargeRead}
 use Rattle.tails.specs.declared.DecimalPart.{DecimalPart}
 use Rattle.tails.specs.Charges.{chargeOf}
 use Rattle.tails.specs.Decimals.{noPart, partOf, sizeAt, confidenceOf, deviationOf}

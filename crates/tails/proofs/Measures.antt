@@ -1,6 +1,6 @@
 -- How far a charge, a deviation and a confidence go. Assumes nothing.
 use Prim.Native.Nat.{ℕ, _+_, _-_, _≤_, _<_, max}
-use mathlib.Core.Path.{_≡_, refl, sym, ap, _∙_}
+use mathlib.Core.Path.{_≡_, refl, sym, _∙_}
 use mathlib.Core.Bool.{Bool, true, false, _&&_}
 use mathlib.Core.List.{List, [], _∷_}
 use native.Mathlib.Omega.{arith}
@@ -67,7 +67,3 @@ ppm-long t e = by (ltb (length t) 3) refl
 
 pub ppm-fits : (s : List ℕ) (i : ℕ) {r : List ℕ} → r ≡ drop i s → startsWith (bytes "ppm") r ≡ true → i + 3 ≤ length s
 ppm-fits s i {r} pr e = omega (arith, length-drop i s, ppm-long (drop i s) (rw pr at e))
-
-pub and-true : (x : Bool) → x ≡ (x && true)
-and-true true = refl
-and-true false = refl

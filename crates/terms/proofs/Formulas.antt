@@ -14,13 +14,13 @@ use Rattle.rules.specs.Formulas.{Written, FormulaUnit, plain, labelled, unitTex
 use Rattle.rules.specs.Limits.{unitMarks, formulaPart}
 use Rattle.elements.specs.Symbols.{small}
 use Rattle.terms.specs.declared.Fault.{Fault}
-use Rattle.terms.specs.declared.UnitRead.{UnitRead}
+use Rattle.terms.specs.declared.UnitSpan.{UnitSpan}
 use Rattle.terms.specs.Faults.{after}
-use Rattle.terms.specs.Units.{beginsUnit, unitOf, unitFault}
+use Rattle.terms.specs.Units.{beginsUnit, spanOf, unitFault}
 use Rattle.terms.specs.Formulas.{Counted, counted, unitSize, countUnit, unitsFrom, formulaOf}
-use Rattle.terms.proofs.Measures.{unit-moves}
+use Rattle.terms.proofs.Measures.{unit-size, unit-moves}
 use Rattle.terms.proofs.Rows.{turnOf, row-fold}
-use Rattle.terms.proofs.Spelled.{unitRead, begins-unit, unit-no-digit, unit-no-small, unit-read}
+use Rattle.terms.proofs.Spelled.{unitSpan, begins-unit, unit-no-digit, unit-no-small, span-read}
 use Rattle.terms.proofs.Limits.{unit-told}
 use Rattle.terms.proofs.Ends.{EndsFormula}
 
@@ -33,22 +33,22 @@ units-no-small : (us : List (FormulaUnit Written)) (k : List ℕ) → EndsFormul
 units-no-small [] k e = e .no-small
 units-no-small (u ∷ us) k e = rw (append-assoc (unitText u) (flat unitText us) k) (unit-no-small u (flat unitText us ++ k))
 
-unit-here : (u : FormulaUnit Written) (us : List (FormulaUnit Written)) (k : List ℕ) → EndsFormula k → unitOf (unitText u ++ (flat unitText us ++ k)) ≡ unitRead u
-unit-here u us k e = unit-read u (flat unitText us ++ k) (units-no-digit us k e) (units-no-small us k e)
+unit-here : (u : FormulaUnit Written) (us : List (FormulaUnit Written)) (k : List ℕ) → EndsFormula k → spanOf (unitText u ++ (flat unitText us ++ k)) ≡ unitSpan u
+unit-here u us k e = span-read u (flat unitText us ++ k) (units-no-digit us k e) (units-no-small us k e)
 
-unit-long : (u : FormulaUnit Written) → unitRead u .len ≡ length (unitText u)
+unit-long : (u : FormulaUnit Written) → unitSpan u .len ≡ length (unitText u)
 unit-long (plain s c) = refl
 unit-long (labelled a s c) = refl
 
 -- the fault after a unit, by how many bytes are left where it begins
 abbrev tellUnit : ℕ → Fault → FormulaUnit Written → ℕ → ℕ → Fault
-tellUnit end f u i left = unitFault f (unitRead u) i end left
+tellUnit end f u i left = unitFault f (unitSpan u) i end left
 
 unit-turns : (end : ℕ) (a : Counted) (u : FormulaUnit Written) (us : List (FormulaUnit Written)) (k : List ℕ) → EndsFormula k
     → countUnit end a (unitText u ++ (flat unitText us ++ k)) ≡ turnOf unitText (tellUnit end) a u (length (flat unitText us) + length k)
 unfolding countUnit
 unit-turns end a u us k e =
-    ap₂ (λ (r : UnitRead) (l : ℕ). counted (a .units + 1) (unitFault (a .fault) r (a .units) end l)) (unit-here u us k e)
+    ap₂ (λ (r : UnitSpan) (l : ℕ). counted (a .units + 1) (unitFault (a .fault) r (a .units) end l)) (unit-here u us k e)
     (length-append (unitText u) (flat unitText us ++ k) ∙ ap (λ (l : ℕ). length (unitText u) + l) (length-append (flat unitText us) k))
 
 units-read : (us : List (FormulaUnit Written)) (k : List ℕ) (end : ℕ) (a : Counted) → EndsFormula k
@@ -57,7 +57,7 @@ units-read us k end a e =
     walk-spelled beginsUnit unitSize (countUnit end) unit-moves unitText (turnOf unitText (tellUnit end)) EndsFormula
     (λ k e. e .no-unit)
     (λ u us k e. begins-unit u (flat unitText us ++ k))
-    (λ u us k e. ap (λ (r : UnitRead). r .len) (unit-here u us k e) ∙ unit-long u)
+    (λ u us k e. unit-size (unitText u ++ (flat unitText us ++ k)) ∙ ap (λ (r : UnitSpan). r .len) (unit-here u us k e) ∙ unit-long u)
     (unit-turns end) us k a e
 
 pub formula-read : (x : Formula Written) (k : List ℕ) (end : ℕ) (f : Fault) → EndsFormula k → length (formulaText x ++ k) ≤ end

@@ -15,7 +15,7 @@ use Rattle.terms.specs.declared.Fault.{Fault}
 use Rattle.terms.specs.Faults.{join, after}
 use Rattle.terms.specs.Units.{unitFault}
 use Rattle.terms.proofs.Marks.{join-kept}
-use Rattle.terms.proofs.Spelled.{told, unitRead}
+use Rattle.terms.proofs.Spelled.{told, unitSpan}
 
 -- a bound below a million does not see that a number was cut to a million
 pub mark-told : (f : Fault) (bound n at place : ℕ) → bound < 1000000 → at ≡ place → after f (numberMark bound (told n) at) ≡ after f (numberMark bound n place)
@@ -23,7 +23,7 @@ mark-told f bound n at place h e = ap₂ (λ (b : Bool) (p : ℕ). join f (recor
 
 -- by how many bytes are left where the unit begins
 pub unit-told : (end : ℕ) (f : Fault) (u : FormulaUnit Written) (i left : ℕ) → length (unitText u) ≤ left → left ≤ end
-    → unitFault f (unitRead u) i end left ≡ after f (unitMarks i u (end - left))
+    → unitFault f (unitSpan u) i end left ≡ after f (unitMarks i u (end - left))
 unfolding unitFault
 unit-told end f (plain s silent) i left h g =
     let m : Mark = manyMark maxUnits i (end - left) in
@@ -48,5 +48,5 @@ unit-told end f (labelled a s c) i left h g =
     labelled-inside = let z = simp length-append at h in omega arith
 
 pub unit-faults : (end : ℕ) (f : Fault) (u : FormulaUnit Written) (k : List ℕ) (i : ℕ) → length (unitText u ++ k) ≤ end
-    → unitFault f (unitRead u) i end (length (unitText u ++ k)) ≡ after f (unitMarks i u (end - length (unitText u ++ k)))
+    → unitFault f (unitSpan u) i end (length (unitText u ++ k)) ≡ after f (unitMarks i u (end - length (unitText u ++ k)))
 unit-faults end f u k i h = unit-told end f u i (length (unitText u ++ k)) (omega (arith, length-append (unitText u) k)) h

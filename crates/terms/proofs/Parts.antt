@@ -1,26 +1,30 @@
 -- Parts of a text: a part without its first bytes, and what it begins with. Assumes nothing.
-use Prim.Native.Nat.{ℕ, _-_, _≤_, _<_}
-use mathlib.Core.Path.{_≡_, refl, sym, _∙_}
-use mathlib.Core.Bool.{Bool, true, false, _&&_}
+use Prim.Native.Nat.{ℕ, _-_, _≤_, _<_, min}
+use mathlib.Core.Path.{_≡_, refl, sym, ap, _∙_}
+use mathlib.Core.Bool.{false}
 use mathlib.Core.List.{List, [], _∷_}
 use native.Mathlib.Omega.{arith}
+use native.Mathlib.Decide.{decLe}
 use lib.Dec.{eqb, leb}
 use lib.ListN.{length, getD, take, drop, length-drop, drop-of-length-le}
 use lib.Seq.{take-all}
 use Rattle.lang.specs.Re.{Rng, rng, inC}
 use Rattle.lang.proofs.Ranges.{range-below, range-from}
 use Rattle.rules.specs.Texts.{firstIn, startsWith}
-
-and-true : (x : Bool) → (x && true) ≡ x
-and-true true = refl
-and-true false = refl
+use Rattle.lang.proofs.Tests.{and-true}
 
 module _ (s : List ℕ) where
   pub rest-part : (n : ℕ) → take (length s - n) (drop n s) ≡ drop n s
   rest-part n = take-all (length s - n) (drop n s) (omega (arith, length-drop n s))
 
-  pub rest-none : (n : ℕ) → length s ≤ n → take 0 s ≡ drop n s
-  rest-none n h = sym (drop-of-length-le s h)
+  pub drop-min : (n : ℕ) → drop (min n (length s)) s ≡ drop n s
+  drop-min n = by (decLe n (length s))
+    where
+      by : Dec (n ≤ length s) → drop (min n (length s)) s ≡ drop n s
+      by (yes h) = let e : min n (length s) ≡ n = omega arith in ap (λ (m : ℕ). drop m s) e
+      by (no h) =
+          let e : min n (length s) ≡ length s = omega arith in
+          ap (λ (m : ℕ). drop m s) e ∙ drop-of-length-le s {i = length s} (omega arith) ∙ sym (drop-of-length-le s {i = n} (omega arith))
 
   pub begins-none : (c : List Rng) → length s < 1 → false ≡ firstIn c s
   begins-none c h = go s h

@@ -20,10 +20,11 @@ use Rattle.rules.specs.Formulas.{Written, writtenText, FormulaUnit, plain, labe
 use Rattle.numbers.specs.Leading.{numberOf}
 use Rattle.numbers.proofs.Laws.{number-begins, number-read, number-silent}
 use Rattle.numbers.proofs.Bounds.{some-digits}
-use Rattle.elements.specs.Symbols.{small}
+use Rattle.elements.specs.Symbols.{small, elementOf}
 use Rattle.elements.proofs.Begins.{element-read, symbol-begins}
 use Rattle.terms.specs.declared.UnitRead.{UnitRead}
-use Rattle.terms.specs.Units.{beginsUnit, orOne, plainOf, labelledOf, unitOf}
+use Rattle.terms.specs.declared.UnitSpan.{UnitSpan}
+use Rattle.terms.specs.Units.{beginsUnit, orOne, plainSpan, labelledSpan, spanOf, unitWith, unitOf}
 
 -- a number as it is read: no bound is a million or more
 abbrev pub told : ℕ → ℕ
@@ -33,17 +34,24 @@ abbrev pub countRead : Written → ℕ
 countRead silent = 1
 countRead (written n) = told (n .value)
 
-abbrev pub unitRead : FormulaUnit Written → UnitRead
-unitRead (plain s c) =
-    record { nucleons = 0; element = atomicNumber s; count = countRead c; «count_at» = length (wordOf s); len = length (unitText (plain s c)) }
-unitRead (labelled a s c) =
+abbrev pub unitSpan : FormulaUnit Written → UnitSpan
+unitSpan (plain s c) =
+    record { nucleons = 0; «symbol_at» = 0; count = countRead c; «count_at» = length (wordOf s); len = length (unitText (plain s c)) }
+unitSpan (labelled a s c) =
     record {
       nucleons = told (a .value);
-      element = atomicNumber s;
+      «symbol_at» = 1 + length (numberText a);
       count = told (c .value);
       «count_at» = 1 + length (numberText a) + length (wordOf s);
       len = length (unitText (labelled a s c));
     }
+
+abbrev pub symbolIn : FormulaUnit Written → Symbol
+symbolIn (plain s c) = s
+symbolIn (labelled a s c) = s
+
+abbrev pub unitRead : FormulaUnit Written → UnitRead
+unitRead u = unitWith (unitSpan u) (atomicNumber (symbolIn u))
 
 -- ---- what a unit begins with
 
@@ -91,8 +99,8 @@ capital-no-bracket (b ∷ s) e = let r = in-range 65 90 b e in rw (ne-eqb 91 b (
 
 -- a symbol, and what is read behind it
 plain-read : (s : Symbol) (m : List ℕ) → firstIn small m ≡ false
-    → unitOf (wordOf s ++ m) ≡ record { nucleons = 0; element = atomicNumber s; count = orOne (numberOf m); «count_at» = length (wordOf s); len = length (wordOf s) + numberOf m .len }
-unfolding unitOf plainOf
+    → spanOf (wordOf s ++ m) ≡ record { nucleons = 0; «symbol_at» = 0; count = orOne (numberOf m); «count_at» = length (wordOf s); len = length (wordOf s) + numberOf m .len }
+unfolding spanOf plainSpan
 plain-read s m h = rw (capital-no-bracket (wordOf s ++ m) (symbol-begins s m), element-read s m h, drop-append-seam (wordOf s) m)
 
 -- a unit in brackets: what is left behind its nucleon number, and behind its symbol
@@ -111,10 +119,10 @@ module _ (a : Number) (s : Symbol) (c : Number) (k : List ℕ) where
   labelled-long : min (1 + length (numberText a) + length (wordOf s) + length (numberText c) + 1) (length (91 ∷ (numberText a ++ afterA))) ≡ length (unitText (labelled a s c))
   labelled-long = simp length-append (omega arith)
 
-  labelled-read : unitOf (unitText (labelled a s c) ++ k) ≡ unitRead (labelled a s c)
-  unfolding unitOf labelledOf
+  labelled-read : spanOf (unitText (labelled a s c) ++ k) ≡ unitSpan (labelled a s c)
+  unfolding spanOf labelledSpan
   labelled-read =
-      ap unitOf (labelled-text a s c k)
+      ap spanOf (labelled-text a s c k)
       ∙ rw (
         number-read (a .value) afterA (symbol-no-digit s (numberText c ++ (93 ∷ k))),
         drop-a,
@@ -123,14 +131,27 @@ module _ (a : Number) (s : Symbol) (c : Number) (k : List ℕ) where
         number-read (c .value) (93 ∷ k) refl,
       )
       (ap (λ (l : ℕ).
-      record { nucleons = told (a .value); element = atomicNumber s; count = told (c .value); «count_at» = 1 + length (numberText a) + length (wordOf s); len = l }) labelled-long)
+      record { nucleons = told (a .value); «symbol_at» = 1 + length (numberText a); count = told (c .value); «count_at» = 1 + length (numberText a) + length (wordOf s); len = l }) labelled-long)
+
+pub span-read : (u : FormulaUnit Written) (k : List ℕ) → firstIn digit k ≡ false → firstIn small k ≡ false → spanOf (unitText u ++ k) ≡ unitSpan u
+span-read (plain s silent) k d e =
+    ap (λ (z : List ℕ). spanOf (z ++ k)) (append-nil (wordOf s)) ∙ plain-read s k e ∙ rw (number-silent k d)
+    (ap (λ (l : ℕ). record { nucleons = 0; «symbol_at» = 0; count = 1; «count_at» = length (wordOf s); len = l }) (simp length-append (omega arith)))
+span-read (plain s (written c)) k d e =
+    let n : (length (numberText c) ≡ 0 → ⊥) = λ z. omega (arith, some-digits (c .value)) in
+    ap spanOf (append-assoc (wordOf s) (numberText c) k) ∙ plain-read s (numberText c ++ k) (number-no-small c k) ∙ rw (number-read (c .value) k d, ne-eqb (length (numberText c)) 0 n)
+    (ap (λ (l : ℕ). record { nucleons = 0; «symbol_at» = 0; count = told (c .value); «count_at» = length (wordOf s); len = l }) (sym (length-append (wordOf s) (numberText c))))
+span-read (labelled a s c) k d e = labelled-read a s c k
+
+count-no-small : (c : Written) (k : List ℕ) → firstIn small k ≡ false → firstIn small (writtenText c ++ k) ≡ false
+count-no-small silent k e = e
+count-no-small (written n) k e = number-no-small n k
+
+-- the element of a unit, read where its symbol stands
+symbol-read : (u : FormulaUnit Written) (k : List ℕ) → firstIn small k ≡ false → elementOf (drop (unitSpan u .«symbol_at») (unitText u ++ k)) .number ≡ atomicNumber (symbolIn u)
+symbol-read (plain s c) k e = rw (append-assoc (wordOf s) (writtenText c) k, element-read s (writtenText c ++ k) (count-no-small c k e))
+symbol-read (labelled a s c) k e = rw (labelled-text a s c k, drop-a a s c k, element-read s (numberText c ++ (93 ∷ k)) (number-no-small c (93 ∷ k)))
 
 pub unit-read : (u : FormulaUnit Written) (k : List ℕ) → firstIn digit k ≡ false → firstIn small k ≡ false → unitOf (unitText u ++ k) ≡ unitRead u
-unit-read (plain s silent) k d e =
-    ap (λ (z : List ℕ). unitOf (z ++ k)) (append-nil (wordOf s)) ∙ plain-read s k e ∙ rw (number-silent k d)
-    (ap (λ (l : ℕ). record { nucleons = 0; element = atomicNumber s; count = 1; «count_at» = length (wordOf s); len = l }) (simp length-append (omega arith)))
-unit-read (plain s (written c)) k d e =
-    let n : (length (numberText c) ≡ 0 → ⊥) = λ z. omega (arith, some-digits (c .value)) in
-    ap unitOf (append-assoc (wordOf s) (numberText c) k) ∙ plain-read s (numberText c ++ k) (number-no-small c k) ∙ rw (number-read (c .value) k d, ne-eqb (length (numberText c)) 0 n)
-    (ap (λ (l : ℕ). record { nucleons = 0; element = atomicNumber s; count = told (c .value); «count_at» = length (wordOf s); len = l }) (sym (length-append (wordOf s) (numberText c))))
-unit-read (labelled a s c) k d e = labelled-read a s c k
+unfolding unitOf
+unit-read u k d e = rw (span-read u k d e, symbol-read u k e)

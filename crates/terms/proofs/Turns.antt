@@ -8,10 +8,10 @@ use lib.ListN.{length, drop, length-drop}
 use lib.Seq.{drop-drop}
 use Rattle.lang.proofs.Walks.{walk-on, walk-ends}
 use Rattle.terms.specs.declared.Fault.{Fault}
-use Rattle.terms.specs.declared.UnitRead.{UnitRead}
-use Rattle.terms.specs.Units.{beginsUnit, unitOf, unitFault}
+use Rattle.terms.specs.declared.UnitSpan.{UnitSpan}
+use Rattle.terms.specs.Units.{beginsUnit, spanOf, unitOf, unitFault}
 use Rattle.terms.specs.Formulas.{Counted, counted, unitSize, countUnit, unitsFrom, formulaOf}
-use Rattle.terms.proofs.Measures.{unit-moves}
+use Rattle.terms.proofs.Measures.{unit-size, unit-moves}
 
 -- the first `at` bytes are n units, and g is the fault after them
 pub record Passed (end : ℕ) (s : List ℕ) (f : Fault) (at n : ℕ) (g : Fault) : Type 0 where
@@ -24,21 +24,21 @@ begin = record { inside = omega arith; few = omega arith; is = refl }
 
 module _ {end : ℕ} {s : List ℕ} {f : Fault} {at n : ℕ} {g : Fault} (p : Passed end s f at n g) {r : List ℕ} (pr : r ≡ drop at s) where
   -- a unit stands here, and takes up a byte or more of what is left
-  pub moves : {q : List ℕ} {u : UnitRead} → beginsUnit r ≡ true → q ≡ drop at s → u ≡ unitOf q → (at + 1 ≤ at + u .len) × (at + u .len ≤ length s)
+  pub moves : {q : List ℕ} {u : UnitSpan} → beginsUnit r ≡ true → q ≡ drop at s → u ≡ spanOf q → (at + 1 ≤ at + u .len) × (at + u .len ≤ length s)
   moves {q} {u} e pq pu =
       let m = unit-moves (drop at s) (rw pr at e) in
-      let l = ap (λ (u : UnitRead). u .len) (pu ∙ ap unitOf pq) in
+      let l = ap (λ (u : UnitSpan). u .len) (pu ∙ ap spanOf pq) ∙ sym (unit-size (drop at s)) in
       let i = p .inside in
       (omega arith, omega (arith, length-drop at s))
 
-  pub turn : {q : List ℕ} {u : UnitRead} {h : Fault} → beginsUnit r ≡ true → q ≡ drop at s → u ≡ unitOf q → h ≡ unitFault g u n end (length s - at) → Passed end s f (at + u .len) (n + 1) h
+  pub turn : {q : List ℕ} {u : UnitSpan} {h : Fault} → beginsUnit r ≡ true → q ≡ drop at s → u ≡ spanOf q → h ≡ unitFault g u n end (length s - at) → Passed end s f (at + u .len) (n + 1) h
   unfolding countUnit
   turn {q} {u} {h} e pq pu ph =
       let t = drop at s in
       let m = moves e pq pu in
-      let v : u ≡ unitOf t = pu ∙ ap unitOf pq in
-      let k = ph ∙ ap₂ (λ (u : UnitRead) (k : ℕ). unitFault g u n end k) v (sym (length-drop at s)) in
-      let l = ap (λ (u : UnitRead). drop (at + u .len) s) (sym v) in
+      let v : u ≡ spanOf t = pu ∙ ap spanOf pq in
+      let k = ph ∙ ap₂ (λ (u : UnitSpan) (k : ℕ). unitFault g u n end k) v (sym (length-drop at s)) in
+      let l = ap (λ (m : ℕ). drop (at + m) s) (unit-size t ∙ ap (λ (u : UnitSpan). u .len) (sym v)) in
       let o = p .few in
       record {
         inside = m .1;

@@ -5,7 +5,7 @@ use lib.ListN.{length}
 use Rattle.lang.specs.Walk.{Walked, walk}
 use Rattle.terms.specs.declared.Fault.{Fault}
 use Rattle.terms.specs.declared.FormulaRead.{FormulaRead}
-use Rattle.terms.specs.Units.{beginsUnit, unitOf, unitFault}
+use Rattle.terms.specs.Units.{beginsUnit, spanOf, unitOf, unitFault}
 
 -- how many units, and the first broken limit
 pub record Counted : Type 0 where
@@ -20,7 +20,7 @@ unitSize s = unitOf s .len
 
 -- one unit more, in a line of `end` bytes
 unfoldable pub countUnit : ℕ → Counted → List ℕ → Counted
-countUnit end a s = counted (a .units + 1) (unitFault (a .fault) (unitOf s) (a .units) end (length s))
+countUnit end a s = counted (a .units + 1) (unitFault (a .fault) (spanOf s) (a .units) end (length s))
 
 abbrev pub unitsFrom : ℕ → List ℕ → Counted → Walked Counted
 unitsFrom end s a = walk beginsUnit unitSize (countUnit end) s a

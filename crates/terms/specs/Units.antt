@@ -13,6 +13,7 @@ use Rattle.numbers.specs.declared.Number.{Number}
 use Rattle.elements.specs.Symbols.{elementOf}
 use Rattle.terms.specs.declared.Fault.{Fault}
 use Rattle.terms.specs.declared.UnitRead.{UnitRead}
+use Rattle.terms.specs.declared.UnitSpan.{UnitSpan}
 use Rattle.terms.specs.Faults.{after}
 
 -- a capital letter, or `[` and a digit: a unit stands here
@@ -24,30 +25,37 @@ abbrev pub orOne : Number → ℕ
 orOne n = cond (eqb (n .len) 0) 1 (n .value)
 
 -- symbol, count
-unfoldable pub plainOf : List ℕ → UnitRead
-plainOf s =
-    let e = elementOf s in
-    let n = numberOf (drop (e .len) s) in
-    record { nucleons = 0; element = e .number; count = orOne n; «count_at» = e .len; len = e .len + n .len }
+unfoldable pub plainSpan : List ℕ → UnitSpan
+plainSpan s =
+    let q = elementOf s .len in
+    let n = numberOf (drop q s) in
+    record { nucleons = 0; «symbol_at» = 0; count = orOne n; «count_at» = q; len = q + n .len }
 
 -- `[`, nucleon number, symbol, count, `]`
-unfoldable pub labelledOf : List ℕ → UnitRead
-labelledOf s =
+unfoldable pub labelledSpan : List ℕ → UnitSpan
+labelledSpan s =
     let a = numberOf (drop 1 s) in
     let e = elementOf (drop (1 + a .len) s) in
     let n = numberOf (drop (1 + a .len + e .len) s) in
     record {
       nucleons = a .value;
-      element = e .number;
+      «symbol_at» = 1 + a .len;
       count = n .value;
       «count_at» = 1 + a .len + e .len;
       len = min (1 + a .len + e .len + n .len + 1) (length s);
     }
 
+unfoldable pub spanOf : List ℕ → UnitSpan
+spanOf s = cond (startsWith (bytes "[") s) (labelledSpan s) (plainSpan s)
+
+-- what is measured of a unit, and its element
+abbrev pub unitWith : UnitSpan → ℕ → UnitRead
+unitWith u e = record { nucleons = u .nucleons; element = e; count = u .count; «count_at» = u .«count_at»; len = u .len }
+
 unfoldable pub unitOf : List ℕ → UnitRead
-unitOf s = cond (startsWith (bytes "[") s) (labelledOf s) (plainOf s)
+unitOf s = let u = spanOf s in unitWith u (elementOf (drop (u .«symbol_at») s) .number)
 
 -- the limits of unit number i of a formula
-unfoldable pub unitFault : Fault → UnitRead → ℕ → ℕ → ℕ → Fault
+unfoldable pub unitFault : Fault → UnitSpan → ℕ → ℕ → ℕ → Fault
 unitFault f u i end left =
     after f (manyMark maxUnits i (end - left) ∷ (numberMark maxCount (u .nucleons) (end - (left - 1)) ++ numberMark maxCount (u .count) (end - (left - u .«count_at»))))

@@ -7,9 +7,10 @@ ghost use Rattle.lang.specs.Re.{rng};
 ghost use Rattle.rules.specs.Limits.{numberMark, manyMark};
 ghost use Rattle.rules.specs.Texts.{firstIn, startsWith};
 ghost use Rattle.terms.specs.Faults.{join, after};
-ghost use Rattle.terms.specs.Units.{beginsUnit, orOne, plainOf, labelledOf, unitOf, unitFault};
+ghost use Rattle.terms.specs.Units.{beginsUnit, orOne, plainSpan, labelledSpan, spanOf, unitOf, unitFault};
 ghost use Rattle.terms.specs.Formulas.{formulaOf};
 use elements::read_element;
+use elements::symbol_len;
 use numbers::Number;
 use numbers::read_number;
 
@@ -19,9 +20,9 @@ pub const MAX_UNITS: usize = 12;
 // The most that a count or a nucleon number may be.
 pub const MAX_COUNT: u32 = 999;
 
-// The first limit that was broken: its number and place. Number 0: none was.
+// The first limit that was broken: its number and place. Number 0: none was. Both are of one size, so that a copy has no gap in it.
 pub struct Fault {
-    pub number: u8,
+    pub number: usize,
     pub place: usize,
 }
 
@@ -30,6 +31,16 @@ pub struct Fault {
 pub struct UnitRead {
     pub nucleons: u32,
     pub element: u16,
+    pub count: u32,
+    pub count_at: usize,
+    pub len: usize,
+}
+
+// What is measured of a unit without a look at which element it has: its numbers, where its symbol and its count stand, and how many bytes
+// it has.
+pub struct UnitSpan {
+    pub nucleons: u32,
+    pub symbol_at: usize,
     pub count: u32,
     pub count_at: usize,
     pub len: usize,
@@ -44,14 +55,22 @@ pub struct FormulaRead {
 
 // ---- parts and limits
 
+// n, or `all` where n is more.
+fn within(n: usize, all: usize) -> usize
+    ensures { λ r. ⌜ r ≡ min n all ⌝ }
+{
+    if n < all {
+        return n;
+    }
+    all
+}
+
 // A part without its first n bytes; empty where it has no more.
 pub fn rest<'a>(s: &'a [u8], n: usize) -> &'a [u8]
     ensures { λ r. ⌜ now r ≡ drop n (now (s .entry)) ⌝ }
 {
-    if n < s.len() {
-        return &s[n..];
-    }
-    &s[..0]
+    let from = within(n, s.len());
+    &s[from..]
 }
 
 // Whether a part begins with a byte.
@@ -150,51 +169,65 @@ fn closed(end: usize, all: usize) -> usize
 }
 
 // A symbol and its count.
-fn plain(s: &[u8]) -> UnitRead
-    ensures { λ r. ⌜ r ≡ plainOf (now (s .entry)) ⌝ }
+fn plain_span(s: &[u8]) -> UnitSpan
+    ensures { λ r. ⌜ r ≡ plainSpan (now (s .entry)) ⌝ }
 {
-    let e = read_element(s);
-    let n = read_number(rest(s, e.len));
-    UnitRead {
+    let q = symbol_len(s);
+    let n = read_number(rest(s, q));
+    UnitSpan {
         nucleons: 0,
-        element: e.number,
+        symbol_at: 0,
         count: or_one(n),
-        count_at: e.len,
-        len: e.len + n.len,
+        count_at: q,
+        len: q + n.len,
     }
 }
 
 // `[`, nucleon number, symbol, count, `]`. Only the numbers and the symbol are looked at: a line whose shape was scanned has the brackets.
-fn labelled(s: &[u8]) -> UnitRead
-    ensures { λ r. ⌜ r ≡ labelledOf (now (s .entry)) ⌝ }
+fn labelled_span(s: &[u8]) -> UnitSpan
+    ensures { λ r. ⌜ r ≡ labelledSpan (now (s .entry)) ⌝ }
 {
     let a = read_number(rest(s, 1));
     let p = 1 + a.len;
-    let e = read_element(rest(s, p));
-    let q = p + e.len;
+    let q = p + symbol_len(rest(s, p));
     let n = read_number(rest(s, q));
     let end = q + n.len;
-    UnitRead {
+    UnitSpan {
         nucleons: a.value,
-        element: e.number,
+        symbol_at: p,
         count: n.value,
         count_at: q,
         len: closed(end, s.len()),
     }
 }
 
+// What is measured of the unit that a part begins with. No symbol is looked up, as only who keeps the unit asks for its element.
+fn unit_span(s: &[u8]) -> UnitSpan
+    ensures { λ r. ⌜ r ≡ spanOf (now (s .entry)) ⌝ }
+{
+    if begins_with(s, b'[') {
+        return labelled_span(s);
+    }
+    plain_span(s)
+}
+
 // The unit that a part begins with.
 pub fn unit(s: &[u8]) -> UnitRead
     ensures { λ r. ⌜ r ≡ unitOf (now (s .entry)) ⌝ }
 {
-    if begins_with(s, b'[') {
-        return labelled(s);
+    let u = unit_span(s);
+    let e = read_element(rest(s, u.symbol_at));
+    UnitRead {
+        nucleons: u.nucleons,
+        element: e.number,
+        count: u.count,
+        count_at: u.count_at,
+        len: u.len,
     }
-    plain(s)
 }
 
 // The limits of unit number i of a formula, where `left` of the line's `end` bytes are left.
-fn unit_fault(f: Fault, u: UnitRead, i: usize, end: usize, left: usize) -> Fault
+fn unit_fault(f: Fault, u: UnitSpan, i: usize, end: usize, left: usize) -> Fault
     ensures { λ r. ⌜ r ≡ unitFault f u i end left ⌝ }
 {
     let g = many(f, MAX_UNITS, i, less(end, left));
@@ -211,7 +244,7 @@ pub fn formula(s: &[u8], end: usize, f: Fault) -> FormulaRead
     let mut fault = f;
     // Places are told by what is left, as no part knows where in the line it begins.
     while begins_unit(rest(s, at)) {
-        let u = unit(rest(s, at));
+        let u = unit_span(rest(s, at));
         fault = unit_fault(fault, u, units, end, s.len() - at);
         at += u.len;
         units += 1;

@@ -1,25 +1,26 @@
 -- A line reads to bytes exactly where these are a table and the line is one of its spellings. Assumes nothing.
-use Prim.Native.Nat.{ℕ, _+_, _-_, _<_, _≤_, _^_}
-use mathlib.Core.Path.{_≡_, refl, sym, ap, ap₂, _∙_, subst}
-use mathlib.Core.Bool.{Bool, true, false, _&&_}
-use mathlib.Core.List.{List, [], _∷_, _++_}
+use Prim.Native.Nat.{ℕ, _+_, _-_, _≤_}
+use mathlib.Core.Path.{_≡_, refl, sym, ap, _∙_, subst}
+use mathlib.Core.Bool.{true}
+use mathlib.Core.List.{List, _++_}
 use native.Mathlib.Omega.{arith}
-use lib.Dec.{T, eqb, ltb}
+use lib.Dec.{eqb}
 use lib.ListN.{length, take, replicate}
 use lib.Seq.{take-append-seam}
-use borrow.Author.Tests.{eqb-true, ltb-true}
+use borrow.Author.Tests.{eqb-true}
 use Rattle.lang.specs.Parts.{Opt, silent, written}
-use Rattle.lang.specs.Mark.{Mark, Kept}
+use Rattle.lang.specs.Mark.{Kept}
 use Rattle.lang.specs.Order.{Each}
 use Rattle.lang.proofs.Tests.{is-t, t-is}
 use Rattle.lang.proofs.Deriv.{and-0, and-1}
-use Rattle.rules.specs.Lines.{Spelling, lineText, Shape, Misshapen, Judged, fine, misshapen}
+use Rattle.rules.specs.Lines.{Spelling, lineText, Shape, Misshapen}
 use Rattle.rules.specs.Fields.{Table, Says}
 use Rattle.rules.specs.Limits.{lineMarks}
 use Rattle.rules.specs.House.{firstBreach, firstExcess}
 use Rattle.rules.specs.Preferred.{preferred, preferredSpelling}
 use Rattle.rules.specs.Stored.{stored}
-use Rattle.rules.specs.Answers.{Answer, refuses, gives, Delivers, no-room, done, ReadsSum, ReadsRules, ReadsSpelling, Sound, Holds}
+use Rattle.rules.specs.Answers.{Answer, gives, Delivers, no-room, done, ReadsSum, ReadsRules, ReadsSpelling, Sound, Holds}
+use Rattle.rules.proofs.OneShape.{judged-shape, judged-misshapen}
 use Rattle.rules.proofs.FirstBroken.{wins-first}
 use Rattle.rules.proofs.OneShape.{misshapen-no-shape}
 use Rattle.rules.proofs.OneTable as OneTable
@@ -30,7 +31,7 @@ use Rattle.shape.specs.Verdicts.{JudgedBy}
 use Rattle.reading.specs.Readings.{spelledOver, anyOver}
 use Rattle.shape.proofs.OneSpelling.{one-spelling}
 use Rattle.reading.proofs.Numbered.{first-numbered, line-numbered}
-use Rattle.reading.proofs.Right.{spelled-right, judged-shape, judged-misshapen}
+use Rattle.reading.proofs.Right.{spelled-right}
 use Rattle.writing.specs.Same.{sameBytes, allBytes}
 use Rattle.writing.specs.Writings.{isRead, readsTo, zeros}
 use Rattle.rules.proofs.PreferredSpells.{said-in-order, preferred-says}

@@ -1,9 +1,8 @@
 -- Where no limit of a line is broken, each annotation that it means is within. Assumes nothing.
 use Prim.Native.Nat.{ℕ, _≤_, _<_}
-use mathlib.Core.Bool.{Bool, true, false, not}
+use mathlib.Core.Bool.{Bool}
 use mathlib.Core.List.{List, [], _∷_, map}
 use native.Mathlib.Omega.{arith}
-use lib.Dec.{T}
 use lib.ListN.{length, length-map}
 use Rattle.lang.specs.Parts.{Opt, silent, written, items, Such, wordOf}
 use Rattle.lang.specs.Mark.{Mark, here, later, Kept, marksOf}
@@ -26,8 +25,9 @@ use Rattle.rules.specs.Limits.{shiftMarks, specificMarks, isotopesMarks, addedP
 use Rattle.rules.specs.Limits.{analytePart, chargePart, deviationPart, confidencePart, annotationParts, annotationMarks}
 use Rattle.rules.proofs.Totals.{in-map}
 use Rattle.rules.proofs.Keeps.{kept-tail, kept-part, not-past, not-many, row-each, row-few}
-use Rattle.rules.proofs.Bounds.{each-in, line-each, table-few}
+use Rattle.rules.proofs.Bounds.{each-in, line-each, table-few, unit-counted}
 use Rattle.rules.proofs.FitParts.{number-within}
+use Rattle.rules.proofs.FitDecimals.{kept-true}
 use Rattle.writing.proofs.Within.{IfThere, Row, AtMost, Short, UnitWithin, FormulaWithin, IonWithin, LostWithin, LossWithin, ShiftWithin, SpecificWithin, IsotopesWithin}
 use Rattle.writing.proofs.Within.{AddedWithin, ItemWithin, DecimalWithin, DeviationWithin, AnnotationWithin, same-within}
 
@@ -60,10 +60,6 @@ if-short text silent at k = tt
 if-short text (written t) at k = short text t at k
 
 -- ---- the parts of an annotation
-
-unit-counted : (i : ℕ) (u : FormulaUnit Written) (at : ℕ) → Kept (unitMarks i u at) → i < maxUnits
-unit-counted i (plain s c) at k = not-many maxUnits i at _ k
-unit-counted i (labelled a s c) at k = not-many maxUnits i at _ k
 
 unit-limited : (i : ℕ) (u : FormulaUnit Written) (at : ℕ) → Kept (unitMarks i u at) → UnitWithin (unitMap filled u)
 unit-limited i (plain s c) at k =
@@ -166,19 +162,15 @@ charge-limited : (x : Opt (From 2)) (at : ℕ) → Kept (optPart chargePart x .m
 charge-limited silent at k = tt
 charge-limited (written n) at k = not-past maxCharge (n .value) (λ b. k _ here b)
 
-passing : (b : Bool) → (T (not b) → ⊥) → T b
-passing true h = tt
-passing false h = h tt
-
 deviation-limited : (x : Opt Deviation) (at : ℕ) → Kept (optPart deviationPart x .marks at) → IfThere DeviationWithin x
 deviation-limited silent at k = tt
 deviation-limited (written d) at k =
     let p = kept-part at (bare (bytes "/") ∷ bare (flagText (bytes "-") (d .minus)) ∷ decimalPart (d .size) ∷ []) k (decimalPart (d .size)) (later (later here)) in
-    passing (fits (d .size)) (λ b. p .1 _ here b)
+    kept-true (fits (d .size)) (λ b. p .1 _ here b)
 
 confidence-limited : (x : Opt Decimal) (at : ℕ) → Kept (optPart confidencePart x .marks at) → IfThere DecimalWithin x
 confidence-limited silent at k = tt
-confidence-limited (written d) at k = passing (fits d) (λ b. k _ here b)
+confidence-limited (written d) at k = kept-true (fits d) (λ b. k _ here b)
 
 annotation-limited : (i : ℕ) (a : Annotation Written) (at : ℕ) → Kept (annotationMarks i a at) → AnnotationWithin (annotationMap filled a)
 annotation-limited i a at k =

@@ -1,15 +1,15 @@
 -- The line of a spelling is bytes. Assumes nothing.
 use Prim.Native.Nat.{ℕ, zero, suc, _<_, _≤_}
 use mathlib.Core.Path.{_≡_, refl, sym, ap, _∙_}
-use mathlib.Core.Bool.{Bool, true, false, _&&_}
-use mathlib.Core.List.{List, [], _∷_, _++_, append-nil}
-use mathlib.Core.Logic.{_⊎_, inl, inr}
+use mathlib.Core.Bool.{Bool, true, _&&_}
+use mathlib.Core.List.{List, [], _∷_, append-nil}
+use mathlib.Core.Logic.{inl, inr}
 use native.Mathlib.Omega.{arith}
 use native.Mathlib.Decide.{decLe}
 use lib.Dec.{T, ltb}
 use lib.ListN.{length, getD}
 use borrow.Author.Tests.{lt-ltb, ltb-true}
-use Rattle.lang.specs.Re.{Rng, inC, Re, eps, cls, seq, alt, star, Byte, Tree, texts, text}
+use Rattle.lang.specs.Re.{Rng, inC, Re, eps, cls, seq, alt, star, Tree, texts, text}
 use Rattle.lang.proofs.Tests.{is-t, t-is}
 use Rattle.lang.proofs.Deriv.{and-0, and-1}
 use Rattle.lang.proofs.Unique.{lowC, lowC→}

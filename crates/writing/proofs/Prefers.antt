@@ -20,7 +20,7 @@ use Rattle.rules.specs.Fields.{Table, filled, SameFields, Says}
 use Rattle.rules.specs.Limits.{lineMarks}
 use Rattle.rules.specs.House.{isEmpty, ionRule, deviationRule, confidenceOf, one, annotationRules, firstBreach, firstExcess}
 use Rattle.rules.specs.Answers.{Sound}
-use Rattle.rules.proofs.OneAnswer.{written-not-silent}
+use Rattle.rules.proofs.FitAnnotations.{passed}
 use Rattle.writing.proofs.Limited.{table-within}
 use Rattle.writing.proofs.Unbroken.{line-kept}
 
@@ -73,11 +73,6 @@ rules-kept : {a : Annotation Written} {b : Annotation Number} → Says a b → a
 rules-kept {a} {b} s = sym (rules-map filled a) ∙ rules-same (s .fields) ∙ sym (rules-map shortened b)
 
 -- ---- a search for a place
-
--- the test passed, and the search went on
-passed : (x : Bool) (more : Opt ℕ) (at : ℕ) → _≡_ {A = Opt ℕ} (elim x [ true ↦ more | false ↦ written at ]) silent → T x × (more ≡ silent)
-passed true more at e = (tt, e)
-passed false more at e = absurd (written-not-silent (written at) refl e)
 
 passes : (x : Bool) (more : Opt ℕ) (at : ℕ) → T x → more ≡ silent → _≡_ {A = Opt ℕ} (elim x [ true ↦ more | false ↦ written at ]) silent
 passes true more at t e = e

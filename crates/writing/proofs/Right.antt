@@ -1,5 +1,5 @@
 -- What is answered to bytes that may be a table is what the rules say of them. Assumes nothing.
-use Prim.Native.Nat.{ℕ, _<_, _≤_}
+use Prim.Native.Nat.{ℕ, _≤_}
 use mathlib.Core.Path.{_≡_, refl, sym, ap, _∙_, subst}
 use mathlib.Core.Bool.{Bool, true, false, cond, _||_}
 use mathlib.Core.List.{List}
@@ -7,12 +7,12 @@ use native.Mathlib.Omega.{arith}
 use lib.Dec.{ltb}
 use lib.ListN.{length}
 use borrow.Author.Tests.{ltb-true, ltb-false}
-use Rattle.lang.proofs.Tests.{is-t, not-t}
+use Rattle.lang.proofs.Tests.{not-t}
 use Rattle.rules.specs.Fields.{Table}
 use Rattle.rules.specs.Limits.{maxLine}
 use Rattle.rules.specs.Preferred.{preferred}
 use Rattle.rules.specs.Stored.{stored}
-use Rattle.rules.specs.Answers.{Answer, refuses, gives, Delivers, no-room, done, Holds, Writes, no-table, long, fits}
+use Rattle.rules.specs.Answers.{refuses, gives, no-room, done, Holds, Writes, no-table, long, fits}
 use Rattle.rules.proofs.Sizes.{sizes-fit}
 use Rattle.puts.specs.Puts.{maxPlace}
 use Rattle.shape.specs.Steps.{scannedBy}

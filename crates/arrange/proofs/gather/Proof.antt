@@ -6,12 +6,6 @@ use mathlib.Core.Path.{sym, _∙_}
 use Prim.Native.Nat.{_-_}
 use Rattle.arrange.proofs.gather.Statement.{statement}
 use Rattle.arrange.proofs.gather.Tie as tie
-use Rattle.arrange.proofs.gather.Reads as reads
-use Rattle.arrange.proofs.gather.Lts as lts
-use Rattle.arrange.proofs.grow.Reads as grow-reads
-use Rattle.openings.proofs.begins_piece.Reads as begins-piece-reads
-use Rattle.order.proofs.none.Reads as none-reads
-use Rattle.terms.proofs.rest.Reads as rest-reads
 
 abbrev Inv-loop : tie.InvT-loop
 Inv-loop s keys₀ g₀ keys g = Gathering s keys₀ keys g
@@ -19,39 +13,30 @@ Inv-loop s keys₀ g₀ keys g = Gathering s keys₀ keys g
 abbrev μ-loop : tie.MeasureT-loop
 μ-loop s keys₀ g₀ keys g = length s - g .at
 
--- src/lib.rt:95:9
 none-requires : tie.Need-none-requires Inv-loop μ-loop
 none-requires c κs = tt
 
--- src/lib.rt:101:5
 loop-holds : tie.Need-loop-holds Inv-loop μ-loop
 loop-holds c = begin (c .none .ensures)
 
--- src/lib.rt:101:24
 rest-requires : tie.Need-rest-requires Inv-loop μ-loop
 rest-requires c κs = search needs
 
--- src/lib.rt:101:11
 begins-piece-requires : tie.Need-begins-piece-requires Inv-loop μ-loop
 begins-piece-requires c κs = search needs
 
--- src/lib.rt:102:13
 grow-requires : tie.Need-grow-requires Inv-loop μ-loop
 grow-requires c κs = search needs
 
--- src/lib.rt:101:5
 loop-less : tie.Need-loop-less Inv-loop μ-loop
 loop-less c = omega (arith, moves (c .before .before .before .before .before .before .before .loop .inv) (c .before .before .before .before .before .before .rest .ensures) (sym (c .before .before .before .before .before .begins-piece .ensures) ∙ c .before .before .before .before .if1 .taken) (c .before .before .grow .ensures))
 
--- src/lib.rt:101:5
 loop-again : tie.Need-loop-again Inv-loop μ-loop
 loop-again c = turn (c .before .before .before .before .before .before .before .loop .inv) (c .before .before .before .before .before .before .rest .ensures) (sym (c .before .before .before .before .before .begins-piece .ensures) ∙ c .before .before .before .before .if1 .taken) (c .before .before .grow .ensures)
 
--- src/lib.rt:92:1
 same-length : tie.Need-same-length Inv-loop μ-loop
 same-length c = same-long (c .before .before .before .loop .inv)
 
--- src/lib.rt:92:1
 returns : tie.Need-returns Inv-loop μ-loop
 returns c = ends (c .before .before .before .loop .inv) (c .before .before .rest .ensures) (sym (c .before .begins-piece .ensures) ∙ c .if1 .left)
 

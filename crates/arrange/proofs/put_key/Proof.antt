@@ -3,47 +3,31 @@ use Rattle.puts.proofs.Laws.{put-as}
 use borrow.Author.Needs.{needs}
 use Rattle.arrange.proofs.put_key.Statement.{statement}
 use Rattle.arrange.proofs.put_key.Tie as tie
-use Rattle.arrange.proofs.put_key.Reads as reads
-use Rattle.arrange.proofs.put_key.Lts as lts
-use Rattle.arrange.proofs.part.Reads as part-reads
-use Rattle.formulas.proofs.put_preferred.Reads as put-preferred-reads
-use Rattle.puts.proofs.put_run.Reads as put-run-reads
-use Rattle.terms.proofs.less.Reads as less-reads
-use Rattle.terms.proofs.rest.Reads as rest-reads
 
--- src/lib.rt:55:40
 rest-requires : tie.Need-rest-requires
 rest-requires c κs = search needs
 
--- src/lib.rt:55:9
 put-preferred-requires : tie.Need-put-preferred-requires
 put-preferred-requires c κs = search needs
 
--- src/lib.rt:55:9
 same-length : tie.Need-same-length
 same-length c = search needs
 
--- src/lib.rt:55:9
 returns : tie.Need-returns
 returns c = put-as (c .before .before .put-preferred .ensures) (key-units _ (c .before .before .before .before .before .before .before .before .before .args .x) (c .before .before .before .before .before .if1 .taken) (c .before .before .before .rest .ensures))
 
--- src/lib.rt:57:40
 less-requires : tie.Need-less-requires
 less-requires c κs = search needs
 
--- src/lib.rt:57:23
 part-requires : tie.Need-part-requires
 part-requires c κs = search needs
 
--- src/lib.rt:57:5
 put-run-requires : tie.Need-put-run-requires
 put-run-requires c κs = search needs
 
--- src/lib.rt:51:1
 same-length-2 : tie.Need-same-length-2
 same-length-2 c = search needs
 
--- src/lib.rt:51:1
 returns-2 : tie.Need-returns-2
 returns-2 c = put-as (c .before .before .put-run .ensures) (key-rest _ (c .before .before .before .before .before .before .before .before .before .before .args .x) (c .before .before .before .before .before .before .if1 .left) (c .before .before .before .before .less .ensures) (c .before .before .before .part .ensures))
 

@@ -3,85 +3,58 @@ use Rattle.pages.proofs.Events.{ran-then, ran-as}
 use borrow.Author.Needs.{needs}
 use Rattle.arrange.proofs.put_slot.Statement.{statement}
 use Rattle.arrange.proofs.put_slot.Tie as tie
-use Rattle.arrange.proofs.put_slot.Reads as reads
-use Rattle.arrange.proofs.put_slot.Lts as lts
-use Rattle.arrange.proofs.part.Reads as part-reads
-use Rattle.arrange.proofs.put_slot_record.Reads as put-slot-record-reads
-use Rattle.formulas.proofs.put_records.Reads as put-records-reads
-use Rattle.pages.proofs.cursor.Reads as cursor-reads
-use Rattle.pages.proofs.with_cursor.Reads as with-cursor-reads
-use Rattle.puts.proofs.put_run.Reads as put-run-reads
-use Rattle.terms.proofs.rest.Reads as rest-reads
 
--- src/lib.rt:74:34
 cursor-requires : tie.Need-cursor-requires
 cursor-requires c κs = search needs
 
--- src/lib.rt:74:9
 put-slot-record-requires : tie.Need-put-slot-record-requires
 put-slot-record-requires c κs = search needs
 
--- src/lib.rt:75:9
 with-cursor-requires : tie.Need-with-cursor-requires
 with-cursor-requires c κs = search needs
 
--- src/lib.rt:77:34
 cursor-requires-2 : tie.Need-cursor-requires-2
 cursor-requires-2 c κs = search needs
 
--- src/lib.rt:77:48
 rest-requires : tie.Need-rest-requires
 rest-requires c κs = search needs
 
--- src/lib.rt:77:13
 put-records-requires : tie.Need-put-records-requires
 put-records-requires c κs = search needs
 
--- src/lib.rt:78:9
 with-cursor-requires-2 : tie.Need-with-cursor-requires-2
 with-cursor-requires-2 c κs = search needs
 
--- src/lib.rt:78:9
 same-length : tie.Need-same-length
 same-length c = search needs
 
--- src/lib.rt:78:9
 returns : tie.Need-returns
 returns c = ran-as (ran-then (ran-at _ (c .before .before .before .before .before .before .before .before .before .before .before .before .before .cursor .ensures) (c .before .before .before .before .before .before .before .before .before .before .before .before .put-slot-record .ensures) (c .before .before .before .before .before .before .before .before .before .with-cursor .ensures)) (ran-at 4 (c .before .before .before .before .before .cursor2 .ensures) (c .before .before .before .put-records .ensures) (c .with-cursor2 .ensures))) (slot-units _ _ _ (c .before .before .before .before .before .before .before .if1 .taken) (c .before .before .before .before .rest .ensures))
 
--- src/lib.rt:81:30
 cursor-requires-3 : tie.Need-cursor-requires-3
 cursor-requires-3 c κs = search needs
 
--- src/lib.rt:81:49
 rest-requires-2 : tie.Need-rest-requires-2
 rest-requires-2 c κs = search needs
 
--- src/lib.rt:81:44
 part-requires : tie.Need-part-requires
 part-requires c κs = search needs
 
--- src/lib.rt:81:13
 put-run-requires : tie.Need-put-run-requires
 put-run-requires c κs = search needs
 
--- src/lib.rt:82:9
 with-cursor-requires-3 : tie.Need-with-cursor-requires-3
 with-cursor-requires-3 c κs = search needs
 
--- src/lib.rt:82:9
 same-length-2 : tie.Need-same-length-2
 same-length-2 c = search needs
 
--- src/lib.rt:82:9
 returns-2 : tie.Need-returns-2
 returns-2 c = ran-as (ran-then (ran-at _ (c .before .before .before .before .before .before .before .before .before .before .before .before .before .before .before .before .cursor .ensures) (c .before .before .before .before .before .before .before .before .before .before .before .before .before .before .before .put-slot-record .ensures) (c .before .before .before .before .before .before .before .before .before .before .before .before .with-cursor .ensures)) (ran-at 5 (c .before .before .before .before .before .before .cursor3 .ensures) (c .before .before .before .put-run .ensures) (c .with-cursor3 .ensures))) (slot-name _ _ _ (c .before .before .before .before .before .before .before .before .before .before .if1 .left) (c .before .before .before .before .before .before .before .before .if2 .taken) (c .before .before .before .before .before .rest2 .ensures) (c .before .before .before .before .part .ensures))
 
--- src/lib.rt:71:1
 same-length-3 : tie.Need-same-length-3
 same-length-3 c = search needs
 
--- src/lib.rt:71:1
 returns-3 : tie.Need-returns-3
 returns-3 c = ran-as (ran-at _ (c .before .before .before .before .before .before .before .before .cursor .ensures) (c .before .before .before .before .before .before .before .put-slot-record .ensures) (c .before .before .before .before .with-cursor .ensures)) (slot-bare _ _ _ (c .before .before .if1 .left) (c .if2 .left))
 

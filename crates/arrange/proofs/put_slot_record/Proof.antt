@@ -2,43 +2,31 @@ use Rattle.puts.proofs.Laws.{put-then}
 use borrow.Author.Needs.{needs}
 use Rattle.arrange.proofs.put_slot_record.Statement.{statement}
 use Rattle.arrange.proofs.put_slot_record.Tie as tie
-use Rattle.arrange.proofs.put_slot_record.Reads as reads
-use Rattle.arrange.proofs.put_slot_record.Lts as lts
-use Rattle.puts.proofs.put_le.Reads as put-le-reads
 
--- src/lib.rt:63:29
 cast-put-le : tie.Need-cast-put-le
 cast-put-le c = search needs
 
--- src/lib.rt:63:9
 put-le-requires : tie.Need-put-le-requires
 put-le-requires c κs = search needs
 
--- src/lib.rt:64:28
 cast-put-le-2 : tie.Need-cast-put-le-2
 cast-put-le-2 c = search needs
 
--- src/lib.rt:64:9
 put-le-requires-2 : tie.Need-put-le-requires-2
 put-le-requires-2 c κs = search needs
 
--- src/lib.rt:65:28
 cast-put-le-3 : tie.Need-cast-put-le-3
 cast-put-le-3 c = search needs
 
--- src/lib.rt:65:9
 put-le-requires-3 : tie.Need-put-le-requires-3
 put-le-requires-3 c κs = search needs
 
--- src/lib.rt:66:5
 put-le-requires-4 : tie.Need-put-le-requires-4
 put-le-requires-4 c κs = search needs
 
--- src/lib.rt:60:1
 same-length : tie.Need-same-length
 same-length c = search needs
 
--- src/lib.rt:60:1
 returns : tie.Need-returns
 returns c = put-then (put-then (put-then (c .before .before .before .before .before .before .before .before .before .before .before .before .before .before .before .before .put-le .ensures) (c .before .before .before .before .before .before .before .before .before .before .before .put-le2 .ensures)) (c .before .before .before .before .before .before .put-le3 .ensures)) (c .before .before .put-le4 .ensures)
 

@@ -6,9 +6,6 @@ use Prim.Native.Nat.{_-_}
 use Rattle.arrange.proofs.Steps.{Storing, slots-begin, slots-turn, slots-all, slots-eight}
 use Rattle.arrange.proofs.put_slots.Statement.{statement}
 use Rattle.arrange.proofs.put_slots.Tie as tie
-use Rattle.arrange.proofs.put_slots.Reads as reads
-use Rattle.arrange.proofs.put_slots.Lts as lts
-use Rattle.arrange.proofs.put_slot.Reads as put-slot-reads
 
 abbrev Inv-loop : tie.InvT-loop
 Inv-loop out₀ j s slots at to₀ i₀ out to i = Storing j s slots out₀ to₀ out to i
@@ -16,47 +13,36 @@ Inv-loop out₀ j s slots at to₀ i₀ out to i = Storing j s slots out₀ to�
 abbrev μ-loop : tie.MeasureT-loop
 μ-loop out₀ j s slots at to₀ i₀ out to i = slots .n - i
 
--- src/lib.rt:142:5
 loop-holds : tie.Need-loop-holds Inv-loop μ-loop
 loop-holds c = slots-begin (omega arith) (sym (length-map (c .before .before .before .args .slots .at) _) ∙ c .before .before .before .good .1 .1 .1 .1 .0 .1 .1 .1 .0 .1 .0 .1)
 
--- src/lib.rt:144:13
 same-length : tie.Need-same-length Inv-loop μ-loop
 same-length c = c .before .before .before .loop .inv .going .same
 
--- src/lib.rt:144:13
 returns : tie.Need-returns Inv-loop μ-loop
 returns c = slots-eight (c .before .before .before .loop .inv) (c .if2 .taken)
 
--- src/lib.rt:146:17
 mul-x : tie.Need-mul-x Inv-loop μ-loop
 mul-x c = search needs
 
--- src/lib.rt:146:17
 array-copy-out-x : tie.Need-array-copy-out-x Inv-loop μ-loop
 array-copy-out-x c = search needs
 
--- src/lib.rt:147:13
 put-slot-requires : tie.Need-put-slot-requires Inv-loop μ-loop
 put-slot-requires c κs = tt
 
--- src/lib.rt:149:9
 add-i : tie.Need-add-i Inv-loop μ-loop
 add-i c = search needs
 
--- src/lib.rt:142:5
 loop-less : tie.Need-loop-less Inv-loop μ-loop
 loop-less c = search needs
 
--- src/lib.rt:142:5
 loop-again : tie.Need-loop-again Inv-loop μ-loop
 loop-again c = slots-turn _ (c .before .before .before .before .before .before .before .before .loop .inv) (c .before .before .before .before .before .before .if1 .taken) (c .before .before .before .before .before .if2 .left) (c .before .before .put-slot .ensures)
 
--- src/lib.rt:136:1
 same-length-2 : tie.Need-same-length-2 Inv-loop μ-loop
 same-length-2 c = c .before .before .loop .inv .going .same
 
--- src/lib.rt:136:1
 returns-2 : tie.Need-returns-2 Inv-loop μ-loop
 returns-2 c = slots-all (c .before .before .loop .inv) (c .if1 .left)
 

@@ -1,28 +1,34 @@
 use Prim.Native.Nat.{_-_}
-use mathlib.Core.Logic.{⊎-elim}
+use mathlib.Core.Path.{refl}
 use native.Mathlib.Omega.{arith}
 use borrow.Author.Needs.{needs}
-use borrow.Author.Tests.{eqb-true, eqb-false}
-use Rattle.elements.proofs.Walk.{Passed, begin, found, other-first, other-second, ends}
+use Rattle.elements.proofs.Walk.{Passed, begin, ends}
+use Rattle.elements.proofs.Sought.{sought, not-sought}
 use Rattle.elements.proofs.atomic.Statement.{statement}
 use Rattle.elements.proofs.atomic.Tie as tie
 
 abbrev Inv-loop : tie.InvT-loop
-Inv-loop a b n₀ n = Passed a b n
+Inv-loop a b code n₀ n = Passed a b n
 
 abbrev μ-loop : tie.MeasureT-loop
-μ-loop a b n₀ n = 119 - n
+μ-loop a b code n₀ n = 119 - n
+
+mul-code : tie.Need-mul-code Inv-loop μ-loop
+mul-code c = search needs
+
+add-code : tie.Need-add-code Inv-loop μ-loop
+add-code c = search needs
 
 loop-holds : tie.Need-loop-holds Inv-loop μ-loop
 loop-holds c = begin (c .args .a) (c .args .b)
 
-letters-of-requires : tie.Need-letters-of-requires Inv-loop μ-loop
-letters-of-requires c κs = search needs
+code-of-requires : tie.Need-code-of-requires Inv-loop μ-loop
+code-of-requires c κs = search needs
 
 returns : tie.Need-returns Inv-loop μ-loop
 returns c =
-    let f = c .before .before .before .before in
-    found (f .before .before .loop .inv) (f .before .loop-test .taken) (f .letters-of .ensures) (c .before .before .if1 .taken) (eqb-true _ _ (c .if2 .taken))
+    let f = c .before in
+    sought (f .before .before .loop .inv) (f .before .loop-test .taken) (omega (arith, f .before .before .before .fits .b)) (f .code-of .ensures) refl (c .if1 .taken)
 
 add-n : tie.Need-add-n Inv-loop μ-loop
 add-n c = search needs
@@ -32,11 +38,8 @@ loop-less c = omega arith
 
 loop-again : tie.Need-loop-again Inv-loop μ-loop
 loop-again c =
-    let f = c .before .before in
-    let p = f .before .before .loop .inv in
-    let h = f .before .loop-test .taken in
-    let e = f .letters-of .ensures in
-    ⊎-elim (λ w. other-second p h e (w .0 .taken) (eqb-false _ _ (w .2 .left))) (λ w. other-first p h e (w .left)) (c .if1 .came)
+    let f = c .before in
+    not-sought (f .before .before .loop .inv) (f .before .loop-test .taken) (omega (arith, f .before .before .before .fits .b)) (f .code-of .ensures) refl (c .if1 .left)
 
 returns-2 : tie.Need-returns-2 Inv-loop μ-loop
 returns-2 c = ends (c .before .loop .inv) (c .loop-test .left)
@@ -47,8 +50,10 @@ atomic-spec =
     (tie.spec
     Inv-loop
     μ-loop
+    mul-code
+    add-code
     loop-holds
-    letters-of-requires
+    code-of-requires
     returns
     add-n
     loop-less

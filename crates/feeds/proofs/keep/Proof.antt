@@ -1,7 +1,6 @@
 -- `feeds::keep` meets its contract. Assumes nothing.
 use Rattle.feeds.proofs.Moves.{Moving, begin, turn, ends}
 use Prim.Native.Nat.{_-_}
-use native.Mathlib.Omega.{arith}
 use borrow.Author.Needs.{needs}
 use Rattle.feeds.proofs.keep.Statement.{statement}
 use Rattle.feeds.proofs.keep.Tie as tie

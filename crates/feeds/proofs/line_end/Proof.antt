@@ -4,8 +4,6 @@ use Prim.Native.Nat.{_-_}
 use borrow.Author.Needs.{needs}
 use Rattle.feeds.proofs.line_end.Statement.{statement}
 use Rattle.feeds.proofs.line_end.Tie as tie
-use Rattle.feeds.proofs.line_end.Reads as reads
-use Rattle.feeds.proofs.line_end.Lts as lts
 
 abbrev Inv-loop : tie.InvT-loop
 Inv-loop bytes at₀ at = Before bytes at
@@ -13,31 +11,24 @@ Inv-loop bytes at₀ at = Before bytes at
 abbrev μ-loop : tie.MeasureT-loop
 μ-loop bytes at₀ at = length bytes - at
 
--- src/lib.rt:9:5
 loop-holds : tie.Need-loop-holds Inv-loop μ-loop
 loop-holds c = begin
 
--- src/lib.rt:10:12
 shared-slice-read-if1 : tie.Need-shared-slice-read-if1 Inv-loop μ-loop
 shared-slice-read-if1 c = search needs
 
--- src/lib.rt:11:13
 returns : tie.Need-returns Inv-loop μ-loop
 returns c = found (c .before .before .before .loop .inv) (c .before .before .loop-test .taken) (c .if1 .taken)
 
--- src/lib.rt:13:9
 add-at : tie.Need-add-at Inv-loop μ-loop
 add-at c = search needs
 
--- src/lib.rt:9:5
 loop-less : tie.Need-loop-less Inv-loop μ-loop
 loop-less c = search needs
 
--- src/lib.rt:9:5
 loop-again : tie.Need-loop-again Inv-loop μ-loop
 loop-again c = turn (c .before .before .before .loop .inv) (c .before .before .loop-test .taken) (c .if1 .left)
 
--- src/lib.rt:5:1
 returns-2 : tie.Need-returns-2 Inv-loop μ-loop
 returns-2 c = ends (c .before .loop .inv) (c .loop-test .left)
 

@@ -1,47 +1,33 @@
 use Rattle.formulas.specs.Preferred.{labelledText}
-use Rattle.puts.proofs.Laws.{put-then, put-as}
+use Rattle.puts.proofs.Laws.{put-then}
 use borrow.Author.Needs.{needs}
 use Rattle.formulas.proofs.put_labelled.Statement.{statement}
 use Rattle.formulas.proofs.put_labelled.Tie as tie
-use Rattle.formulas.proofs.put_labelled.Reads as reads
-use Rattle.formulas.proofs.put_labelled.Lts as lts
-use Rattle.formulas.proofs.put_symbol.Reads as put-symbol-reads
-use Rattle.numbers.proofs.put_number.Reads as put-number-reads
-use Rattle.puts.proofs.put8.Reads as put8-reads
 
--- src/lib.rt:88:9
 put8-requires : tie.Need-put8-requires
 put8-requires c κs = search needs
 
--- src/lib.rt:89:32
 cast-put-number : tie.Need-cast-put-number
 cast-put-number c = search needs
 
--- src/lib.rt:89:9
 put-number-requires : tie.Need-put-number-requires
 put-number-requires c κs = search needs
 
--- src/lib.rt:90:9
 put-symbol-requires : tie.Need-put-symbol-requires
 put-symbol-requires c κs = search needs
 
--- src/lib.rt:91:32
 cast-put-number-2 : tie.Need-cast-put-number-2
 cast-put-number-2 c = search needs
 
--- src/lib.rt:91:9
 put-number-requires-2 : tie.Need-put-number-requires-2
 put-number-requires-2 c κs = search needs
 
--- src/lib.rt:92:5
 put8-requires-2 : tie.Need-put8-requires-2
 put8-requires-2 c κs = search needs
 
--- src/lib.rt:85:1
 same-length : tie.Need-same-length
 same-length c = search needs
 
--- src/lib.rt:85:1
 returns : tie.Need-returns
 unfolding labelledText
 returns c = put-then (c .before .before .before .before .before .before .before .before .before .before .before .before .before .before .before .before .before .before .before .before .put8 .ensures) (put-then (put-then (c .before .before .before .before .before .before .before .before .before .before .before .before .before .before .before .put-number .ensures) (put-then (c .before .before .before .before .before .before .before .before .before .before .before .put-symbol .ensures) (c .before .before .before .before .before .before .put-number2 .ensures))) (c .before .before .put82 .ensures))

@@ -3,36 +3,25 @@ use Rattle.puts.proofs.Laws.{put-then, put-as}
 use borrow.Author.Needs.{needs}
 use Rattle.formulas.proofs.put_plain.Statement.{statement}
 use Rattle.formulas.proofs.put_plain.Tie as tie
-use Rattle.formulas.proofs.put_plain.Reads as reads
-use Rattle.formulas.proofs.put_plain.Lts as lts
-use Rattle.formulas.proofs.put_symbol.Reads as put-symbol-reads
-use Rattle.numbers.proofs.put_number.Reads as put-number-reads
 
--- src/lib.rt:77:9
 put-symbol-requires : tie.Need-put-symbol-requires
 put-symbol-requires c κs = search needs
 
--- src/lib.rt:79:9
 same-length : tie.Need-same-length
 same-length c = search needs
 
--- src/lib.rt:79:9
 returns : tie.Need-returns
 returns c = put-as (c .before .before .before .before .put-symbol .ensures) (plain-one _ (c .if1 .taken))
 
--- src/lib.rt:81:24
 cast-put-number : tie.Need-cast-put-number
 cast-put-number c = search needs
 
--- src/lib.rt:81:5
 put-number-requires : tie.Need-put-number-requires
 put-number-requires c κs = search needs
 
--- src/lib.rt:74:1
 same-length-2 : tie.Need-same-length-2
 same-length-2 c = search needs
 
--- src/lib.rt:74:1
 returns-2 : tie.Need-returns-2
 returns-2 c = put-as (put-then (c .before .before .before .before .before .before .before .before .before .put-symbol .ensures) (c .before .before .put-number .ensures)) (plain-more _ (c .before .before .before .before .before .if1 .left))
 

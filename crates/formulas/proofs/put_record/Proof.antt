@@ -5,39 +5,28 @@ use Rattle.puts.proofs.Laws.{put-then, put-as}
 use borrow.Author.Needs.{needs}
 use Rattle.formulas.proofs.put_record.Statement.{statement}
 use Rattle.formulas.proofs.put_record.Tie as tie
-use Rattle.formulas.proofs.put_record.Reads as reads
-use Rattle.formulas.proofs.put_record.Lts as lts
-use Rattle.puts.proofs.put_le.Reads as put-le-reads
 
--- src/lib.rt:35:29
 cast-put-le : tie.Need-cast-put-le
 cast-put-le c = search needs
 
--- src/lib.rt:35:9
 put-le-requires : tie.Need-put-le-requires
 put-le-requires c κs = search needs
 
--- src/lib.rt:36:28
 cast-put-le-2 : tie.Need-cast-put-le-2
 cast-put-le-2 c = search needs
 
--- src/lib.rt:36:9
 put-le-requires-2 : tie.Need-put-le-requires-2
 put-le-requires-2 c κs = search needs
 
--- src/lib.rt:37:20
 cast-put-le-3 : tie.Need-cast-put-le-3
 cast-put-le-3 c = search needs
 
--- src/lib.rt:37:5
 put-le-requires-3 : tie.Need-put-le-requires-3
 put-le-requires-3 c κs = search needs
 
--- src/lib.rt:32:1
 same-length : tie.Need-same-length
 same-length c = search needs
 
--- src/lib.rt:32:1
 returns : tie.Need-returns
 returns c = put-then (c .before .before .before .before .before .before .before .before .before .before .before .before .put-le .ensures) (put-then (c .before .before .before .before .before .before .before .put-le2 .ensures) (put-as (c .before .before .put-le3 .ensures) (sym (append-nil (little 2 (c .before .before .before .before .before .before .before .before .before .before .before .before .before .before .before .before .args .u .count))))))
 

@@ -3,32 +3,22 @@ use Rattle.puts.proofs.Laws.{put-as}
 use borrow.Author.Needs.{needs}
 use Rattle.formulas.proofs.put_unit.Statement.{statement}
 use Rattle.formulas.proofs.put_unit.Tie as tie
-use Rattle.formulas.proofs.put_unit.Reads as reads
-use Rattle.formulas.proofs.put_unit.Lts as lts
-use Rattle.formulas.proofs.put_labelled.Reads as put-labelled-reads
-use Rattle.formulas.proofs.put_plain.Reads as put-plain-reads
 
--- src/lib.rt:100:9
 put-plain-requires : tie.Need-put-plain-requires
 put-plain-requires c κs = search needs
 
--- src/lib.rt:100:9
 same-length : tie.Need-same-length
 same-length c = search needs
 
--- src/lib.rt:100:9
 returns : tie.Need-returns
 returns c = put-as (c .before .before .put-plain .ensures) (unit-plain _ (c .before .before .before .before .if1 .taken))
 
--- src/lib.rt:102:5
 put-labelled-requires : tie.Need-put-labelled-requires
 put-labelled-requires c κs = search needs
 
--- src/lib.rt:96:1
 same-length-2 : tie.Need-same-length-2
 same-length-2 c = search needs
 
--- src/lib.rt:96:1
 returns-2 : tie.Need-returns-2
 returns-2 c = put-as (c .before .before .put-labelled .ensures) (unit-labelled _ (c .before .before .before .before .if1 .left))
 

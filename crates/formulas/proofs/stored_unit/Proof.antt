@@ -1,44 +1,30 @@
 use Rattle.formulas.specs.Records.{wordOf, storedUnit}
-use Rattle.terms.specs.declared.UnitRead.{UnitRead}
-use Prim.Native.Nat.{ℕ}
 use mathlib.Core.Path.{ap, _∙_}
 use borrow.Author.Needs.{needs}
 use Rattle.formulas.proofs.stored_unit.Statement.{statement}
 use Rattle.formulas.proofs.stored_unit.Tie as tie
-use Rattle.formulas.proofs.stored_unit.Reads as reads
-use Rattle.formulas.proofs.stored_unit.Lts as lts
-use Rattle.formulas.proofs.word_at.Reads as word-at-reads
-use Rattle.terms.proofs.rest.Reads as rest-reads
 
--- src/lib.rt:142:9
 word-at-requires : tie.Need-word-at-requires
 word-at-requires c κs = search needs
 
--- src/lib.rt:143:27
 rest-requires : tie.Need-rest-requires
 rest-requires c κs = search needs
 
--- src/lib.rt:143:9
 word-at-requires-2 : tie.Need-word-at-requires-2
 word-at-requires-2 c κs = search needs
 
--- src/lib.rt:144:25
 rest-requires-2 : tie.Need-rest-requires-2
 rest-requires-2 c κs = search needs
 
--- src/lib.rt:144:9
 word-at-requires-3 : tie.Need-word-at-requires-3
 word-at-requires-3 c κs = search needs
 
--- src/lib.rt:146:19
 cast-t7 : tie.Need-cast-t7
 cast-t7 c = search needs
 
--- src/lib.rt:148:16
 cast-t8 : tie.Need-cast-t8
 cast-t8 c = search needs
 
--- src/lib.rt:139:1
 returns : tie.Need-returns
 unfolding storedUnit
 returns c = λ i. record { nucleons = (c .before .before .before .before .word-at .ensures) i; element = (c .before .before .word-at2 .ensures ∙ ap wordOf (c .before .before .before .rest .ensures)) i; count = (c .word-at3 .ensures ∙ ap wordOf (c .before .rest2 .ensures)) i; «count_at» = 4; len = 6 }

@@ -3,46 +3,34 @@ use native.Mathlib.Omega.{arith}
 use borrow.Author.Needs.{needs}
 use Rattle.formulas.proofs.word_at.Statement.{statement}
 use Rattle.formulas.proofs.word_at.Tie as tie
-use Rattle.formulas.proofs.word_at.Reads as reads
-use Rattle.formulas.proofs.word_at.Lts as lts
 
--- src/lib.rt:128:9
 returns : tie.Need-returns
 returns c = word-none _ (c .if1 .taken)
 
--- src/lib.rt:130:15
 shared-slice-read-low : tie.Need-shared-slice-read-low
 shared-slice-read-low c = search needs
 
--- src/lib.rt:132:16
 cast-result : tie.Need-cast-result
 cast-result c = omega (arith, c .before .shared-slice-known .given 0 .fits)
 
--- src/lib.rt:132:9
 returns-2 : tie.Need-returns-2
 returns-2 c = word-half _ (c .if2 .taken)
 
--- src/lib.rt:134:16
 shared-slice-read-high : tie.Need-shared-slice-read-high
 shared-slice-read-high c = search needs
 
--- src/lib.rt:135:5
 cast-result-2 : tie.Need-cast-result-2
 cast-result-2 c = omega (arith, c .before .before .shared-slice-known .given 0 .fits)
 
--- src/lib.rt:135:25
 cast-result-3 : tie.Need-cast-result-3
 cast-result-3 c = omega (arith, c .before .before .shared-slice-known .given 1 .fits)
 
--- src/lib.rt:135:18
 mul-result : tie.Need-mul-result
 mul-result c = omega (arith, c .before .before .shared-slice-known .given 1 .fits)
 
--- src/lib.rt:135:5
 add-result : tie.Need-add-result
 add-result c = omega (arith, c .before .before .shared-slice-known .given 0 .fits, c .before .before .shared-slice-known .given 1 .fits)
 
--- src/lib.rt:124:1
 returns-3 : tie.Need-returns-3
 returns-3 c = word-whole _
 

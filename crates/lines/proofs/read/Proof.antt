@@ -11,28 +11,19 @@ use Rattle.reading.specs.Readings.{readOf}
 use Rattle.reading.proofs.Right.{read-right}
 use Rattle.lines.proofs.read.Statement.{statement}
 use Rattle.lines.proofs.read.Tie as tie
-use Rattle.lines.proofs.read.Reads as reads
-use Rattle.lines.proofs.read.Lts as lts
-use Rattle.reading.proofs.read_by.Reads as read-by-reads
-use Rattle.shape.proofs.machine.Reads as machine-reads
 
--- src/lib.rt:256:16
 machine-requires : tie.Need-machine-requires
 machine-requires c κs = search needs
 
--- src/lib.rt:257:13
 slice-aggregate-read-by : tie.Need-slice-aggregate-read-by
 slice-aggregate-read-by c = search needs
 
--- src/lib.rt:257:5
 read-by-requires : tie.Need-read-by-requires
 read-by-requires c κs = search needs
 
--- src/lib.rt:253:1
 same-length : tie.Need-same-length
 same-length c = search needs
 
--- src/lib.rt:253:1
 returns : tie.Need-returns
 returns c =
     let line = c .before .before .before .before .before .before .before .before .args .line .now in

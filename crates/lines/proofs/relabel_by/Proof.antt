@@ -2,108 +2,78 @@ use Rattle.lines.proofs.Relabelled.{refused-by, relabelled-by, printed-
 use borrow.Author.Needs.{needs}
 use Rattle.lines.proofs.relabel_by.Statement.{statement}
 use Rattle.lines.proofs.relabel_by.Tie as tie
-use Rattle.lines.proofs.relabel_by.Reads as reads
-use Rattle.lines.proofs.relabel_by.Lts as lts
-use Rattle.print_lines.proofs.print_table.Reads as print-table-reads
-use Rattle.prints.proofs.first_of.Reads as first-of-reads
-use Rattle.puts.proofs.clear.Reads as clear-reads
-use Rattle.reading.proofs.read_by.Reads as read-by-reads
-use Rattle.reading.proofs.refuse.Reads as refuse-reads
-use Rattle.writing.proofs.clear_from.Reads as clear-from-reads
 
--- src/lib.rt:39:9
 read-by-requires : tie.Need-read-by-requires
 read-by-requires c κs = search needs
 
--- src/lib.rt:41:9
 clear-requires : tie.Need-clear-requires
 clear-requires c κs = search needs
 
--- src/lib.rt:42:9
 refuse-requires : tie.Need-refuse-requires
 refuse-requires c κs = search needs
 
--- src/lib.rt:42:9
 same-length : tie.Need-same-length
 same-length c = search needs
 
--- src/lib.rt:42:9
 same-length-2 : tie.Need-same-length-2
 same-length-2 c = search needs
 
--- src/lib.rt:42:9
 returns : tie.Need-returns
 returns c = refused-by _ _ _ _ (c .before .before .before .before .before .before .before .before .before .read-by .ensures) (c .before .before .before .before .before .if1 .taken) (c .before .before .before .clear .ensures) (c .refuse .ensures)
 
--- src/lib.rt:44:33
 first-of-requires : tie.Need-first-of-requires
 first-of-requires c κs = search needs
 
--- src/lib.rt:44:9
-print-table-requires : tie.Need-print-table-requires
-print-table-requires c κs = search needs
+put-spelling-requires : tie.Need-put-spelling-requires
+put-spelling-requires c κs = search needs
 
--- src/lib.rt:46:9
 clear-requires-2 : tie.Need-clear-requires-2
 clear-requires-2 c κs = search needs
 
--- src/lib.rt:47:9
 refuse-requires-2 : tie.Need-refuse-requires-2
 refuse-requires-2 c κs = search needs
 
--- src/lib.rt:47:9
 same-length-3 : tie.Need-same-length-3
 same-length-3 c = search needs
 
--- src/lib.rt:47:9
 same-length-4 : tie.Need-same-length-4
 same-length-4 c = search needs
 
--- src/lib.rt:47:9
 returns-2 : tie.Need-returns-2
 returns-2 c =
     relabelled-by _ _ _ _ (c .before .before .before .before .before .before .before .before .before .before .before .before .before .before .before .before .read-by .ensures) (c .before .before .before .before .before .before .before .before .before .before .before .before .if1 .left) (c .before .before .before .before .before .before .before .before .before .first-of .ensures)
-    (printed-long (c .before .before .before .before .before .before .before .before .print-table .ensures) (c .before .before .before .before .before .if2 .taken) (c .before .before .before .clear2 .ensures) (c .refuse2 .ensures))
+    (printed-long (c .before .before .before .before .before .before .before .before .put-spelling .ensures) (c .before .before .before .before .before .if2 .taken) (c .before .before .before .clear2 .ensures) (c .refuse2 .ensures))
 
--- src/lib.rt:50:9
 clear-requires-3 : tie.Need-clear-requires-3
 clear-requires-3 c κs = search needs
 
--- src/lib.rt:51:9
 refuse-requires-3 : tie.Need-refuse-requires-3
 refuse-requires-3 c κs = search needs
 
--- src/lib.rt:51:9
 same-length-5 : tie.Need-same-length-5
 same-length-5 c = search needs
 
--- src/lib.rt:51:9
 same-length-6 : tie.Need-same-length-6
 same-length-6 c = search needs
 
--- src/lib.rt:51:9
 returns-3 : tie.Need-returns-3
 returns-3 c =
     relabelled-by _ _ _ _ (c .before .before .before .before .before .before .before .before .before .before .before .before .before .before .before .before .before .read-by .ensures) (c .before .before .before .before .before .before .before .before .before .before .before .before .before .if1 .left) (c .before .before .before .before .before .before .before .before .before .before .first-of .ensures)
-    (printed-no-room (c .before .before .before .before .before .before .before .before .before .print-table .ensures) (c .before .before .before .before .before .before .if2 .left) (c .before .before .before .before .before .if3 .taken) (c .before .before .before .clear3 .ensures) (c .refuse3 .ensures))
+    (printed-no-room (c .before .before .before .before .before .before .before .before .before .put-spelling .ensures) (c .before .before .before .before .before .before .if2 .left) (c .before .before .before .before .before .if3 .taken) (c .before .before .before .clear3 .ensures) (c .refuse3 .ensures))
 
--- src/lib.rt:53:5
 clear-from-requires : tie.Need-clear-from-requires
 clear-from-requires c κs = search needs
 
--- src/lib.rt:36:1
 same-length-7 : tie.Need-same-length-7
 same-length-7 c = search needs
 
--- src/lib.rt:36:1
 same-length-8 : tie.Need-same-length-8
 same-length-8 c = search needs
 
--- src/lib.rt:36:1
 returns-4 : tie.Need-returns-4
 returns-4 c =
     relabelled-by _ _ _ _ (c .before .before .before .before .before .before .before .before .before .before .before .before .before .before .before .before .read-by .ensures) (c .before .before .before .before .before .before .before .before .before .before .before .before .if1 .left) (c .before .before .before .before .before .before .before .before .before .first-of .ensures)
-    (printed-done (c .before .before .before .before .before .before .before .before .print-table .ensures) (c .before .before .before .before .before .if2 .left) (c .before .before .before .before .if3 .left) (c .before .before .clear-from .ensures))
+    (printed-done (c .before .before .before .before .before .before .before .before .put-spelling .ensures) (c .before .before .before .before .before .if2 .left) (c .before .before .before .before .if3 .left) (c .before .before .clear-from .ensures))
 
 pub relabel-by-spec : {M : Type 1} → statement M
 relabel-by-spec =
@@ -116,7 +86,7 @@ relabel-by-spec =
     same-length-2
     returns
     first-of-requires
-    print-table-requires
+    put-spelling-requires
     clear-requires-2
     refuse-requires-2
     same-length-3

@@ -3,32 +3,22 @@ use Rattle.lines.proofs.Right.{relabel-made}
 use borrow.Author.Needs.{needs}
 use Rattle.lines.proofs.relabel_line.Statement.{statement}
 use Rattle.lines.proofs.relabel_line.Tie as tie
-use Rattle.lines.proofs.relabel_line.Reads as reads
-use Rattle.lines.proofs.relabel_line.Lts as lts
-use Rattle.lines.proofs.relabel_by.Reads as relabel-by-reads
-use Rattle.shape.proofs.machine.Reads as machine-reads
 
--- src/lib.rt:65:16
 machine-requires : tie.Need-machine-requires
 machine-requires c κs = search needs
 
--- src/lib.rt:66:16
 slice-aggregate-relabel-by : tie.Need-slice-aggregate-relabel-by
 slice-aggregate-relabel-by c = search needs
 
--- src/lib.rt:66:5
 relabel-by-requires : tie.Need-relabel-by-requires
 relabel-by-requires c κs = search needs
 
--- src/lib.rt:62:1
 same-length : tie.Need-same-length
 same-length c = search needs
 
--- src/lib.rt:62:1
 same-length-2 : tie.Need-same-length-2
 same-length-2 c = search needs
 
--- src/lib.rt:62:1
 returns : tie.Need-returns
 returns c =
     relabel-made _ _ _ _ (c .before .before .before .before .before .before .before .before .machine .ensures) (omega arith) (λ i h. c .before .before .before .before .before .before .before .before .before .before .before .shared-slice-known .given i .fits) (omega arith) (c .before .before .before .before .relabel-by .ensures)

@@ -12,28 +12,19 @@ use Rattle.writing.proofs.Right.{write-right}
 use borrow.Author.Needs.{needs}
 use Rattle.lines.proofs.write.Statement.{statement}
 use Rattle.lines.proofs.write.Tie as tie
-use Rattle.lines.proofs.write.Reads as reads
-use Rattle.lines.proofs.write.Lts as lts
-use Rattle.shape.proofs.machine.Reads as machine-reads
-use Rattle.writing.proofs.write_by.Reads as write-by-reads
 
--- src/lib.rt:30:16
 machine-requires : tie.Need-machine-requires
 machine-requires c κs = search needs
 
--- src/lib.rt:31:14
 slice-aggregate-write-by : tie.Need-slice-aggregate-write-by
 slice-aggregate-write-by c = search needs
 
--- src/lib.rt:31:5
 write-by-requires : tie.Need-write-by-requires
 write-by-requires c κs = search needs
 
--- src/lib.rt:27:1
 same-length : tie.Need-same-length
 same-length c = search needs
 
--- src/lib.rt:27:1
 returns : tie.Need-returns
 returns c =
     let table = c .before .before .before .before .before .before .before .before .args .table .now in

@@ -5,10 +5,6 @@ use Prim.Native.Nat.{_-_}
 use borrow.Author.Needs.{needs}
 use Rattle.order.proofs.put.Statement.{statement}
 use Rattle.order.proofs.put.Tie as tie
-use Rattle.order.proofs.put.Reads as reads
-use Rattle.order.proofs.put.Lts as lts
-use Rattle.order.proofs.moves.Reads as moves-reads
-use Rattle.order.proofs.pick.Reads as pick-reads
 
 abbrev Inv-loop : tie.InvT-loop
 Inv-loop n keys at₀ carry₀ moved₀ i₀ at carry moved i = Carrying (slotLe keys) n at₀ carry₀ at carry moved i
@@ -16,59 +12,45 @@ Inv-loop n keys at₀ carry₀ moved₀ i₀ at carry moved i = Carrying (slotLe
 abbrev μ-loop : tie.MeasureT-loop
 μ-loop n keys at₀ carry₀ moved₀ i₀ at carry moved i = n - i
 
--- src/lib.rt:149:5
 loop-holds : tie.Need-loop-holds Inv-loop μ-loop
 loop-holds c = begin (let e = c .before .good .0 .1 .0 .1 in omega arith)
 
--- src/lib.rt:150:17
 mul-y : tie.Need-mul-y Inv-loop μ-loop
 mul-y c = search needs
 
--- src/lib.rt:150:17
 array-copy-out-y : tie.Need-array-copy-out-y Inv-loop μ-loop
 array-copy-out-y c = search needs
 
--- src/lib.rt:151:13
 moves-requires : tie.Need-moves-requires Inv-loop μ-loop
 moves-requires c κs = tt
 
--- src/lib.rt:152:17
 pick-requires : tie.Need-pick-requires Inv-loop μ-loop
 pick-requires c κs = tt
 
--- src/lib.rt:152:9
 mul-at : tie.Need-mul-at Inv-loop μ-loop
 mul-at c = search needs
 
--- src/lib.rt:152:9
 array-set-from-at : tie.Need-array-set-from-at Inv-loop μ-loop
 array-set-from-at c = search needs
 
--- src/lib.rt:153:9
 pick-requires-2 : tie.Need-pick-requires-2 Inv-loop μ-loop
 pick-requires-2 c κs = tt
 
--- src/lib.rt:155:9
 add-i : tie.Need-add-i Inv-loop μ-loop
 add-i c = search needs
 
--- src/lib.rt:149:5
 loop-less : tie.Need-loop-less Inv-loop μ-loop
 loop-less c = search needs
 
--- src/lib.rt:149:5
 loop-again : tie.Need-loop-again Inv-loop μ-loop
 loop-again c = turn _ (c .before .before .before .before .before .loop .inv) (c .before .before .before .before .loop-test .taken) (c .before .before .moves .ensures) (c .before .pick .ensures) (c .pick2 .ensures)
 
--- src/lib.rt:157:5
 mul-at-2 : tie.Need-mul-at-2 Inv-loop μ-loop
 mul-at-2 c = search needs
 
--- src/lib.rt:157:5
 array-set-from-at-2 : tie.Need-array-set-from-at-2 Inv-loop μ-loop
 array-set-from-at-2 c = search needs
 
--- src/lib.rt:141:1
 returns : tie.Need-returns Inv-loop μ-loop
 returns c = finish (c .before .loop .inv) (c .loop-test .left)
 

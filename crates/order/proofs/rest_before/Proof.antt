@@ -1,18 +1,13 @@
 use Rattle.order.proofs.Compare.{rest-less, rest-more, rest-same}
 use Rattle.order.proofs.rest_before.Statement.{statement}
 use Rattle.order.proofs.rest_before.Tie as tie
-use Rattle.order.proofs.rest_before.Reads as reads
-use Rattle.order.proofs.rest_before.Lts as lts
 
--- src/lib.rt:106:9
 returns : tie.Need-returns
 returns c = let a = c .before .args in rest-less (a .s) (a .m) (a .t) (a .n) (c .if1 .taken)
 
--- src/lib.rt:109:9
 returns-2 : tie.Need-returns-2
 returns-2 c = let a = c .before .before .args in rest-more (a .s) (a .m) (a .t) (a .n) (c .if2 .taken)
 
--- src/lib.rt:102:1
 returns-3 : tie.Need-returns-3
 returns-3 c = let a = c .before .before .args in rest-same (a .s) (a .m) (a .t) (a .n) (c .before .if1 .left) (c .if2 .left)
 

@@ -2,54 +2,40 @@ use Rattle.order.proofs.Texts.{text-past, text-cut, text-whole}
 use borrow.Author.Needs.{needs}
 use Rattle.order.proofs.text.Statement.{statement}
 use Rattle.order.proofs.text.Tie as tie
-use Rattle.order.proofs.text.Reads as reads
-use Rattle.order.proofs.text.Lts as lts
 
--- src/lib.rt:52:9
 slice-aggregate-result : tie.Need-slice-aggregate-result
 slice-aggregate-result c = search needs
 
--- src/lib.rt:52:9
 returns : tie.Need-returns
 returns c = let a = c .before .before .args in text-past (a .keys .now) (a .key) (a .len) (c .before .if1 .taken)
 
--- src/lib.rt:54:16
 sub-rest : tie.Need-sub-rest
 sub-rest c = search needs
 
--- src/lib.rt:56:16
 sub-result : tie.Need-sub-result
 sub-result c = search needs
 
--- src/lib.rt:56:16
 part-result-start : tie.Need-part-result-start
 part-result-start c = search needs
 
--- src/lib.rt:56:16
 part-result-end : tie.Need-part-result-end
 part-result-end c = search needs
 
--- src/lib.rt:56:9
 returns-2 : tie.Need-returns-2
 returns-2 c = let a = c .before .before .before .args in text-cut (a .keys .now) (a .key) (a .len) (c .before .if2 .taken)
 
--- src/lib.rt:58:15
 add-end : tie.Need-add-end
 add-end c = search needs
 
--- src/lib.rt:59:5
 sub-result-2 : tie.Need-sub-result-2
 sub-result-2 c = search needs
 
--- src/lib.rt:59:5
 part-result-start-2 : tie.Need-part-result-start-2
 part-result-start-2 c = search needs
 
--- src/lib.rt:59:5
 part-result-end-2 : tie.Need-part-result-end-2
 part-result-end-2 c = search needs
 
--- src/lib.rt:48:1
 returns-3 : tie.Need-returns-3
 returns-3 c = let a = c .before .before .before .args in text-whole (a .keys .now) (a .key) (a .len)
 

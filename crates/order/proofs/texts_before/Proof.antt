@@ -4,9 +4,6 @@ use Prim.Native.Nat.{_-_}
 use borrow.Author.Needs.{needs}
 use Rattle.order.proofs.texts_before.Statement.{statement}
 use Rattle.order.proofs.texts_before.Tie as tie
-use Rattle.order.proofs.texts_before.Reads as reads
-use Rattle.order.proofs.texts_before.Lts as lts
-use Rattle.order.proofs.ranked.Reads as ranked-reads
 
 abbrev Inv-loop : tie.InvT-loop
 Inv-loop a b same i₀ i = Level a b i
@@ -14,39 +11,30 @@ Inv-loop a b same i₀ i = Level a b i
 abbrev μ-loop : tie.MeasureT-loop
 μ-loop a b same i₀ i = length a - i
 
--- src/lib.rt:87:5
 loop-holds : tie.Need-loop-holds Inv-loop μ-loop
 loop-holds c = level _ _
 
--- src/lib.rt:88:13
 ranked-requires : tie.Need-ranked-requires Inv-loop μ-loop
 ranked-requires c κs = tt
 
--- src/lib.rt:89:13
 ranked-requires-2 : tie.Need-ranked-requires-2 Inv-loop μ-loop
 ranked-requires-2 c κs = tt
 
--- src/lib.rt:91:13
 returns : tie.Need-returns Inv-loop μ-loop
 returns c = differ (c .before .before .before .before .loop .inv) (c .before .before .ranked .ensures) (c .before .ranked2 .ensures) (c .if1 .taken)
 
--- src/lib.rt:93:9
 add-i : tie.Need-add-i Inv-loop μ-loop
 add-i c = search needs
 
--- src/lib.rt:87:5
 loop-less : tie.Need-loop-less Inv-loop μ-loop
 loop-less c = search needs
 
--- src/lib.rt:87:5
 loop-again : tie.Need-loop-again Inv-loop μ-loop
 loop-again c = step (c .before .before .before .before .loop .inv) (c .before .before .before .loop-test .taken) (c .before .before .ranked .ensures) (c .before .ranked2 .ensures) (c .if1 .left)
 
--- src/lib.rt:96:9
 returns-2 : tie.Need-returns-2 Inv-loop μ-loop
 returns-2 c = shorter (c .before .before .loop .inv) (c .before .loop-test .left) (c .if2 .taken)
 
--- src/lib.rt:83:1
 returns-3 : tie.Need-returns-3 Inv-loop μ-loop
 returns-3 c = alike (c .before .before .loop .inv) (c .before .loop-test .left) (c .if2 .left)
 

@@ -3,34 +3,25 @@ use Rattle.pages.proofs.Others.{at-none}
 use borrow.Author.Needs.{needs}
 use Rattle.pages.proofs.cursor.Statement.{statement}
 use Rattle.pages.proofs.cursor.Tie as tie
-use Rattle.pages.proofs.cursor.Reads as reads
-use Rattle.pages.proofs.cursor.Lts as lts
 
--- src/lib.rt:28:1
 returns : tie.Need-returns
 returns c = search needs
 
--- src/lib.rt:28:1
 returns-2 : tie.Need-returns-2
 returns-2 c = search needs
 
--- src/lib.rt:28:1
 returns-3 : tie.Need-returns-3
 returns-3 c = search needs
 
--- src/lib.rt:28:1
 returns-4 : tie.Need-returns-4
 returns-4 c = search needs
 
--- src/lib.rt:28:1
 returns-5 : tie.Need-returns-5
 returns-5 c = search needs
 
--- src/lib.rt:28:1
 returns-6 : tie.Need-returns-6
 returns-6 c = search needs
 
--- src/lib.rt:28:1
 returns-7 : tie.Need-returns-7
 returns-7 c = at-none (c .before .args .j) (c .before .args .c) (omega (arith, c .match .rest))
 

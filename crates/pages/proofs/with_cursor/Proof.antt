@@ -5,34 +5,25 @@ use Rattle.pages.specs.Pages.{moved}
 use Rattle.pages.proofs.Others.{moved-none}
 use Rattle.pages.proofs.with_cursor.Statement.{statement}
 use Rattle.pages.proofs.with_cursor.Tie as tie
-use Rattle.pages.proofs.with_cursor.Reads as reads
-use Rattle.pages.proofs.with_cursor.Lts as lts
 
--- src/lib.rt:43:1
 returns : tie.Need-returns
 returns c = sym (ap (λ (j : ℕ). moved j (c .before .args .r) (c .before .args .c)) (c .match .keys1))
 
--- src/lib.rt:43:1
 returns-2 : tie.Need-returns-2
 returns-2 c = sym (ap (λ (j : ℕ). moved j (c .before .args .r) (c .before .args .c)) (c .match .keys2))
 
--- src/lib.rt:43:1
 returns-3 : tie.Need-returns-3
 returns-3 c = sym (ap (λ (j : ℕ). moved j (c .before .args .r) (c .before .args .c)) (c .match .keys3))
 
--- src/lib.rt:43:1
 returns-4 : tie.Need-returns-4
 returns-4 c = sym (ap (λ (j : ℕ). moved j (c .before .args .r) (c .before .args .c)) (c .match .keys4))
 
--- src/lib.rt:43:1
 returns-5 : tie.Need-returns-5
 returns-5 c = sym (ap (λ (j : ℕ). moved j (c .before .args .r) (c .before .args .c)) (c .match .keys5))
 
--- src/lib.rt:43:1
 returns-6 : tie.Need-returns-6
 returns-6 c = sym (ap (λ (j : ℕ). moved j (c .before .args .r) (c .before .args .c)) (c .match .keys6))
 
--- src/lib.rt:43:1
 returns-7 : tie.Need-returns-7
 returns-7 c = moved-none (c .before .args .j) (c .before .args .r) (c .before .args .c) (omega (arith, c .match .rest))
 

@@ -6,11 +6,6 @@ use mathlib.Core.Path.{ap, _∙_}
 use borrow.Author.Needs.{needs}
 use Rattle.print_ions.proofs.ion_bytes.Statement.{statement}
 use Rattle.print_ions.proofs.ion_bytes.Tie as tie
-use Rattle.print_ions.proofs.ion_bytes.Reads as reads
-use Rattle.print_ions.proofs.ion_bytes.Lts as lts
-use Rattle.formulas.proofs.word_at.Reads as word-at-reads
-use Rattle.prints.proofs.at_most.Reads as at-most-reads
-use Rattle.terms.proofs.rest.Reads as rest-reads
 
 rest-requires : tie.Need-rest-requires
 rest-requires c κs = search needs

@@ -6,13 +6,6 @@ use Rattle.puts.proofs.Laws.{put-none, put-then, put-as}
 use borrow.Author.Needs.{needs}
 use Rattle.print_ions.proofs.print_analyte.Statement.{statement}
 use Rattle.print_ions.proofs.print_analyte.Tie as tie
-use Rattle.print_ions.proofs.print_analyte.Reads as reads
-use Rattle.print_ions.proofs.print_analyte.Lts as lts
-use Rattle.formulas.proofs.word_at.Reads as word-at-reads
-use Rattle.numbers.proofs.put_number.Reads as put-number-reads
-use Rattle.prints.proofs.byte_of.Reads as byte-of-reads
-use Rattle.puts.proofs.put8.Reads as put8-reads
-use Rattle.terms.proofs.rest.Reads as rest-reads
 
 byte-of-requires : tie.Need-byte-of-requires
 byte-of-requires c κs = search needs

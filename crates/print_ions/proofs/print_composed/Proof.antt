@@ -6,12 +6,6 @@ use Rattle.puts.proofs.Laws.{put-then, put-as}
 use borrow.Author.Needs.{needs}
 use Rattle.print_ions.proofs.print_composed.Statement.{statement}
 use Rattle.print_ions.proofs.print_composed.Tie as tie
-use Rattle.print_ions.proofs.print_composed.Reads as reads
-use Rattle.print_ions.proofs.print_composed.Lts as lts
-use Rattle.formulas.proofs.print_units.Reads as print-units-reads
-use Rattle.print_ions.proofs.ion_units.Reads as ion-units-reads
-use Rattle.puts.proofs.put8.Reads as put8-reads
-use Rattle.puts.proofs.put_run.Reads as put-run-reads
 
 slice-aggregate-put-run : tie.Need-slice-aggregate-put-run
 slice-aggregate-put-run c = search needs

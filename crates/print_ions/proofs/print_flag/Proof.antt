@@ -4,10 +4,6 @@ use Rattle.puts.proofs.Laws.{put-none, put-as}
 use borrow.Author.Needs.{needs}
 use Rattle.print_ions.proofs.print_flag.Statement.{statement}
 use Rattle.print_ions.proofs.print_flag.Tie as tie
-use Rattle.print_ions.proofs.print_flag.Reads as reads
-use Rattle.print_ions.proofs.print_flag.Lts as lts
-use Rattle.prints.proofs.byte_of.Reads as byte-of-reads
-use Rattle.puts.proofs.put8.Reads as put8-reads
 
 byte-of-requires : tie.Need-byte-of-requires
 byte-of-requires c κs = search needs

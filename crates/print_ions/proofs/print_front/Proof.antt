@@ -2,11 +2,6 @@ use Rattle.puts.proofs.Laws.{put-then}
 use borrow.Author.Needs.{needs}
 use Rattle.print_ions.proofs.print_front.Statement.{statement}
 use Rattle.print_ions.proofs.print_front.Tie as tie
-use Rattle.print_ions.proofs.print_front.Reads as reads
-use Rattle.print_ions.proofs.print_front.Lts as lts
-use Rattle.print_ions.proofs.print_analyte.Reads as print-analyte-reads
-use Rattle.print_ions.proofs.print_flag.Reads as print-flag-reads
-use Rattle.print_ions.proofs.print_ion.Reads as print-ion-reads
 
 print-flag-requires : tie.Need-print-flag-requires
 print-flag-requires c κs = search needs

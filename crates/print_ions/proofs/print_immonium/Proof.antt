@@ -6,11 +6,6 @@ use Rattle.puts.proofs.Laws.{put-then, put-as}
 use borrow.Author.Needs.{needs}
 use Rattle.print_ions.proofs.print_immonium.Statement.{statement}
 use Rattle.print_ions.proofs.print_immonium.Tie as tie
-use Rattle.print_ions.proofs.print_immonium.Reads as reads
-use Rattle.print_ions.proofs.print_immonium.Lts as lts
-use Rattle.print_ions.proofs.put_brackets.Reads as put-brackets-reads
-use Rattle.prints.proofs.byte_of.Reads as byte-of-reads
-use Rattle.puts.proofs.put8.Reads as put8-reads
 
 put8-requires : tie.Need-put8-requires
 put8-requires c κs = search needs

@@ -6,13 +6,6 @@ use Rattle.puts.proofs.Laws.{put-then, put-as}
 use borrow.Author.Needs.{needs}
 use Rattle.print_ions.proofs.print_internal.Statement.{statement}
 use Rattle.print_ions.proofs.print_internal.Tie as tie
-use Rattle.print_ions.proofs.print_internal.Reads as reads
-use Rattle.print_ions.proofs.print_internal.Lts as lts
-use Rattle.formulas.proofs.word_at.Reads as word-at-reads
-use Rattle.numbers.proofs.put_number.Reads as put-number-reads
-use Rattle.print_ions.proofs.put_braces.Reads as put-braces-reads
-use Rattle.puts.proofs.put8.Reads as put8-reads
-use Rattle.terms.proofs.rest.Reads as rest-reads
 
 put8-requires : tie.Need-put8-requires
 put8-requires c κs = search needs

@@ -1,4 +1,5 @@
-use Rattle.print_ions.proofs.Pieces.{none-to, kind-is, kind-none}
+use Rattle.lang.proofs.Arms.{none-to}
+use Rattle.print_ions.proofs.Pieces.{kind-is, kind-none}
 use Rattle.print_ions.specs.Ions.{kindText}
 use lib.ListN.{take}
 use Prim.Native.Nat.{ℕ}
@@ -8,19 +9,6 @@ use Rattle.puts.proofs.Laws.{put-none, put-as}
 use borrow.Author.Needs.{needs}
 use Rattle.print_ions.proofs.print_ion.Statement.{statement}
 use Rattle.print_ions.proofs.print_ion.Tie as tie
-use Rattle.print_ions.proofs.print_ion.Reads as reads
-use Rattle.print_ions.proofs.print_ion.Lts as lts
-use Rattle.print_ions.proofs.ion_bytes.Reads as ion-bytes-reads
-use Rattle.print_ions.proofs.print_braced.Reads as print-braced-reads
-use Rattle.print_ions.proofs.print_composed.Reads as print-composed-reads
-use Rattle.print_ions.proofs.print_immonium.Reads as print-immonium-reads
-use Rattle.print_ions.proofs.print_internal.Reads as print-internal-reads
-use Rattle.print_ions.proofs.print_reference.Reads as print-reference-reads
-use Rattle.print_ions.proofs.print_series.Reads as print-series-reads
-use Rattle.print_ions.proofs.print_unknown.Reads as print-unknown-reads
-use Rattle.prints.proofs.byte_of.Reads as byte-of-reads
-use Rattle.prints.proofs.first_of.Reads as first-of-reads
-use Rattle.puts.proofs.put8.Reads as put8-reads
 
 ion-bytes-requires : tie.Need-ion-bytes-requires
 ion-bytes-requires c κs = search needs

@@ -2,10 +2,6 @@ use Rattle.puts.proofs.Laws.{put-then}
 use borrow.Author.Needs.{needs}
 use Rattle.print_ions.proofs.print_reference.Statement.{statement}
 use Rattle.print_ions.proofs.print_reference.Tie as tie
-use Rattle.print_ions.proofs.print_reference.Reads as reads
-use Rattle.print_ions.proofs.print_reference.Lts as lts
-use Rattle.print_ions.proofs.put_brackets.Reads as put-brackets-reads
-use Rattle.puts.proofs.put8.Reads as put8-reads
 
 put8-requires : tie.Need-put8-requires
 put8-requires c κs = search needs

@@ -7,14 +7,6 @@ use Rattle.puts.proofs.Laws.{put-then, put-as}
 use borrow.Author.Needs.{needs}
 use Rattle.print_ions.proofs.print_series.Statement.{statement}
 use Rattle.print_ions.proofs.print_series.Tie as tie
-use Rattle.print_ions.proofs.print_series.Reads as reads
-use Rattle.print_ions.proofs.print_series.Lts as lts
-use Rattle.formulas.proofs.word_at.Reads as word-at-reads
-use Rattle.numbers.proofs.put_number.Reads as put-number-reads
-use Rattle.print_ions.proofs.put_braces.Reads as put-braces-reads
-use Rattle.print_ions.proofs.put_series.Reads as put-series-reads
-use Rattle.prints.proofs.byte_of.Reads as byte-of-reads
-use Rattle.terms.proofs.rest.Reads as rest-reads
 
 byte-of-requires : tie.Need-byte-of-requires
 byte-of-requires c κs = search needs

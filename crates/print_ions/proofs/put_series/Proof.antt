@@ -1,14 +1,11 @@
-use Rattle.print_ions.proofs.Pieces.{none-to, series-is, series-none}
+use Rattle.lang.proofs.Arms.{none-to}
+use Rattle.print_ions.proofs.Pieces.{series-is, series-none}
 use Rattle.print_ions.specs.Texts.{seriesText}
 use native.Mathlib.Omega.{arith}
 use Rattle.puts.proofs.Laws.{put-none, put-as}
 use borrow.Author.Needs.{needs}
 use Rattle.print_ions.proofs.put_series.Statement.{statement}
 use Rattle.print_ions.proofs.put_series.Tie as tie
-use Rattle.print_ions.proofs.put_series.Reads as reads
-use Rattle.print_ions.proofs.put_series.Lts as lts
-use Rattle.puts.proofs.put8.Reads as put8-reads
-use Rattle.puts.proofs.put_run.Reads as put-run-reads
 
 put8-requires : tie.Need-put8-requires
 put8-requires c κs = search needs

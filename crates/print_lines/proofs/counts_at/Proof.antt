@@ -3,10 +3,6 @@ use mathlib.Core.Path.{ap, _∙_}
 use borrow.Author.Needs.{needs}
 use Rattle.print_lines.proofs.counts_at.Statement.{statement}
 use Rattle.print_lines.proofs.counts_at.Tie as tie
-use Rattle.print_lines.proofs.counts_at.Reads as reads
-use Rattle.print_lines.proofs.counts_at.Lts as lts
-use Rattle.formulas.proofs.word_at.Reads as word-at-reads
-use Rattle.terms.proofs.rest.Reads as rest-reads
 
 rest-requires : tie.Need-rest-requires
 rest-requires c κs = search needs

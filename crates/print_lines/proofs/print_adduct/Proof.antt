@@ -3,11 +3,6 @@ use native.Mathlib.Omega.{arith}
 use borrow.Author.Needs.{needs}
 use Rattle.print_lines.proofs.print_adduct.Statement.{statement}
 use Rattle.print_lines.proofs.print_adduct.Tie as tie
-use Rattle.print_lines.proofs.print_adduct.Reads as reads
-use Rattle.print_lines.proofs.print_adduct.Lts as lts
-use Rattle.prints.proofs.print_pieces.Reads as print-pieces-reads
-use Rattle.puts.proofs.put8.Reads as put8-reads
-use Rattle.puts.proofs.put_run.Reads as put-run-reads
 
 returns : tie.Need-returns
 returns c = adduct-none (c .before .before .before .before .before .args .n) (c .before .before .before .before .before .args .x .now) (c .before .before .before .before .before .args .u .now) (c .before .before .before .before .before .args .t .now) (c .if1 .taken) (omega arith) (omega arith)

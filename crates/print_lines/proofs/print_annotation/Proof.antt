@@ -5,18 +5,6 @@ use Rattle.puts.proofs.Laws.{put-then, put-length}
 use borrow.Author.Needs.{needs}
 use Rattle.print_lines.proofs.print_annotation.Statement.{statement}
 use Rattle.print_lines.proofs.print_annotation.Tie as tie
-use Rattle.print_lines.proofs.print_annotation.Reads as reads
-use Rattle.print_lines.proofs.print_annotation.Lts as lts
-use Rattle.openings.proofs.ahead.Reads as ahead-reads
-use Rattle.print_ions.proofs.ion_bytes.Reads as ion-bytes-reads
-use Rattle.print_ions.proofs.ion_units.Reads as ion-units-reads
-use Rattle.print_ions.proofs.print_front.Reads as print-front-reads
-use Rattle.print_lines.proofs.print_adduct.Reads as print-adduct-reads
-use Rattle.print_lines.proofs.row_of.Reads as row-of-reads
-use Rattle.prints.proofs.print_isotopes.Reads as print-isotopes-reads
-use Rattle.prints.proofs.print_pieces.Reads as print-pieces-reads
-use Rattle.prints.proofs.print_tail.Reads as print-tail-reads
-use Rattle.terms.proofs.rest.Reads as rest-reads
 
 rest-requires : tie.Need-rest-requires
 rest-requires c κs = search needs

@@ -13,15 +13,6 @@ use native.Mathlib.Omega.{arith}
 use Rattle.puts.proofs.Laws.{put-as}
 use Rattle.print_lines.proofs.print_table.Statement.{statement}
 use Rattle.print_lines.proofs.print_table.Tie as tie
-use Rattle.print_lines.proofs.print_table.Reads as reads
-use Rattle.print_lines.proofs.print_table.Lts as lts
-use Rattle.formulas.proofs.word_at.Reads as word-at-reads
-use Rattle.pages.proofs.starts.Reads as starts-reads
-use Rattle.print_lines.proofs.counts_at.Reads as counts-at-reads
-use Rattle.print_lines.proofs.print_annotation.Reads as print-annotation-reads
-use Rattle.print_lines.proofs.put_comma.Reads as put-comma-reads
-use Rattle.prints.proofs.at_most.Reads as at-most-reads
-use Rattle.terms.proofs.rest.Reads as rest-reads
 
 abbrev Inv-loop : tie.InvT-loop
 Inv-loop out₀ to table n c₀ at₀ i₀ out c at i = Going out₀ to (annotationsText 0 n (partsAt table c₀)) out at (annotationsText i (n - i) (partsAt table c))

@@ -4,9 +4,6 @@ use Rattle.puts.proofs.Laws.{put-none, put-as}
 use borrow.Author.Needs.{needs}
 use Rattle.print_lines.proofs.put_comma.Statement.{statement}
 use Rattle.print_lines.proofs.put_comma.Tie as tie
-use Rattle.print_lines.proofs.put_comma.Reads as reads
-use Rattle.print_lines.proofs.put_comma.Lts as lts
-use Rattle.puts.proofs.put8.Reads as put8-reads
 
 returns : tie.Need-returns
 returns c = put-as (put-none (omega arith) (omega arith)) (comma-first _ (c .if1 .taken))

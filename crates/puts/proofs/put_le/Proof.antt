@@ -1,54 +1,68 @@
--- `puts::put_le` meets its contract: the bytes that are left make the whole. Assumes nothing.
-use Rattle.puts.proofs.Turns.{Going, begin, more, ends, little-more, little-none}
+-- `puts::put_le` meets its contract: over a part where all fit, and as the loop does where they do not. Assumes nothing.
+use Rattle.puts.proofs.Laws.{put-part}
 use Rattle.rules.specs.Stored.{little}
-use Prim.Native.Nat.{_-_, _≤_}
-use native.Mathlib.Nat.{sub-zero}
+use Rattle.rules.proofs.Lengths.{little-length}
+use lib.ListN.{length}
+use Prim.Native.Nat.{ℕ, _+_}
+use mathlib.Core.Path.{sym, ap, _∙_}
+use native.Mathlib.Nat.{add-sub-cancel-left}
 use native.Mathlib.Omega.{arith}
+use borrow.Rule.Slice.PartMut.{mid-len}
+use borrow.Author.Tests.{leb-true}
 use borrow.Author.Needs.{needs}
 use Rattle.puts.proofs.put_le.Statement.{statement}
 use Rattle.puts.proofs.put_le.Tie as tie
 
-abbrev Inv-loop : tie.InvT-loop
-Inv-loop out₀ at v n to₀ rest₀ done₀ out to rest done = Going out₀ at (little n v) out to (little (n - done) rest)
+has-room-requires : tie.Need-has-room-requires
+has-room-requires c κs = search needs
 
-abbrev μ-loop : tie.MeasureT-loop
-μ-loop out₀ at v n to₀ rest₀ done₀ out to rest done = n - done
+add-end : tie.Need-add-end
+add-end c = let a = c .before .before .before .before .args in let h = leb-true (a .at + a .n) (length (a .out .now)) (sym (c .before .has-room .ensures) ∙ c .if1 .taken) in omega arith
 
-loop-holds : tie.Need-loop-holds Inv-loop μ-loop
-loop-holds c = begin (omega arith) (omega arith) (simp sub-zero)
+sub-fill-le : tie.Need-sub-fill-le
+sub-fill-le c = search needs
 
-cast-put8 : tie.Need-cast-put8 Inv-loop μ-loop
-cast-put8 c = search needs
+part-fill-le-start : tie.Need-part-fill-le-start
+part-fill-le-start c = search needs
 
-put8-requires : tie.Need-put8-requires Inv-loop μ-loop
-put8-requires c κs = search needs
+part-fill-le-end : tie.Need-part-fill-le-end
+part-fill-le-end c = let a = c .before .before .before .before .args in let h = leb-true (a .at + a .n) (length (a .out .now)) (sym (c .before .has-room .ensures) ∙ c .if1 .taken) in omega arith
 
-add-done : tie.Need-add-done Inv-loop μ-loop
-add-done c = search needs
+fill-le-requires : tie.Need-fill-le-requires
+fill-le-requires c κs = search needs
 
-loop-less : tie.Need-loop-less Inv-loop μ-loop
-loop-less c = search needs
+same-length : tie.Need-same-length
+same-length c = search needs
 
-loop-again : tie.Need-loop-again Inv-loop μ-loop
-loop-again c = more (c .before .before .before .before .before .loop .inv) (c .before .before .put8 .ensures) (little-more _ _ _ (c .before .before .before .before .loop-test .taken))
+returns : tie.Need-returns
+returns c =
+    let a = c .before .before .before .before .before .before .before .before .args in
+    let h = leb-true (a .at + a .n) (length (a .out .now)) (sym (c .before .before .before .before .before .has-room .ensures) ∙ c .before .before .before .before .if1 .taken) in
+    let k = add-sub-cancel-left (a .at) (a .n) in
+    put-part (omega arith) h k (little-length (a .n) (a .v))
+    (c .before .before .fill-le .ensures ∙ ap (λ (i : ℕ). little i (a .v)) (mid-len (a .at) (a .at + a .n) (a .out .now) h ∙ k))
 
-same-length : tie.Need-same-length Inv-loop μ-loop
-same-length c = c .before .loop .inv .same
+put-le-far-requires : tie.Need-put-le-far-requires
+put-le-far-requires c κs = search needs
 
-returns : tie.Need-returns Inv-loop μ-loop
-returns c = ends (c .before .loop .inv) (little-none _ _ _ (c .loop-test .left))
+same-length-2 : tie.Need-same-length-2
+same-length-2 c = search needs
+
+returns-2 : tie.Need-returns-2
+returns-2 c = search needs
 
 pub put-le-spec : {M : Type 1} → statement M
 put-le-spec =
     tie.close
     (tie.spec
-    Inv-loop
-    μ-loop
-    loop-holds
-    cast-put8
-    put8-requires
-    add-done
-    loop-less
-    loop-again
+    has-room-requires
+    add-end
+    sub-fill-le
+    part-fill-le-start
+    part-fill-le-end
+    fill-le-requires
     same-length
-    returns)
+    returns
+    put-le-far-requires
+    same-length-2
+    returns-2)

@@ -1,54 +1,63 @@
--- `puts::put_run` meets its contract: the bytes that are left make the whole. Assumes nothing.
-use Rattle.puts.proofs.Turns.{Going, begin, more, ends, run-more}
-use lib.ListN.{length, drop, drop-of-length-le}
-use Prim.Native.Nat.{_-_}
-use mathlib.Core.Path.{refl}
+-- `puts::put_run` meets its contract: over a part where all fit, and as the loop does where they do not. Assumes nothing.
+use Rattle.puts.proofs.Laws.{put-part}
+use lib.ListN.{length}
+use Prim.Native.Nat.{_+_}
+use mathlib.Core.Path.{refl, sym, _∙_}
+use native.Mathlib.Nat.{add-sub-cancel-left}
 use native.Mathlib.Omega.{arith}
+use borrow.Author.Tests.{leb-true}
 use borrow.Author.Needs.{needs}
 use Rattle.puts.proofs.put_run.Statement.{statement}
 use Rattle.puts.proofs.put_run.Tie as tie
 
-abbrev Inv-loop : tie.InvT-loop
-Inv-loop out₀ at s to₀ from₀ out to from = Going out₀ at s out to (drop from s)
+has-room-requires : tie.Need-has-room-requires
+has-room-requires c κs = search needs
 
-abbrev μ-loop : tie.MeasureT-loop
-μ-loop out₀ at s to₀ from₀ out to from = length s - from
+add-end : tie.Need-add-end
+add-end c = let a = c .before .before .before .before .before .args in let h = leb-true (a .at + length (a .s .now)) (length (a .out .now)) (sym (c .before .has-room .ensures) ∙ c .if1 .taken) in omega arith
 
-loop-holds : tie.Need-loop-holds Inv-loop μ-loop
-loop-holds c = begin (omega arith) (omega arith) refl
+sub-fill : tie.Need-sub-fill
+sub-fill c = search needs
 
-shared-slice-read-put8 : tie.Need-shared-slice-read-put8 Inv-loop μ-loop
-shared-slice-read-put8 c = search needs
+part-fill-start : tie.Need-part-fill-start
+part-fill-start c = search needs
 
-put8-requires : tie.Need-put8-requires Inv-loop μ-loop
-put8-requires c κs = search needs
+part-fill-end : tie.Need-part-fill-end
+part-fill-end c = let a = c .before .before .before .before .before .args in let h = leb-true (a .at + length (a .s .now)) (length (a .out .now)) (sym (c .before .has-room .ensures) ∙ c .if1 .taken) in omega arith
 
-add-from : tie.Need-add-from Inv-loop μ-loop
-add-from c = search needs
+fill-requires : tie.Need-fill-requires
+fill-requires c κs = search needs
 
-loop-less : tie.Need-loop-less Inv-loop μ-loop
-loop-less c = search needs
+same-length : tie.Need-same-length
+same-length c = search needs
 
-loop-again : tie.Need-loop-again Inv-loop μ-loop
-loop-again c = more (c .before .before .before .before .before .before .loop .inv) (c .before .before .put8 .ensures) (run-more _ _ (c .before .before .before .before .before .loop-test .taken))
+returns : tie.Need-returns
+returns c =
+    let a = c .before .before .before .before .before .before .before .before .before .args in
+    let h = leb-true (a .at + length (a .s .now)) (length (a .out .now)) (sym (c .before .before .before .before .before .has-room .ensures) ∙ c .before .before .before .before .if1 .taken) in
+    put-part (omega arith) h (add-sub-cancel-left (a .at) (length (a .s .now))) refl (c .before .before .fill .ensures)
 
-same-length : tie.Need-same-length Inv-loop μ-loop
-same-length c = c .before .loop .inv .same
+put-run-far-requires : tie.Need-put-run-far-requires
+put-run-far-requires c κs = search needs
 
-returns : tie.Need-returns Inv-loop μ-loop
-returns c = ends (c .before .loop .inv) (drop-of-length-le _ (c .loop-test .left))
+same-length-2 : tie.Need-same-length-2
+same-length-2 c = search needs
+
+returns-2 : tie.Need-returns-2
+returns-2 c = search needs
 
 pub put-run-spec : {M : Type 1} → statement M
 put-run-spec =
     tie.close
     (tie.spec
-    Inv-loop
-    μ-loop
-    loop-holds
-    shared-slice-read-put8
-    put8-requires
-    add-from
-    loop-less
-    loop-again
+    has-room-requires
+    add-end
+    sub-fill
+    part-fill-start
+    part-fill-end
+    fill-requires
     same-length
-    returns)
+    returns
+    put-run-far-requires
+    same-length-2
+    returns-2)

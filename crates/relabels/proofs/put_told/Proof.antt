@@ -14,10 +14,6 @@ use Rattle.tells.proofs.put_field.Reads as put-field-reads
 put8-requires : tie.Need-put8-requires
 put8-requires c κs = search needs
 
--- src/lib.rt:95:35
-cast-put-field : tie.Need-cast-put-field
-cast-put-field c = search needs
-
 -- src/lib.rt:95:13
 put-field-requires : tie.Need-put-field-requires
 put-field-requires c κs = search needs
@@ -34,9 +30,9 @@ same-length c = search needs
 returns : tie.Need-returns
 returns c =
     record {
-      refused = λ h. put-then (c .before .before .before .before .before .before .before .before .before .before .before .put8 .ensures) (put-then (c .before .before .before .before .before .before .put-field .ensures) (c .before .before .put-number .ensures));
-      spelled = λ e. absurd (c .before .before .before .before .before .before .before .before .before .before .before .before .before .if1 .taken e);
-      behind = λ e. absurd (c .before .before .before .before .before .before .before .before .before .before .before .before .before .if1 .taken e);
+      refused = λ h. put-then (c .before .before .before .before .before .before .before .before .before .before .put8 .ensures) (put-then (c .before .before .before .before .before .before .put-field .ensures) (c .before .before .put-number .ensures));
+      spelled = λ e. absurd (c .before .before .before .before .before .before .before .before .before .before .before .before .if1 .taken e);
+      behind = λ e. absurd (c .before .before .before .before .before .before .before .before .before .before .before .before .if1 .taken e);
     }
 
 -- src/lib.rt:98:5
@@ -52,7 +48,6 @@ put-told-spec =
     tie.close
     (tie.spec
     put8-requires
-    cast-put-field
     put-field-requires
     put-number-requires
     same-length

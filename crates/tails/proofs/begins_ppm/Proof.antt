@@ -1,40 +1,31 @@
 use borrow.Author.Tests.{eq-eqb, ne-eqb}
-use mathlib.Core.Path.{sym, _∙_}
-use native.Mathlib.Omega.{arith}
-use Rattle.tails.proofs.Measures.{ppm-short, ppm-at, and-true}
+use mathlib.Core.Path.{sym}
+use Rattle.lang.proofs.Tests.{and-true}
+use Rattle.tails.proofs.Measures.{ppm-short, ppm-at}
 use borrow.Author.Needs.{needs}
 use Rattle.tails.proofs.begins_ppm.Statement.{statement}
 use Rattle.tails.proofs.begins_ppm.Tie as tie
-use Rattle.tails.proofs.begins_ppm.Reads as reads
-use Rattle.tails.proofs.begins_ppm.Lts as lts
 
--- src/lib.rt:103:9
 returns : tie.Need-returns
 returns c = ppm-short (c .before .args .s .now) (c .if1 .taken)
 
--- src/lib.rt:105:8
 shared-slice-read-if2 : tie.Need-shared-slice-read-if2
 shared-slice-read-if2 c = search needs
 
--- src/lib.rt:106:9
 returns-2 : tie.Need-returns-2
 returns-2 c = rw (ppm-at (c .before .before .before .args .s .now) (c .before .before .if1 .left), ne-eqb 112 _ (λ q. c .if2 .taken (sym q)))
 
--- src/lib.rt:108:8
 shared-slice-read-if3 : tie.Need-shared-slice-read-if3
 shared-slice-read-if3 c = search needs
 
--- src/lib.rt:109:9
 returns-3 : tie.Need-returns-3
 returns-3 c = rw (ppm-at (c .before .before .before .before .before .args .s .now) (c .before .before .before .before .if1 .left), eq-eqb 112 _ (sym (c .before .before .if2 .left)), ne-eqb 112 _ (λ q. c .if3 .taken (sym q)))
 
--- src/lib.rt:111:13
 shared-slice-read-result : tie.Need-shared-slice-read-result
 shared-slice-read-result c = search needs
 
--- src/lib.rt:99:1
 returns-4 : tie.Need-returns-4
-returns-4 c = rw (ppm-at (c .before .before .before .before .before .before .args .s .now) (c .before .before .before .before .before .if1 .left), eq-eqb 112 _ (sym (c .before .before .before .if2 .left)), eq-eqb 112 _ (sym (c .before .if3 .left))) (and-true _)
+returns-4 c = rw (ppm-at (c .before .before .before .before .before .before .args .s .now) (c .before .before .before .before .before .if1 .left), eq-eqb 112 _ (sym (c .before .before .before .if2 .left)), eq-eqb 112 _ (sym (c .before .if3 .left))) (sym (and-true _))
 
 pub begins-ppm-spec : {M : Type 1} → statement M
 begins-ppm-spec =

@@ -6,48 +6,32 @@ use Rattle.tails.specs.Charges.{chargeOf}
 use borrow.Author.Needs.{needs}
 use Rattle.tails.proofs.read_charge.Statement.{statement}
 use Rattle.tails.proofs.read_charge.Tie as tie
-use Rattle.tails.proofs.read_charge.Reads as reads
-use Rattle.tails.proofs.read_charge.Lts as lts
-use Rattle.numbers.proofs.read_number.Reads as read-number-reads
-use Rattle.terms.proofs.begins_with.Reads as begins-with-reads
-use Rattle.terms.proofs.less.Reads as less-reads
-use Rattle.terms.proofs.past.Reads as past-reads
-use Rattle.terms.proofs.rest.Reads as rest-reads
 
--- src/lib.rt:40:9
 begins-with-requires : tie.Need-begins-with-requires
 begins-with-requires c κs = search needs
 
--- src/lib.rt:41:9
 returns : tie.Need-returns
 unfolding chargeOf
 returns c = rw (sym (c .before .begins-with .ensures) ∙ not-true _ (c .if1 .taken))
 
--- src/lib.rt:47:25
 rest-requires : tie.Need-rest-requires
 rest-requires c κs = search needs
 
--- src/lib.rt:47:9
 read-number-requires : tie.Need-read-number-requires
 read-number-requires c κs = search needs
 
--- src/lib.rt:48:56
 less-requires : tie.Need-less-requires
 less-requires c κs = search needs
 
--- src/lib.rt:48:46
 less-requires-2 : tie.Need-less-requires-2
 less-requires-2 c κs = search needs
 
--- src/lib.rt:48:9
 past-requires : tie.Need-past-requires
 past-requires c κs = search needs
 
--- src/lib.rt:51:14
 add-t9 : tie.Need-add-t9
 add-t9 c = omega (arith, number-fits (c .before .before .before .before .before .before .before .before .before .args .s .now) 1 (c .before .before .before .before .before .rest .ensures) (c .before .before .before .before .read-number .ensures))
 
--- src/lib.rt:37:1
 returns-2 : tie.Need-returns-2
 unfolding chargeOf
 returns-2 c = rw (sym (c .before .before .before .before .before .before .before .begins-with .ensures) ∙ not-false _ (c .before .before .before .before .before .before .if1 .left), c .before .past .ensures, c .before .before .less2 .ensures, c .before .before .before .less .ensures, c .before .before .before .before .read-number .ensures, c .before .before .before .before .before .rest .ensures)

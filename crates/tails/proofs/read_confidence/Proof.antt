@@ -6,48 +6,32 @@ use Rattle.tails.specs.Decimals.{confidenceOf}
 use borrow.Author.Needs.{needs}
 use Rattle.tails.proofs.read_confidence.Statement.{statement}
 use Rattle.tails.proofs.read_confidence.Tie as tie
-use Rattle.tails.proofs.read_confidence.Reads as reads
-use Rattle.tails.proofs.read_confidence.Lts as lts
-use Rattle.numbers.proofs.read_decimal.Reads as read-decimal-reads
-use Rattle.tails.proofs.made_part.Reads as made-part-reads
-use Rattle.terms.proofs.begins_with.Reads as begins-with-reads
-use Rattle.terms.proofs.less.Reads as less-reads
-use Rattle.terms.proofs.rest.Reads as rest-reads
 
--- src/lib.rt:84:9
 begins-with-requires : tie.Need-begins-with-requires
 begins-with-requires c κs = search needs
 
--- src/lib.rt:85:9
 returns : tie.Need-returns
 unfolding confidenceOf
 returns c = rw (sym (c .before .begins-with .ensures) ∙ not-true _ (c .if1 .taken))
 
--- src/lib.rt:94:26
 rest-requires : tie.Need-rest-requires
 rest-requires c κs = search needs
 
--- src/lib.rt:94:9
 read-decimal-requires : tie.Need-read-decimal-requires
 read-decimal-requires c κs = search needs
 
--- src/lib.rt:96:31
 add-made-part : tie.Need-add-made-part
 add-made-part c = omega (arith, decimal-fits (c .before .before .before .before .before .before .args .s .now) 1 (c .before .before .rest .ensures) (c .before .read-decimal .ensures))
 
--- src/lib.rt:96:52
 less-requires : tie.Need-less-requires
 less-requires c κs = search needs
 
--- src/lib.rt:96:42
 less-requires-2 : tie.Need-less-requires-2
 less-requires-2 c κs = search needs
 
--- src/lib.rt:96:5
 made-part-requires : tie.Need-made-part-requires
 made-part-requires c κs = search needs
 
--- src/lib.rt:81:1
 returns-2 : tie.Need-returns-2
 unfolding confidenceOf
 returns-2 c = rw (sym (c .before .before .before .before .before .before .before .begins-with .ensures) ∙ not-false _ (c .before .before .before .before .before .before .if1 .left), c .made-part .ensures, c .before .less2 .ensures, c .before .before .less .ensures, c .before .before .before .before .read-decimal .ensures, c .before .before .before .before .before .rest .ensures)

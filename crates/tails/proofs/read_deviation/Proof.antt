@@ -3,7 +3,6 @@ use borrow.Author.Tests.{not-true, not-false}
 use Rattle.rules.specs.Texts.{startsWith}
 use Rattle.rules.specs.Bytes.{bytes}
 use mathlib.Core.Path.{sym, ap, _∙_}
-use lib.ListN.{drop}
 use native.Mathlib.Omega.{arith}
 use Rattle.tails.proofs.Devs.{in-ppm, in-units}
 use Rattle.tails.proofs.Measures.{decimal-fits, size-small, ppm-fits}
@@ -11,82 +10,56 @@ use Rattle.tails.specs.Decimals.{deviationOf}
 use borrow.Author.Needs.{needs}
 use Rattle.tails.proofs.read_deviation.Statement.{statement}
 use Rattle.tails.proofs.read_deviation.Tie as tie
-use Rattle.tails.proofs.read_deviation.Reads as reads
-use Rattle.tails.proofs.read_deviation.Lts as lts
-use Rattle.numbers.proofs.read_decimal.Reads as read-decimal-reads
-use Rattle.tails.proofs.begins_ppm.Reads as begins-ppm-reads
-use Rattle.tails.proofs.made_part.Reads as made-part-reads
-use Rattle.tails.proofs.size_at.Reads as size-at-reads
-use Rattle.terms.proofs.begins_with.Reads as begins-with-reads
-use Rattle.terms.proofs.less.Reads as less-reads
-use Rattle.terms.proofs.rest.Reads as rest-reads
 
--- src/lib.rt:129:9
 begins-with-requires : tie.Need-begins-with-requires
 begins-with-requires c κs = search needs
 
--- src/lib.rt:130:9
 returns : tie.Need-returns
 unfolding deviationOf
 returns c = rw (sym (c .before .begins-with .ensures) ∙ not-true _ (c .if1 .taken))
 
--- src/lib.rt:139:29
 rest-requires : tie.Need-rest-requires
 rest-requires c κs = search needs
 
--- src/lib.rt:139:9
 begins-with-requires-2 : tie.Need-begins-with-requires-2
 begins-with-requires-2 c κs = search needs
 
--- src/lib.rt:140:9
 size-at-requires : tie.Need-size-at-requires
 size-at-requires c κs = search needs
 
--- src/lib.rt:141:26
 rest-requires-2 : tie.Need-rest-requires-2
 rest-requires-2 c κs = search needs
 
--- src/lib.rt:141:9
 read-decimal-requires : tie.Need-read-decimal-requires
 read-decimal-requires c κs = search needs
 
--- src/lib.rt:143:15
 add-len : tie.Need-add-len
 add-len c = omega (arith, decimal-fits (c .before .before .before .before .before .before .before .before .before .args .s .now) (c .before .before .before .size-at .result) (c .before .before .rest2 .ensures) (c .before .read-decimal .ensures), c .before .before .before .size-at .ensures, size-small (c .before .before .before .before .begins-with2 .result))
 
--- src/lib.rt:144:27
 less-requires : tie.Need-less-requires
 less-requires c κs = search needs
 
--- src/lib.rt:144:9
 less-requires-2 : tie.Need-less-requires-2
 less-requires-2 c κs = search needs
 
--- src/lib.rt:145:19
 rest-requires-3 : tie.Need-rest-requires-3
 rest-requires-3 c κs = search needs
 
--- src/lib.rt:145:8
 begins-ppm-requires : tie.Need-begins-ppm-requires
 begins-ppm-requires c κs = search needs
 
--- src/lib.rt:146:42
 add-made-part : tie.Need-add-made-part
 add-made-part c = omega (arith, ppm-fits (c .before .before .before .before .before .before .before .before .before .before .before .before .before .before .args .s .now) (c .before .before .before .before .before .before .before .before .size-at .result + c .before .before .before .before .before .before .read-decimal .result .len) (c .before .before .rest3 .ensures) (sym (c .before .begins-ppm .ensures) ∙ c .if2 .taken))
 
--- src/lib.rt:146:9
 made-part-requires : tie.Need-made-part-requires
 made-part-requires c κs = search needs
 
--- src/lib.rt:146:9
 returns-2 : tie.Need-returns-2
 returns-2 c = in-ppm (c .before .before .before .before .before .before .before .before .before .before .before .before .before .before .before .args .s .now) (c .before .before .before .before .before .before .before .before .before .before .before .before .before .before .before .args .end) (c .before .before .before .before .before .before .before .before .before .before .before .before .before .before .before .args .f) (sym (c .before .before .before .before .before .before .before .before .before .before .before .before .before .begins-with .ensures) ∙ not-false _ (c .before .before .before .before .before .before .before .before .before .before .before .before .if1 .left)) (c .before .before .before .before .before .before .before .before .before .before .begins-with2 .ensures ∙ ap (startsWith (bytes "-")) (c .before .before .before .before .before .before .before .before .before .before .before .rest .ensures)) (c .before .before .before .before .before .before .before .before .before .size-at .ensures) (c .before .before .before .before .before .before .before .before .rest2 .ensures) (c .before .before .before .before .before .before .before .read-decimal .ensures) (c .before .before .before .rest3 .ensures) (c .before .before .before .before .before .less .ensures) (c .before .before .before .before .less2 .ensures) (sym (c .before .before .begins-ppm .ensures) ∙ c .before .if2 .taken) (c .made-part .ensures)
 
--- src/lib.rt:148:5
 made-part-requires-2 : tie.Need-made-part-requires-2
 made-part-requires-2 c κs = search needs
 
--- src/lib.rt:126:1
 returns-3 : tie.Need-returns-3
 returns-3 c = in-units (c .before .before .before .before .before .before .before .before .before .before .before .before .before .before .before .args .s .now) (c .before .before .before .before .before .before .before .before .before .before .before .before .before .before .before .args .end) (c .before .before .before .before .before .before .before .before .before .before .before .before .before .before .before .args .f) (sym (c .before .before .before .before .before .before .before .before .before .before .before .before .before .begins-with .ensures) ∙ not-false _ (c .before .before .before .before .before .before .before .before .before .before .before .before .if1 .left)) (c .before .before .before .before .before .before .before .before .before .before .begins-with2 .ensures ∙ ap (startsWith (bytes "-")) (c .before .before .before .before .before .before .before .before .before .before .before .rest .ensures)) (c .before .before .before .before .before .before .before .before .before .size-at .ensures) (c .before .before .before .before .before .before .before .before .rest2 .ensures) (c .before .before .before .before .before .before .before .read-decimal .ensures) (c .before .before .before .rest3 .ensures) (c .before .before .before .before .before .less .ensures) (c .before .before .before .before .less2 .ensures) (sym (c .before .before .begins-ppm .ensures) ∙ c .before .if2 .left) (c .made-part2 .ensures)
 

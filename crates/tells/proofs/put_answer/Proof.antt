@@ -6,9 +6,6 @@ use borrow.Author.Needs.{needs}
 use Rattle.tells.proofs.put_answer.Statement.{statement}
 use Rattle.tells.proofs.put_answer.Tie as tie
 
-cast-put-field : tie.Need-cast-put-field
-cast-put-field c = search needs
-
 put-field-requires : tie.Need-put-field-requires
 put-field-requires c κs = search needs
 
@@ -37,7 +34,6 @@ pub put-answer-spec : {M : Type 1} → statement M
 put-answer-spec =
     tie.close
     (tie.spec
-    cast-put-field
     put-field-requires
     put-field-requires-2
     put-field-requires-3

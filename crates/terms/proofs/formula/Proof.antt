@@ -25,8 +25,8 @@ begins-unit-requires c κs = search needs
 rest-requires-2 : tie.Need-rest-requires-2 Inv-loop μ-loop
 rest-requires-2 c κs = search needs
 
-unit-requires : tie.Need-unit-requires Inv-loop μ-loop
-unit-requires c κs = search needs
+unit-span-requires : tie.Need-unit-span-requires Inv-loop μ-loop
+unit-span-requires c κs = search needs
 
 sub-unit-fault : tie.Need-sub-unit-fault Inv-loop μ-loop
 sub-unit-fault c = omega (arith, c .before .before .before .before .before .loop .inv .inside)
@@ -35,16 +35,16 @@ unit-fault-requires : tie.Need-unit-fault-requires Inv-loop μ-loop
 unit-fault-requires c κs = search needs
 
 add-at : tie.Need-add-at Inv-loop μ-loop
-add-at c = omega (arith, moves (c .before .before .before .before .before .before .before .loop .inv) (c .before .before .before .before .before .before .rest .ensures) (sym (c .before .before .before .before .before .begins-unit .ensures) ∙ c .before .before .before .before .if1 .taken) (c .before .before .before .rest2 .ensures) (c .before .before .unit .ensures))
+add-at c = omega (arith, moves (c .before .before .before .before .before .before .before .loop .inv) (c .before .before .before .before .before .before .rest .ensures) (sym (c .before .before .before .before .before .begins-unit .ensures) ∙ c .before .before .before .before .if1 .taken) (c .before .before .before .rest2 .ensures) (c .before .before .unit-span .ensures))
 
 add-units : tie.Need-add-units Inv-loop μ-loop
-add-units c = omega (arith, c .before .before .before .before .before .before .before .loop .inv .few, moves (c .before .before .before .before .before .before .before .loop .inv) (c .before .before .before .before .before .before .rest .ensures) (sym (c .before .before .before .before .before .begins-unit .ensures) ∙ c .before .before .before .before .if1 .taken) (c .before .before .before .rest2 .ensures) (c .before .before .unit .ensures))
+add-units c = omega (arith, c .before .before .before .before .before .before .before .loop .inv .few, moves (c .before .before .before .before .before .before .before .loop .inv) (c .before .before .before .before .before .before .rest .ensures) (sym (c .before .before .before .before .before .begins-unit .ensures) ∙ c .before .before .before .before .if1 .taken) (c .before .before .before .rest2 .ensures) (c .before .before .unit-span .ensures))
 
 loop-less : tie.Need-loop-less Inv-loop μ-loop
-loop-less c = omega (arith, moves (c .before .before .before .before .before .before .before .loop .inv) (c .before .before .before .before .before .before .rest .ensures) (sym (c .before .before .before .before .before .begins-unit .ensures) ∙ c .before .before .before .before .if1 .taken) (c .before .before .before .rest2 .ensures) (c .before .before .unit .ensures))
+loop-less c = omega (arith, moves (c .before .before .before .before .before .before .before .loop .inv) (c .before .before .before .before .before .before .rest .ensures) (sym (c .before .before .before .before .before .begins-unit .ensures) ∙ c .before .before .before .before .if1 .taken) (c .before .before .before .rest2 .ensures) (c .before .before .unit-span .ensures))
 
 loop-again : tie.Need-loop-again Inv-loop μ-loop
-loop-again c = turn (c .before .before .before .before .before .before .before .loop .inv) (c .before .before .before .before .before .before .rest .ensures) (sym (c .before .before .before .before .before .begins-unit .ensures) ∙ c .before .before .before .before .if1 .taken) (c .before .before .before .rest2 .ensures) (c .before .before .unit .ensures) (c .before .unit-fault .ensures)
+loop-again c = turn (c .before .before .before .before .before .before .before .loop .inv) (c .before .before .before .before .before .before .rest .ensures) (sym (c .before .before .before .before .before .begins-unit .ensures) ∙ c .before .before .before .before .if1 .taken) (c .before .before .before .rest2 .ensures) (c .before .before .unit-span .ensures) (c .before .unit-fault .ensures)
 
 returns : tie.Need-returns Inv-loop μ-loop
 returns c = ends (c .before .before .before .loop .inv) (c .before .before .rest .ensures) (sym (c .before .begins-unit .ensures) ∙ c .if1 .left)
@@ -59,7 +59,7 @@ formula-spec =
     rest-requires
     begins-unit-requires
     rest-requires-2
-    unit-requires
+    unit-span-requires
     sub-unit-fault
     unit-fault-requires
     add-at

@@ -1,7 +1,13 @@
-use Rattle.terms.proofs.Parts.{rest-part, rest-none}
+use Prim.Native.Nat.{ℕ}
+use mathlib.Core.Path.{ap, _∙_}
+use lib.ListN.{drop}
+use Rattle.terms.proofs.Parts.{rest-part, drop-min}
 use borrow.Author.Needs.{needs}
 use Rattle.terms.proofs.rest.Statement.{statement}
 use Rattle.terms.proofs.rest.Tie as tie
+
+within-requires : tie.Need-within-requires
+within-requires c κs = search needs
 
 sub-result : tie.Need-sub-result
 sub-result c = search needs
@@ -13,21 +19,10 @@ part-result-end : tie.Need-part-result-end
 part-result-end c = search needs
 
 returns : tie.Need-returns
-returns c = rest-part (c .before .before .args .s .now) (c .before .before .args .n)
-
-slice-aggregate-result : tie.Need-slice-aggregate-result
-slice-aggregate-result c = search needs
-
-returns-2 : tie.Need-returns-2
-returns-2 c = rest-none (c .before .before .args .s .now) (c .before .before .args .n) (c .before .if1 .left)
+returns c =
+    let s = c .before .before .before .args .s .now in
+    rest-part s _ ∙ ap (λ (m : ℕ). drop m s) (c .before .within .ensures) ∙ drop-min s (c .before .before .before .args .n)
 
 pub rest-spec : {M : Type 1} → statement M
 rest-spec =
-    tie.close
-    (tie.spec
-    sub-result
-    part-result-start
-    part-result-end
-    returns
-    slice-aggregate-result
-    returns-2)
+    tie.close (tie.spec within-requires sub-result part-result-start part-result-end returns)

@@ -1,26 +1,19 @@
-use Rattle.terms.specs.Units.{unitOf}
-use mathlib.Core.Path.{sym, _∙_}
+use Rattle.terms.proofs.Measures.{unit-is}
 use borrow.Author.Needs.{needs}
 use Rattle.terms.proofs.unit.Statement.{statement}
 use Rattle.terms.proofs.unit.Tie as tie
 
-begins-with-requires : tie.Need-begins-with-requires
-begins-with-requires c κs = search needs
+unit-span-requires : tie.Need-unit-span-requires
+unit-span-requires c κs = search needs
 
-labelled-requires : tie.Need-labelled-requires
-labelled-requires c κs = search needs
+rest-requires : tie.Need-rest-requires
+rest-requires c κs = search needs
+
+read-element-requires : tie.Need-read-element-requires
+read-element-requires c κs = search needs
 
 returns : tie.Need-returns
-unfolding unitOf
-returns c = rw (sym (c .before .before .begins-with .ensures) ∙ c .before .if1 .taken) (c .labelled .ensures)
-
-plain-requires : tie.Need-plain-requires
-plain-requires c κs = search needs
-
-returns-2 : tie.Need-returns-2
-unfolding unitOf
-returns-2 c = rw (sym (c .before .before .begins-with .ensures) ∙ c .before .if1 .left) (c .plain .ensures)
+returns c = unit-is (c .before .before .before .before .args .s .now) (c .before .before .unit-span .ensures) (c .before .rest .ensures) (c .read-element .ensures)
 
 pub unit-spec : {M : Type 1} → statement M
-unit-spec =
-    tie.close (tie.spec begins-with-requires labelled-requires returns plain-requires returns-2)
+unit-spec = tie.close (tie.spec unit-span-requires rest-requires read-element-requires returns)

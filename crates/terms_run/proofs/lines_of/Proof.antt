@@ -6,10 +6,6 @@ use native.Mathlib.Omega.{arith}
 use borrow.Author.Needs.{needs}
 use Rattle.terms_run.proofs.lines_of.Statement.{statement}
 use Rattle.terms_run.proofs.lines_of.Tie as tie
-use Rattle.terms_run.proofs.lines_of.Reads as reads
-use Rattle.terms_run.proofs.lines_of.Lts as lts
-use Rattle.feeds.proofs.line_end.Reads as line-end-reads
-use Rattle.terms_run.proofs.one_line.Reads as one-line-reads
 
 abbrev Inv-loop : tie.InvT-loop
 Inv-loop buf out₀ from₀ out from = length out ≡ length out₀
@@ -17,63 +13,48 @@ Inv-loop buf out₀ from₀ out from = length out ≡ length out₀
 abbrev μ-loop : tie.MeasureT-loop
 μ-loop buf out₀ from₀ out from = length buf - from
 
--- src/main.rt:33:5
 loop-holds : tie.Need-loop-holds Inv-loop μ-loop
 loop-holds c = refl
 
--- src/main.rt:34:26
 sub-line-end : tie.Need-sub-line-end Inv-loop μ-loop
 sub-line-end c = search needs
 
--- src/main.rt:34:26
 part-line-end-start : tie.Need-part-line-end-start Inv-loop μ-loop
 part-line-end-start c = search needs
 
--- src/main.rt:34:26
 part-line-end-end : tie.Need-part-line-end-end Inv-loop μ-loop
 part-line-end-end c = search needs
 
--- src/main.rt:34:13
 line-end-requires : tie.Need-line-end-requires Inv-loop μ-loop
 line-end-requires c κs = search needs
 
--- src/main.rt:35:19
 add-end : tie.Need-add-end Inv-loop μ-loop
 add-end c = omega (arith, within (c .before .before .before .before .before .before .args .buf .now) (c .before .before .before .loop .from) _ (c .before .before .loop-test .taken) (c .line-end .ensures .inside))
 
--- src/main.rt:36:18
 sub-one-line : tie.Need-sub-one-line Inv-loop μ-loop
 sub-one-line c = search needs
 
--- src/main.rt:36:18
 part-one-line-start : tie.Need-part-one-line-start Inv-loop μ-loop
 part-one-line-start c = search needs
 
--- src/main.rt:36:18
 part-one-line-end : tie.Need-part-one-line-end Inv-loop μ-loop
 part-one-line-end c = search needs
 
--- src/main.rt:36:9
 one-line-requires : tie.Need-one-line-requires Inv-loop μ-loop
 one-line-requires c κs = search needs
 
--- src/main.rt:37:16
 add-from : tie.Need-add-from Inv-loop μ-loop
 add-from c = search needs
 
--- src/main.rt:33:5
 loop-less : tie.Need-loop-less Inv-loop μ-loop
 loop-less c = search needs
 
--- src/main.rt:33:5
 loop-again : tie.Need-loop-again Inv-loop μ-loop
 loop-again c = omega arith
 
--- src/main.rt:31:1
 same-length : tie.Need-same-length Inv-loop μ-loop
 same-length c = omega arith
 
--- src/main.rt:31:1
 returns : tie.Need-returns Inv-loop μ-loop
 returns c = search needs
 

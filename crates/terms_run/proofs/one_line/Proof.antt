@@ -3,45 +3,31 @@ use mathlib.Core.Path.{sym}
 use lib.Seq.{length-take-le}
 use Rattle.terms_run.proofs.one_line.Statement.{statement}
 use Rattle.terms_run.proofs.one_line.Tie as tie
-use Rattle.terms_run.proofs.one_line.Reads as reads
-use Rattle.terms_run.proofs.one_line.Lts as lts
-use Rattle.io.proofs.write_all.Reads as write-all-reads
-use Rattle.puts.proofs.put8.Reads as put8-reads
-use Rattle.terms_run.proofs.answer.Reads as answer-reads
 
--- src/main.rt:42:9
 answer-requires : tie.Need-answer-requires
 answer-requires c κs = search needs
 
--- src/main.rt:43:9
 put8-requires : tie.Need-put8-requires
 put8-requires c κs = search needs
 
--- src/main.rt:45:38
 slice-reshare-prefix-write-all : tie.Need-slice-reshare-prefix-write-all
 slice-reshare-prefix-write-all c = search needs
 
--- src/main.rt:45:38
 slice-aggregate-write-all : tie.Need-slice-aggregate-write-all
 slice-aggregate-write-all c = sym (length-take-le _ _ (search needs))
 
--- src/main.rt:45:9
 write-all-requires : tie.Need-write-all-requires
 write-all-requires c κs = search needs
 
--- src/main.rt:41:1
 same-length : tie.Need-same-length
 same-length c = search needs
 
--- src/main.rt:41:1
 returns : tie.Need-returns
 returns c = search needs
 
--- src/main.rt:41:1
 same-length-2 : tie.Need-same-length-2
 same-length-2 c = search needs
 
--- src/main.rt:41:1
 returns-2 : tie.Need-returns-2
 returns-2 c = search needs
 

@@ -1,0 +1,37 @@
+use Rattle.lines.proofs.Given.{copied, printed}
+use borrow.Author.Needs.{needs}
+use Rattle.lines.proofs.put_spelling.Statement.{statement}
+use Rattle.lines.proofs.put_spelling.Tie as tie
+
+is-plain-requires : tie.Need-is-plain-requires
+is-plain-requires c κs = search needs
+
+put-run-requires : tie.Need-put-run-requires
+put-run-requires c κs = search needs
+
+same-length : tie.Need-same-length
+same-length c = search needs
+
+returns : tie.Need-returns
+returns c = copied _ _ (c .before .before .before .before .before .is-plain .ensures) (c .before .before .before .before .if1 .taken) (c .before .before .put-run .ensures)
+
+print-table-requires : tie.Need-print-table-requires
+print-table-requires c κs = search needs
+
+same-length-2 : tie.Need-same-length-2
+same-length-2 c = search needs
+
+returns-2 : tie.Need-returns-2
+returns-2 c = printed _ _ (c .before .before .before .before .before .is-plain .ensures) (c .before .before .before .before .if1 .left) (c .before .before .print-table .ensures)
+
+pub put-spelling-spec : {M : Type 1} → statement M
+put-spelling-spec =
+    tie.close
+    (tie.spec
+    is-plain-requires
+    put-run-requires
+    same-length
+    returns
+    print-table-requires
+    same-length-2
+    returns-2)
