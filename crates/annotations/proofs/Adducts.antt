@@ -33,7 +33,7 @@ adductRead xs g =
     }
 
 -- `]` goes on with no item
-closed : (k : List ℕ) → EndsPieces (93 ∷ k)
+pub closed : (k : List ℕ) → EndsPieces (93 ∷ k)
 closed k = record { formula = ends-apart (93 ∷ k) refl; none = no-sign (93 ∷ k) refl .0 }
 
 pub adduct-read : (xs : List (Item Written)) (k : List ℕ) (end : ℕ) (f : Fault) → startsWith (bytes "[M") k ≡ false → length (adductText xs ++ k) ≤ end

@@ -20,7 +20,7 @@ use Rattle.ions.specs.declared.IonRead.{IonRead}
 use Rattle.ions.proofs.Laws.{EndsIon, ionRead, ion-read}
 use Rattle.annotations.specs.declared.Front.{Front}
 use Rattle.annotations.specs.Groups.{frontOf}
-use Rattle.annotations.proofs.Parts.{front-is}
+use Rattle.annotations.proofs.Groups.{front-is}
 use Rattle.annotations.proofs.Chains.{drop-is, inside}
 use Rattle.annotations.proofs.Begins.{ion-begins-apart, ion-no-mark}
 use Rattle.annotations.proofs.Ions.{ion-told}

@@ -42,7 +42,7 @@ ion-told (smiles t) g = record { units = refl; text = refl; len = refl; fault = 
 ion-told (unknown n) g = record { units = refl; text = refl; len = refl; fault = refl }
 
 -- a number within its bound is told as it is
-told-within : (n : Number) (at : ℕ) → Kept (numberPart maxPosition n .marks at) → told (n .value) ≡ n .value
+pub told-within : (n : Number) (at : ℕ) → Kept (numberPart maxPosition n .marks at) → told (n .value) ≡ n .value
 told-within n at k = omega (arith, number-within maxPosition n at k)
 
 some-items : (xs : List (Item Written)) → leb 1 (length xs) ≡ not (isEmpty xs)

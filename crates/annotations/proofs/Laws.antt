@@ -6,5 +6,6 @@ pub use Rattle.annotations.proofs.Adducts.{adductRead, adduct-read}
 pub use Rattle.annotations.proofs.Middles.{EndsMiddle, behindIon, behindLosses, behindIsotopes, lossesFault, isotopesFault, adductFault, middleRead, losses-ends, adduct-ends, middle-read}
 pub use Rattle.annotations.proofs.Tails.{chargeFault, deviationFault, confidenceFault, tailRead, tail-read}
 pub use Rattle.annotations.proofs.Follows.{ends-middle, ends-ion}
-pub use Rattle.annotations.proofs.Wholes.{first, second, third, text-is}
+pub use Rattle.annotations.proofs.Wholes.{first, second, third, text-is, fault1, fault2}
+pub use Rattle.annotations.proofs.Readings.{fault0, partsRead, parts-read}
 pub use Rattle.annotations.proofs.Spelled.{Measures, measure-read, measure-within}

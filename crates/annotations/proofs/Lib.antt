@@ -1,4 +1,4 @@
-pub mod Parts
+pub mod Groups
 pub mod Ends
 pub mod Chains
 pub mod Tails
@@ -12,5 +12,6 @@ pub mod Fronts
 pub mod Rules
 pub mod Sizes
 pub mod Wholes
+pub mod Readings
 pub mod Spelled
 pub mod Laws

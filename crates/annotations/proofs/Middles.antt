@@ -24,7 +24,7 @@ use Rattle.isotopes.proofs.Ends.{EndsIsotopes, ends-sign}
 use Rattle.isotopes.proofs.Laws.{isotopes-begin, isotopes-read}
 use Rattle.annotations.specs.declared.Middle.{Middle}
 use Rattle.annotations.specs.Groups.{plus as sum, middleOf}
-use Rattle.annotations.proofs.Parts.{middle-is}
+use Rattle.annotations.proofs.Groups.{middle-is}
 use Rattle.annotations.proofs.Ends.{isotopes-keep, adduct-keep}
 use Rattle.annotations.proofs.Chains.{drop-is, inside}
 use Rattle.annotations.proofs.Adducts.{adduct-read}

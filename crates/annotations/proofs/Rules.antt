@@ -21,7 +21,7 @@ use Rattle.tails.specs.declared.DecimalPart.{DecimalPart}
 use Rattle.tails.proofs.Laws.{deviationRead, confidenceRead}
 use Rattle.annotations.specs.House.{deviationRuleOf, shareOf}
 
-fits-kept : (d : Decimal) (at : ℕ) → Kept (decimalMark d at) → fits d ≡ true
+pub fits-kept : (d : Decimal) (at : ℕ) → Kept (decimalMark d at) → fits d ≡ true
 fits-kept d at k = by (fits d) (λ t. k _ here t)
   where
     by : (b : Bool) → (T (not b) → ⊥) → b ≡ true

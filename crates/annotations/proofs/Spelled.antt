@@ -17,30 +17,28 @@ use Rattle.rules.specs.Adducts.{adductText, itemMap}
 use Rattle.rules.specs.Annotations.{Annotation, annotationMap, flagText, analyteText, chargeText, deviationText, confidenceText, annotationText}
 use Rattle.rules.specs.Fields.{filled}
 use Rattle.rules.specs.House.{confidenceOf, one, annotationRules}
-use Rattle.rules.specs.Limits.{maxAnnotations, manyMark, part, optPart, ionParts, deviationPart, confidencePart, annotationParts, annotationMarks}
+use Rattle.rules.specs.Limits.{part, optPart, ionParts, deviationPart, confidencePart, annotationParts, annotationMarks}
 use Rattle.rules.specs.Stored.{ionFields, lostUnits, lostName, addedUnits, isotopeRecords, annotationUnits, annotationTexts}
 use Rattle.rules.proofs.Keeps.{kept-tail, kept-part}
 use Rattle.puts.specs.Puts.{maxPlace}
 use Rattle.numbers.specs.Shares.{largest}
 use Rattle.terms.specs.declared.Fault.{Fault}
-use Rattle.terms.specs.Faults.{join, after}
+use Rattle.terms.specs.Faults.{after}
 use Rattle.tails.proofs.Laws.{deviationRead, confidenceRead}
 use Rattle.ions.proofs.Laws.{ionRead}
 use Rattle.annotations.specs.declared.Measured.{Measured}
-use Rattle.annotations.specs.Groups.{plus, middleOf}
+use Rattle.annotations.specs.Groups.{plus}
 use Rattle.annotations.specs.House.{rulesOf, shareOf}
-use Rattle.annotations.specs.Measured.{measureOf}
-use Rattle.annotations.proofs.Parts.{measure-is}
-use Rattle.annotations.proofs.Chains.{inside, drop-three}
+use Rattle.annotations.specs.Measured.{measuredOf, measureOf}
+use Rattle.annotations.proofs.Groups.{measure-is}
+use Rattle.annotations.proofs.Chains.{drop-three}
 use Rattle.annotations.proofs.Ends.{EndsAnnotation}
-use Rattle.annotations.proofs.Follows.{ends-middle, ends-ion}
 use Rattle.annotations.proofs.Ions.{ion-told, ion-rule}
-use Rattle.annotations.proofs.Fronts.{front-read}
-use Rattle.annotations.proofs.Middles.{middle-read}
-use Rattle.annotations.proofs.Tails.{deviationFault, confidence-fault, tail-read}
+use Rattle.annotations.proofs.Tails.{deviationFault, confidence-fault}
 use Rattle.annotations.proofs.Rules.{deviation-rule, share-told, share-test}
 use Rattle.annotations.proofs.Sizes.{ion-long, losses-long, adduct-long}
 use Rattle.annotations.proofs.Wholes.{third, second, first, text-is, fault1, fault2, fault3, marks-are}
+use Rattle.annotations.proofs.Readings.{fault0, partsRead, parts-read}
 
 -- annotation number i of a line, at a place: what is measured of it
 pub record Measures (i : ℕ) (a : Annotation Written) (at : ℕ) (f : Fault) (m : Measured) : Type 0 where
@@ -55,10 +53,6 @@ pub record Measures (i : ℕ) (a : Annotation Written) (at : ℕ) (f : Fault) (m
   pub share : Kept (annotationMarks i a at) → m .share ≡ min (confidenceOf (a .confidence)) largest
 
 module _ (a : Annotation Written) (k : List ℕ) (i end : ℕ) (f : Fault) where
-  -- the first broken limit before the annotation's parts
-  abbrev fault0 : Fault
-  fault0 = join f (manyMark maxAnnotations i (end - length (first a k)))
-
   abbrev units1 : ℕ
   units1 = length (flat (λ l. lostUnits (l .what)) (map (lossMap filled) (a .losses)))
 
@@ -69,11 +63,11 @@ module _ (a : Annotation Written) (k : List ℕ) (i end : ℕ) (f : Fault) where
   names = length (flat (λ l. lostName (l .what)) (map (lossMap filled) (a .losses)))
 
   abbrev shareRead : ℕ
-  shareRead = shareOf (confidenceRead (a .confidence) (fault3 a k end fault0))
+  shareRead = shareOf (confidenceRead (a .confidence) (fault3 a k end (fault0 a k i end f)))
 
   abbrev measured : Measured
   measured =
-      let x = ionRead (a .ion) (fault1 a k end fault0) in
+      let x = ionRead (a .ion) (fault1 a k end (fault0 a k i end f)) in
       record {
         losses = length (a .losses);
         isotopes = length (isotopeRecords (isotopesMap filled (a .isotopes)));
@@ -81,9 +75,9 @@ module _ (a : Annotation Written) (k : List ℕ) (i end : ℕ) (f : Fault) where
         units = plus (x .units) (plus units1 units2);
         text = plus (x .text) names;
         share = shareRead;
-        kept = rulesOf x (length (a .adduct)) (deviationRead (a .deviation) (deviationFault (a .charge) (a .deviation) (a .confidence) k end (fault2 a k end fault0))) shareRead;
+        kept = rulesOf x (length (a .adduct)) (deviationRead (a .deviation) (deviationFault (a .charge) (a .deviation) (a .confidence) k end (fault2 a k end (fault0 a k i end f)))) shareRead;
         len = length (annotationText a);
-        fault = confidenceRead (a .confidence) (fault3 a k end fault0) .fault;
+        fault = confidenceRead (a .confidence) (fault3 a k end (fault0 a k i end f)) .fault;
       }
 
   -- ---- what is read
@@ -94,26 +88,12 @@ module _ (a : Annotation Written) (k : List ℕ) (i end : ℕ) (f : Fault) where
 
     measured-is : measured ≡ measureOf i end (first a k) f
     measured-is =
-        let m = flagText (bytes "&") (a .marked) in
-        let n = optText analyteText (a .analyte) in
-        let x = ionText (a .ion) in
-        let l = flat lossText (a .losses) in
-        let y = isotopesText (a .isotopes) in
-        let d = adductText (a .adduct) in
-        let c = a .charge in
-        let v = a .deviation in
-        let w = a .confidence in
-        let h3 = inside x (second a k) (inside n (x ++ second a k) (inside m (n ++ (x ++ second a k)) h)) in
-        let h6 = inside d (third a k) (inside y (d ++ third a k) (inside l (y ++ (d ++ third a k)) h3)) in
-        measure-is end (first a k) f i refl refl
-        (sym (front-read (a .marked) (a .analyte) (a .ion) (second a k) end fault0 (ends-ion c v w e (a .losses) (a .isotopes) (a .adduct)) h))
-        (sym (drop-three m n x (second a k)))
-        (sym (middle-read (a .losses) (a .isotopes) (a .adduct) (third a k) end (fault1 a k end fault0) (ends-middle c v w e) h3)
-        ∙ ap (middleOf end (second a k)) (sym (ion-told (a .ion) (fault1 a k end fault0) .fault)))
-        (sym (drop-three l y d (third a k)))
-        (sym (tail-read c v w k end (fault2 a k end fault0) e h6))
-        refl refl refl refl
-        (sym (drop-three (optText chargeText c) (optText deviationText v) (optText confidenceText w) k)) long
+        measure-is (first a k) (partsRead a k i end f) refl
+        (sym (drop-three (flagText (bytes "&") (a .marked)) (optText analyteText (a .analyte)) (ionText (a .ion)) (second a k)))
+        (sym (drop-three (flat lossText (a .losses)) (isotopesText (a .isotopes)) (adductText (a .adduct)) (third a k)))
+        refl refl refl
+        (sym (drop-three (optText chargeText (a .charge)) (optText deviationText (a .deviation)) (optText confidenceText (a .confidence)) k)) long
+        ∙ ap (measuredOf (first a k)) (parts-read a k i end f e h)
 
     -- ---- how much of everything
 
@@ -138,7 +118,7 @@ module _ (a : Annotation Written) (k : List ℕ) (i end : ℕ) (f : Fault) where
           let xs = flat (λ x. addedUnits (x .what)) (map (itemMap filled) (a .adduct)) in
           omega (
             arith,
-            ion-told (a .ion) (fault1 a k end fault0) .units,
+            ion-told (a .ion) (fault1 a k end (fault0 a k i end f)) .units,
             ion-long (a .ion) .units,
             losses-long (a .losses),
             adduct-long (a .adduct),
@@ -151,7 +131,7 @@ module _ (a : Annotation Written) (k : List ℕ) (i end : ℕ) (f : Fault) where
       texts-are =
           omega (
             arith,
-            ion-told (a .ion) (fault1 a k end fault0) .text,
+            ion-told (a .ion) (fault1 a k end (fault0 a k i end f)) .text,
             ion-long (a .ion) .text,
             losses-long (a .losses),
             parts-long,
@@ -164,7 +144,7 @@ module _ (a : Annotation Written) (k : List ℕ) (i end : ℕ) (f : Fault) where
         share-is : measured .share ≡ min (confidenceOf (a .confidence)) largest
         share-is =
             let p = kept-part (end - length (first a k)) (annotationParts a) (kept-tail kept) (optPart confidencePart (a .confidence)) (later (later (later (later (later (later (later (later here)))))))) in
-            share-told (a .confidence) (p .0) (fault3 a k end fault0) (p .1)
+            share-told (a .confidence) (p .0) (fault3 a k end (fault0 a k i end f)) (p .1)
 
         rules-are : measured .kept ≡ annotationRules a
         unfolding rulesOf
@@ -172,15 +152,15 @@ module _ (a : Annotation Written) (k : List ℕ) (i end : ℕ) (f : Fault) where
             let at = end - length (first a k) in
             let p = kept-part at (annotationParts a) (kept-tail kept) (part (ionText (a .ion)) (λ at. marksOf at (ionParts (a .ion)))) (later (later here)) in
             let q = kept-part at (annotationParts a) (kept-tail kept) (optPart deviationPart (a .deviation)) (later (later (later (later (later (later (later here))))))) in
-            ap₂ (λ (x y : Bool). x && y) (ion-rule (a .ion) (fault1 a k end fault0) (p .0) (a .adduct) (p .1))
+            ap₂ (λ (x y : Bool). x && y) (ion-rule (a .ion) (fault1 a k end (fault0 a k i end f)) (p .0) (a .adduct) (p .1))
             (ap₂ (λ (x y : Bool). x && y)
-            (deviation-rule (a .deviation) (q .0) (deviationFault (a .charge) (a .deviation) (a .confidence) k end (fault2 a k end fault0)) (q .1))
+            (deviation-rule (a .deviation) (q .0) (deviationFault (a .charge) (a .deviation) (a .confidence) k end (fault2 a k end (fault0 a k i end f))) (q .1))
             (ap (λ (n : ℕ). leb n one) share-is ∙ share-test (confidenceOf (a .confidence))))
 
       measured-read : Measures i a (end - length (first a k)) f measured
       measured-read =
           record {
-            fault = confidence-fault (a .confidence) (fault3 a k end fault0) ∙ sym (marks-are a k end fault0 h);
+            fault = confidence-fault (a .confidence) (fault3 a k end (fault0 a k i end f)) ∙ sym (marks-are a k end (fault0 a k i end f) h);
             len = refl;
             losses = refl;
             isotopes = refl;
@@ -200,5 +180,5 @@ measure-read a k i end f e h z =
     (subst (Measures i a (end - length (first a k)) f) (measured-is a k i end f e g) (measured-read a k i end f e g z))
 
 pub measure-within : (i end : ℕ) (s : List ℕ) (f : Fault) → measureOf i end s f .len ≤ length s
-unfolding measureOf
+unfolding measuredOf
 measure-within i end s f = omega arith

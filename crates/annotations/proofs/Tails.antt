@@ -19,7 +19,7 @@ use Rattle.tails.specs.Decimals.{confidenceOf}
 use Rattle.tails.proofs.Laws.{chargeRead, charge-read, confidenceRead, confidence-read, deviationRead, deviation-read}
 use Rattle.annotations.specs.declared.Tail.{Tail}
 use Rattle.annotations.specs.Groups.{tailOf}
-use Rattle.annotations.proofs.Parts.{tail-is}
+use Rattle.annotations.proofs.Groups.{tail-is}
 use Rattle.annotations.proofs.Ends.{EndsAnnotation, behindAdduct, behindCharge, behindDeviation, ends-keep, confidence-keep, deviation-keep}
 use Rattle.annotations.proofs.Chains.{drop-is, inside}
 

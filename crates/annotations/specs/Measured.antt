@@ -1,4 +1,4 @@
--- The annotation that bytes begin with, measured. Assumes nothing.
+-- The annotation that bytes begin with, read and measured. Assumes nothing.
 use Prim.Native.Nat.{ℕ, _-_}
 use mathlib.Core.List.{List}
 use lib.ListN.{length, drop}
@@ -8,9 +8,24 @@ use Rattle.terms.specs.Faults.{join}
 use Rattle.annotations.specs.declared.Front.{Front}
 use Rattle.annotations.specs.declared.Middle.{Middle}
 use Rattle.annotations.specs.declared.Tail.{Tail}
+use Rattle.annotations.specs.declared.Parts.{Parts}
 use Rattle.annotations.specs.declared.Measured.{Measured}
 use Rattle.annotations.specs.Groups.{before, plus, frontOf, middleOf, tailOf}
 use Rattle.annotations.specs.House.{rulesOf, shareOf}
+
+-- ---- read
+
+abbrev pub partsBehind : ℕ → List ℕ → Front → Middle → Parts
+partsBehind end t a m = record { front = a; middle = m; tail = tailOf end (drop (m .len) t) (m .fault) }
+
+abbrev pub partsIn : ℕ → List ℕ → Front → Parts
+partsIn end s a = let t = drop (a .len) s in partsBehind end t a (middleOf end t (a .ion .fault))
+
+-- annotation number i of a line of `end` bytes
+unfoldable pub partsOf : ℕ → ℕ → List ℕ → Fault → Parts
+partsOf i end s f = partsIn end s (frontOf end s (join f (manyMark maxAnnotations i (end - length s))))
+
+-- ---- measured
 
 -- u is left behind the adduct
 abbrev pub measuredWith : List ℕ → List ℕ → Front → Middle → Tail → Measured
@@ -27,12 +42,8 @@ measuredWith s u a m b =
       fault = b .confidence .fault;
     }
 
-abbrev pub measuredBehind : ℕ → List ℕ → List ℕ → Front → Middle → Measured
-measuredBehind end s t a m = let u = drop (m .len) t in measuredWith s u a m (tailOf end u (m .fault))
+unfoldable pub measuredOf : List ℕ → Parts → Measured
+measuredOf s p = measuredWith s (drop (p .middle .len) (drop (p .front .len) s)) (p .front) (p .middle) (p .tail)
 
-abbrev pub measuredIn : ℕ → List ℕ → Front → Measured
-measuredIn end s a = let t = drop (a .len) s in measuredBehind end s t a (middleOf end t (a .ion .fault))
-
--- annotation number i of a line of `end` bytes
-unfoldable pub measureOf : ℕ → ℕ → List ℕ → Fault → Measured
-measureOf i end s f = measuredIn end s (frontOf end s (join f (manyMark maxAnnotations i (end - length s))))
+abbrev pub measureOf : ℕ → ℕ → List ℕ → Fault → Measured
+measureOf i end s f = measuredOf s (partsOf i end s f)

@@ -5,7 +5,7 @@ ghost use Rattle.rules.specs.Texts.{startsWith};
 ghost use Rattle.annotations.specs.Parts.{flagOf, prefixOf, adductLen, adductOf};
 ghost use Rattle.annotations.specs.Groups.{frontOf, middleOf, tailOf};
 ghost use Rattle.annotations.specs.House.{ionRuleOf, deviationRuleOf, rulesOf, shareOf};
-ghost use Rattle.annotations.specs.Measured.{measureOf};
+ghost use Rattle.annotations.specs.Measured.{partsOf, measuredOf};
 use ions::IonRead;
 use ions::MAX_POSITION;
 use ions::ion;
@@ -74,6 +74,13 @@ pub struct Tail {
     pub len: usize,
 }
 
+// What was read of one annotation. Measuring it and storing it both need this, so it is read once and handed on.
+pub struct Parts {
+    pub front: Front,
+    pub middle: Middle,
+    pub tail: Tail,
+}
+
 // One annotation: how many losses, isotopes, adduct items, units and text bytes; its confidence in billionths; whether the rules for one
 // annotation are kept; how many bytes; and the first broken limit.
 pub struct Measured {
@@ -136,7 +143,7 @@ pub fn begins_adduct(s: &[u8]) -> bool
 }
 
 // How many bytes an adduct has, from those of its items.
-pub fn adduct_len(items: usize, all: usize) -> usize
+fn adduct_len(items: usize, all: usize) -> usize
     ensures { λ r. ⌜ r ≡ adductLen items all ⌝ }
 {
     ahead(ahead(2, items, all), 1, all)
@@ -167,7 +174,7 @@ pub fn read_adduct(s: &[u8], end: usize, f: Fault) -> Row
 }
 
 // Prefix and ion.
-pub fn read_front(s: &[u8], end: usize, f: Fault) -> Front
+fn read_front(s: &[u8], end: usize, f: Fault) -> Front
     ensures { λ r. ⌜ r ≡ frontOf end (now (s .entry)) f ⌝ }
 {
     let p = read_prefix(s, end, f);
@@ -209,7 +216,7 @@ fn read_middle(s: &[u8], end: usize, f: Fault) -> Middle
 }
 
 // Charge, deviation, confidence.
-pub fn read_tail(s: &[u8], end: usize, f: Fault) -> Tail
+fn read_tail(s: &[u8], end: usize, f: Fault) -> Tail
     ensures { λ r. ⌜ r ≡ tailOf end (now (s .entry)) f ⌝ }
 {
     let c = read_charge(s, end, f);
@@ -281,22 +288,37 @@ fn share_of(c: DecimalPart) -> u64
 }
 
 // Annotation number i of a line of `end` bytes.
-pub fn measure(i: usize, s: &[u8], end: usize, f: Fault) -> Measured
-    ensures { λ r. ⌜ r ≡ measureOf i end (now (s .entry)) f ⌝ }
+pub fn read_parts(i: usize, s: &[u8], end: usize, f: Fault) -> Parts
+    ensures { λ r. ⌜ r ≡ partsOf i end (now (s .entry)) f ⌝ }
 {
     let g = many(f, MAX_ANNOTATIONS, i, less(end, s.len()));
-    let a = read_front(s, end, g);
-    let x = a.ion;
+    let front = read_front(s, end, g);
+    let x = front.ion;
     let h = x.fault;
-    let t = rest(s, a.len);
-    let m = read_middle(t, end, h);
-    let e = m.fault;
-    let u = rest(t, m.len);
-    let b = read_tail(u, end, e);
+    let t = rest(s, front.len);
+    let middle = read_middle(t, end, h);
+    let e = middle.fault;
+    let tail = read_tail(rest(t, middle.len), end, e);
+    Parts {
+        front,
+        middle,
+        tail,
+    }
+}
+
+// What was read of the annotation that a part begins with, measured.
+pub fn measure(s: &[u8], p: Parts) -> Measured
+    ensures { λ r. ⌜ r ≡ measuredOf (now (s .entry)) p ⌝ }
+{
+    let a = p.front;
+    let x = a.ion;
+    let m = p.middle;
+    let b = p.tail;
     let d = b.deviation;
     let c = b.confidence;
     let fault = c.fault;
     let share = share_of(c);
+    let u = rest(rest(s, a.len), m.len);
     Measured {
         losses: m.losses,
         isotopes: m.isotopes,

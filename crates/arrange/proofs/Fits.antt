@@ -101,7 +101,7 @@ unit-short i (labelled a s c) at k =
 
 -- ---- lists
 
-all-in : {A : Type 0} (P : A → Type 0) (xs : List A) → ((x : A) → In x xs → P x) → AllOf P xs
+pub all-in : {A : Type 0} (P : A → Type 0) (xs : List A) → ((x : A) → In x xs → P x) → AllOf P xs
 all-in P [] h = all-none
 all-in P (x ∷ xs) h = all-more (h x here) (all-in P xs (λ y i. h y (later i)))
 

@@ -33,9 +33,9 @@ some-digits n = go (decLt n 10)
     go (yes h) = omega (arith, one-digit n h)
     go (no h) = omega (arith, more-digits n (omega arith))
 
-few : (k n : ℕ) → n < 10 ^ suc k → length (digits n) ≤ suc k
-few zero n h = omega (arith, one-digit n h)
-few (suc k) n h = go (few k (n / 10) (omega (arith, pow-suc 10 (suc k)))) (decLt n 10)
+pub digits-below : (k n : ℕ) → n < 10 ^ suc k → length (digits n) ≤ suc k
+digits-below zero n h = omega (arith, one-digit n h)
+digits-below (suc k) n h = go (digits-below k (n / 10) (omega (arith, pow-suc 10 (suc k)))) (decLt n 10)
   where
     go : length (digits (n / 10)) ≤ suc k → Dec (n < 10) → length (digits n) ≤ suc (suc k)
     go i (yes l) = omega (arith, one-digit n l)
@@ -88,7 +88,7 @@ module _ (v p : ℕ) (h : p ≤ 9) where
     where
       go : Dec (v < 10 ^ 12) → leb (length (digits (whole p v)) + p) 12 ≡ ltb v (10 ^ 12)
       go (yes l) =
-          let f = few (11 - p) (whole p v) (whole-lt p v (10 ^ suc (11 - p)) (omega (arith, parts))) in
+          let f = digits-below (11 - p) (whole p v) (whole-lt p v (10 ^ suc (11 - p)) (omega (arith, parts))) in
           le-leb (length (digits (whole p v)) + p) 12 (omega arith) ∙ sym (lt-ltb v (10 ^ 12) l)
       go (no l) =
           let g : 10 ^ 12 ≤ v = omega arith in

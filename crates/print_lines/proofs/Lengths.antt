@@ -1,12 +1,11 @@
 -- How long the parts of an annotation are at most, in preferred spelling: numbers, words, texts, formulas, ions, losses, isotopes,
 -- adducts. The bounds are not tight. Assumes nothing.
-use Prim.Native.Nat.{ℕ, zero, suc, _+_, _*_, _/_, _%_, _^_, _≤_, _<_}
+use Prim.Native.Nat.{ℕ, zero, suc, _+_, _*_, _^_, _≤_, _<_}
 use mathlib.Core.Path.{_≡_, refl, ap}
 use mathlib.Core.Bool.{Bool, true, false, _&&_}
 use mathlib.Core.List.{List, [], _∷_, _++_, map}
 use native.Mathlib.Omega.{arith}
-use native.Mathlib.Nat.{mul-suc, pow-suc}
-use native.Mathlib.Decide.{decLt}
+use native.Mathlib.Nat.{mul-suc}
 use lib.Dec.{T, leb, leb→le}
 use lib.ListN.{length, getD, length-append, length-map}
 use Rattle.lang.specs.Parts.{Opt, silent, written, optText, items, flat, Such, wordOf}
@@ -26,11 +25,11 @@ use Rattle.rules.specs.Adducts.{Added, added-formula, electron, addedText, adde
 use Rattle.rules.specs.Preferred.{shortened, countOr1}
 use Rattle.rules.specs.Limits.{maxLosses, maxIsotopes, maxItems, maxUnits, maxText, maxPlaces}
 use Rattle.rules.specs.Stored.{Field, valueOr0, number, bytesOf, ionFields, lostUnits, lostName, specificRecord, isotopeRecords, addedUnits}
-use Rattle.rules.proofs.Digits.{digits-small, digits-big}
 use Rattle.rules.proofs.Bounds.{Small}
 use Rattle.rules.proofs.OneRecord.{Fits}
 use Rattle.rules.proofs.FitParts.{UnitFits, LossFits, isotopeWidths, ItemFits}
 use Rattle.rules.proofs.FitIons.{IonFits}
+use Rattle.numbers.proofs.Bounds.{digits-below}
 
 -- ---- rows
 
@@ -52,14 +51,6 @@ in-mapped f here = here
 in-mapped f (later i) = later (in-mapped f i)
 
 -- ---- numbers
-
-digits-below : (k n : ℕ) → n < 10 ^ suc k → length (digits n) ≤ suc k
-digits-below zero n h = omega (arith, ap length (digits-small n h))
-digits-below (suc k) n h = by (digits-below k (n / 10) (omega (arith, pow-suc 10 (suc k)))) (decLt n 10)
-  where
-    by : length (digits (n / 10)) ≤ suc k → Dec (n < 10) → length (digits n) ≤ suc (suc k)
-    by i (yes l) = omega (arith, ap length (digits-small n l))
-    by i (no l) = omega (arith, ap length (digits-big n (omega arith)), length-append (digits (n / 10)) ((48 + n % 10) ∷ []))
 
 -- a number that fits its field of the stored table
 pub number-short : (n : ℕ) → n < 65536 → length (digits n) ≤ 5

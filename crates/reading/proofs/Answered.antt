@@ -1,23 +1,22 @@
 -- The code's answers are those of the model. Assumes nothing.
 use Prim.Native.Nat.{ℕ, _<_, _≤_}
-use mathlib.Core.Path.{_≡_, refl, sym, ap, ap₂, _∙_, subst}
+use mathlib.Core.Path.{_≡_, sym, ap, ap₂, _∙_, subst}
 use mathlib.Core.List.{List}
 use lib.ListN.{length, replicate}
-use lib.Seq.{sets}
 use borrow.Author.Tests.{ne-eqb, lt-ltb, le-ltb}
 use Rattle.rules.specs.Limits.{maxLine}
-use Rattle.rules.specs.Answers as rules
 use Rattle.terms.specs.declared.Fault.{Fault}
 use Rattle.pages.specs.declared.Cursors.{Cursors}
 use Rattle.pages.specs.declared.Counts.{Counts}
 use Rattle.pages.specs.Pages.{run}
-use Rattle.pages.specs.Headers.{startsOf, endAt, headerBytes, Headed}
+use Rattle.pages.specs.Headers.{endAt, Headed}
+use Rattle.annotations.specs.declared.Parts.{Parts}
 use Rattle.shape.specs.declared.Verdict.{Verdict}
 use Rattle.shape.specs.declared.Verdict.the-variants.{Fine, Short, Stray}
 use Rattle.reading.specs.declared.Answer.{Answer}
 use Rattle.reading.specs.declared.Totals.{Totals}
-use Rattle.reading.specs.Totals.{totalsOf}
-use Rattle.reading.specs.Stores.{lineEvents, StoresLine}
+use Rattle.reading.specs.Totals.{partsAt, totalsBy}
+use Rattle.reading.specs.Stores.{lineEventsBy, lineEvents, StoresLine}
 use Rattle.reading.specs.Readings.{answered, refusedOf, firstOf, countsIn, tableOver, storedOver, countedOver, spelledOver, ReadsSpelled, anyOver, readOf}
 
 -- ---- a line with a shape
@@ -35,11 +34,11 @@ no-room-over d line n h = rw (lt-ltb (length d) (endAt n) h)
 room-over : (d line : List ℕ) (n : Counts) → endAt n ≤ length d → storedOver d line n ≡ record { number = 0; place = 0; size = endAt n; out = tableOver d line n }
 room-over d line n h = rw (le-ltb (length d) (endAt n) h)
 
-module _ (line : List ℕ) {t : Totals} {f : Fault} (pt : t ≡ totalsOf line) (pf : f ≡ firstOf t) where
+module _ (line : List ℕ) {p : Parts} {t : Totals} {f : Fault} (pp : p ≡ partsAt line 0) (pt : t ≡ totalsBy line p) (pf : f ≡ firstOf t) where
   -- in terms of what the code counted
   counted-is : (d : List ℕ) → spelledOver d line ≡ countedOver d line t
   unfolding spelledOver
-  counted-is d = ap (countedOver d line) (sym pt)
+  counted-is d = ap (countedOver d line) (sym (pt ∙ ap (totalsBy line) pp))
 
   pub spelled-refused : {d : List ℕ} {r : Answer} → (f .number ≡ 0 → ⊥) → r ≡ refusedOf (f .number) (f .place) → ReadsSpelled line d d r
   spelled-refused {d} {r} h e =
@@ -62,10 +61,11 @@ module _ (line : List ℕ) {t : Totals} {f : Fault} (pt : t ≡ totalsOf line) (
               ∙ sym (stored-is d ∙ no-room-over d line n (subst (λ (k : ℕ). length d < k) ps h));
         }
 
-    pub spelled-stored : {d e g : List ℕ} {c : Cursors} → size ≤ length d → Headed d n e c → StoresLine line e c g
+    pub spelled-stored : {d e g : List ℕ} {c : Cursors} → size ≤ length d → Headed d n e c → StoresLine line p e c g
         → ReadsSpelled line d g (record { number = 0; place = 0; len = size })
-    spelled-stored {d} {e} {g} {c} h p q =
-        let w : g ≡ tableOver d line n = q .ran .made ∙ ap₂ (λ (x : List ℕ) (k : Cursors). run x k (lineEvents line)) (p .put .made) (p .starts) in
+    spelled-stored {d} {e} {g} {c} h o q =
+        let w : g ≡ tableOver d line n =
+        q .ran .made ∙ ap (λ (p : Parts). run e c (lineEventsBy line p)) pp ∙ ap₂ (λ (x : List ℕ) (k : Cursors). run x k (lineEvents line)) (o .put .made) (o .starts) in
         record {
           is =
               ap₂ (λ (k : ℕ) (o : List ℕ). record { number = 0; place = 0; size = k; out = o }) ps w

@@ -1,16 +1,16 @@
 -- What is counted of a spelled line is what its table has. Assumes nothing.
-use Prim.Native.Nat.{ℕ, _+_, _*_, _≤_, min}
-use mathlib.Core.Path.{_≡_, refl, sym, ap, ap₂, _∙_}
-use mathlib.Core.List.{List, [], _∷_, _++_, map}
+use Prim.Native.Nat.{ℕ, _+_, _≤_}
+use mathlib.Core.Path.{_≡_, refl, sym, ap, _∙_}
+use mathlib.Core.List.{List, _++_}
 use native.Mathlib.Omega.{arith}
 use lib.ListN.{length, length-append, length-map}
 use Rattle.lang.specs.Parts.{flat}
 use Rattle.lang.specs.Order.{Each, none, next}
 use Rattle.rules.specs.Numbers.{Number}
 use Rattle.rules.specs.Formulas.{Written}
-use Rattle.rules.specs.Losses.{Loss, lossMap}
+use Rattle.rules.specs.Losses.{lossMap}
 use Rattle.rules.specs.Isotopes.{Isotopes}
-use Rattle.rules.specs.Adducts.{Item, itemMap}
+use Rattle.rules.specs.Adducts.{itemMap}
 use Rattle.rules.specs.Ions.{Ion}
 use Rattle.rules.specs.Annotations.{Annotation, annotationMap}
 use Rattle.rules.specs.Lines.{Spelling}

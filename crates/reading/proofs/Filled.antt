@@ -1,14 +1,13 @@
 -- What the annotations of a spelled line store: the sections of a table that the line spells. Assumes nothing.
-use Prim.Native.Nat.{ℕ, zero, suc, _+_, _-_, _<_, _≤_, min}
-use mathlib.Core.Path.{_≡_, refl, sym, ap, ap₂, _∙_, subst}
-use mathlib.Core.Bool.{Bool, true, false}
+use Prim.Native.Nat.{ℕ, suc, _+_, _-_, _≤_}
+use mathlib.Core.Path.{_≡_, refl, sym, ap, _∙_, subst}
 use mathlib.Core.List.{List, [], _∷_, _++_, append-assoc, append-nil}
 use native.Mathlib.Omega.{arith}
 use borrow.Author.Tests.{ne-eqb}
 use lib.ListN.{length, drop, length-append, length-drop}
 use lib.Seq.{drop-append-seam, drop-drop}
 use Rattle.lang.specs.Parts.{flat}
-use Rattle.lang.specs.Mark.{Mark, Kept}
+use Rattle.lang.specs.Mark.{Kept}
 use Rattle.lang.specs.Order.{Each, none, next}
 use Rattle.rules.specs.Formulas.{Written}
 use Rattle.rules.specs.Annotations.{Annotation, annotationText}
@@ -20,11 +19,14 @@ use Rattle.puts.specs.Puts.{maxPlace}
 use Rattle.pages.specs.Pages.{Event}
 use Rattle.pages.specs.Fills.{Fills}
 use Rattle.pages.proofs.Fills.{fills-none, fills-then}
+use Rattle.terms.specs.Faults.{fault}
+use Rattle.annotations.specs.declared.Parts.{Parts}
+use Rattle.annotations.specs.Measured.{partsOf}
 use Rattle.annotations.proofs.Laws.{EndsAnnotation}
-use Rattle.store.specs.Events.{annotationEvents, annotationSize}
+use Rattle.store.specs.Events.{annotationEvents}
 use Rattle.store.proofs.Laws.{StoresRead, store-read}
-use Rattle.reading.specs.Totals.{goesOn, behindComma}
-use Rattle.reading.specs.Stores.{Done, behindOne, doneOne, doneNext, doneFrom, lineEvents}
+use Rattle.reading.specs.Totals.{goesOn, behindComma, partsAt}
+use Rattle.reading.specs.Stores.{Done, behindBy, doneOne, doneNext, doneFrom, lineEventsBy, lineEvents}
 use Rattle.reading.proofs.Loops.{loop-on, loop-ends}
 use Rattle.reading.proofs.Steps.{done-falls}
 use Rattle.reading.proofs.Through.{rest-ends, annotation-some}
@@ -37,27 +39,29 @@ pub record FilledBy (s : Spelling) (es fs : List Event) : Type 0 where
   pub are : fs ≡ es ++ more
   pub fills : Fills table more
 
-filled-more : {a : Annotation Written} {s : Spelling} {es fs : List Event} {w : List ℕ} → StoresRead a w → FilledBy s (es ++ annotationEvents w) fs → FilledBy (a ∷ s) es fs
-filled-more {es = es} {w = w} x y =
+filled-more : {a : Annotation Written} {s : Spelling} {es fs : List Event} {w : List ℕ} {p : Parts} → StoresRead a w p → FilledBy s (es ++ annotationEvents w p) fs → FilledBy (a ∷ s) es fs
+filled-more {es = es} {w = w} {p = p} x y =
     record {
       table = x .table ∷ y .table;
       says = next (x .says) (y .says);
-      more = annotationEvents w ++ y .more;
-      are = y .are ∙ append-assoc es (annotationEvents w) (y .more);
+      more = annotationEvents w p ++ y .more;
+      are = y .are ∙ append-assoc es (annotationEvents w p) (y .more);
       fills = fills-then (x .fills) (y .fills);
     }
 
-module _ (line : List ℕ) (small : length line ≤ maxPlace) where
+module _ (line : List ℕ) where
   -- one annotation, which begins at `from`
   record OneFilled (a : Annotation Written) (from : ℕ) : Type 0 where
-    reads : StoresRead a (drop from line)
-    behind : behindOne line from ≡ from + length (annotationText a)
+    reads : StoresRead a (drop from line) (partsAt line from)
+    behind : behindBy line from (partsAt line from) ≡ from + length (annotationText a)
 
   one-filled : (a : Annotation Written) (k : List ℕ) (from i : ℕ) → from ≤ length line → drop from line ≡ annotationText a ++ k → EndsAnnotation k
       → Kept (annotationMarks i a from) → OneFilled a from
   one-filled a k from i h e ends kept =
       let l : length (annotationText a ++ k) ≡ length line - from = sym (ap length e) ∙ length-drop from line in
-      let r = subst (StoresRead a) (sym e) (store-read a k i from ends kept (omega arith)) in
+      let none = fault 0 0 in
+      let r =
+      subst (λ (s : List ℕ). StoresRead a s (partsOf 0 (length line) s none)) (sym e) (store-read a k 0 (length line) none i from ends kept (omega arith)) in
       record { reads = r; behind = omega (arith, r .size, length-append (annotationText a) k) }
 
   filled-through : (more : Spelling) (n : ℕ) (d : Done) (i : ℕ) → Kept (rowMarks nextText nextMarks i more (d .at)) → length line - d .at ≤ n → d .at ≤ length line
@@ -102,11 +106,11 @@ module _ (line : List ℕ) (small : length line ≤ maxPlace) where
 -- ---- for callers
 
 pub line-filled : (s : Spelling) → length (lineText s) ≤ maxPlace → Kept (lineMarks s) → FilledBy s [] (lineEvents (lineText s))
-unfolding lineEvents
+unfolding lineEventsBy
 line-filled [] h kept = record { table = []; says = none; more = []; are = refl; fills = fills-none }
 line-filled (a ∷ more) h kept =
     let line = lineText (a ∷ more) in
     let b = annotation-some a in
     let l = length-append (annotationText a) (flat nextText more) in
     let n : (length line ≡ 0 → ⊥) = λ e. omega arith in
-    rw (ne-eqb (length line) 0 n) (first-filled line h a more refl kept)
+    rw (ne-eqb (length line) 0 n) (first-filled line a more refl kept)

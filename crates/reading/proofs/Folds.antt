@@ -1,13 +1,13 @@
 -- The first annotation that breaks a rule, and the first that takes the sum of confidences past 1, found one annotation after the other.
 -- Assumes nothing.
 use Prim.Native.Nat.{ℕ, _+_, _<_, _≤_, min}
-use mathlib.Core.Path.{_≡_, refl, sym, ap, ap₂, _∙_}
+use mathlib.Core.Path.{_≡_, refl, ap, ap₂, _∙_}
 use mathlib.Core.Bool.{Bool, true, false, not}
-use mathlib.Core.List.{List, [], _∷_}
+use mathlib.Core.List.{[], _∷_}
 use native.Mathlib.Omega.{arith}
 use lib.Dec.{leb}
 use lib.ListN.{length}
-use borrow.Author.Tests.{leb-true, leb-false, le-leb, lt-leb}
+use borrow.Author.Tests.{leb-true, leb-false, lt-leb}
 use Rattle.lang.specs.Parts.{Opt, silent, written}
 use Rattle.rules.specs.Formulas.{Written}
 use Rattle.rules.specs.Annotations.{Annotation, annotationText}
@@ -15,7 +15,7 @@ use Rattle.rules.specs.Lines.{Spelling}
 use Rattle.rules.specs.House.{annotationRules, confidenceOf, one, firstBreach, firstExcess}
 use Rattle.numbers.specs.Shares.{largest}
 use Rattle.terms.specs.declared.Fault.{Fault}
-use Rattle.terms.specs.Faults.{fault, join}
+use Rattle.terms.specs.Faults.{fault}
 use Rattle.terms.proofs.Marks.{join-known, join-kept, join-broken}
 use Rattle.reading.specs.Totals.{noted, summed}
 

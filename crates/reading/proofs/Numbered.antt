@@ -8,7 +8,7 @@ use native.Mathlib.Omega.{arith}
 use lib.Dec.{T, leb}
 use lib.ListN.{length}
 use borrow.Author.Tests.{leb-true}
-use Rattle.lang.specs.Parts.{Opt, silent, written, Some, items, Such, wordOf}
+use Rattle.lang.specs.Parts.{Opt, silent, written, items, Such, wordOf}
 use Rattle.lang.specs.Mark.{Mark, Part, marksOf}
 use Rattle.lang.specs.Re.{either}
 use Rattle.lang.proofs.Tests.{case, t-is}
@@ -25,9 +25,9 @@ use Rattle.rules.specs.Isotopes.{Shift, Specific, Isotopes, no-isotope, plain-i
 use Rattle.rules.specs.Adducts.{Added, added-formula, electron, Item, itemText, adductText}
 use Rattle.rules.specs.Annotations.{flagText, Deviation, Annotation, annotationText}
 use Rattle.rules.specs.Lines.{Spelling, nextText}
-use Rattle.rules.specs.Limits.{bare, part, optPart, numberPart, decimalPart, rowMarks, rowPart, closedPart, unitMarks, formulaPart, ionParts, lostPart, lossParts, lossMarks}
-use Rattle.rules.specs.Limits.{maxCount, maxPosition, shiftMarks, specificMarks, isotopesMarks, addedPart, itemParts, itemMarks, adductMarks, analytePart, chargePart}
-use Rattle.rules.specs.Limits.{deviationPart, confidencePart, annotationParts, annotationMarks, nextMarks, lineMarks}
+use Rattle.rules.specs.Limits.{bare, part, optPart, numberPart, decimalPart, rowMarks, rowPart, closedPart, unitMarks, formulaPart, ionParts, lostPart, lossMarks}
+use Rattle.rules.specs.Limits.{maxCount, maxPosition, shiftMarks, specificMarks, isotopesMarks, addedPart, itemMarks, adductMarks, analytePart, chargePart}
+use Rattle.rules.specs.Limits.{deviationPart, confidencePart, annotationMarks, nextMarks, lineMarks}
 use Rattle.terms.specs.declared.Fault.{Fault}
 use Rattle.terms.specs.Faults.{fault, join, after}
 use Rattle.terms.proofs.Marks.{join-known, join-kept, join-broken}

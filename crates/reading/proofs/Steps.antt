@@ -1,16 +1,15 @@
 -- Each step over a comma comes nearer to the end of the line. Assumes nothing.
-use Prim.Native.Nat.{ℕ, _+_, _-_, _<_, _≤_, min}
-use mathlib.Core.Path.{_≡_, refl, sym, ap, _∙_}
-use mathlib.Core.Bool.{Bool, true, false}
+use Prim.Native.Nat.{ℕ, _-_, _<_, _≤_}
+use mathlib.Core.Path.{_≡_, sym}
+use mathlib.Core.Bool.{true}
 use mathlib.Core.List.{List, [], _∷_}
 use native.Mathlib.Omega.{arith}
-use native.Mathlib.Decide.{decLe}
 use lib.ListN.{length, drop, length-drop}
 use Rattle.lang.proofs.Tests.{not-t}
 use Rattle.rules.specs.Bytes.{bytes}
 use Rattle.rules.specs.Texts.{startsWith}
 use Rattle.reading.specs.declared.Totals.{Totals}
-use Rattle.reading.specs.Totals.{goesOn, behindComma, addOf, addNext}
+use Rattle.reading.specs.Totals.{goesOn, addOf, addNext}
 use Rattle.reading.specs.Stores.{Done, doneNext}
 
 comma-some : (s : List ℕ) → startsWith (bytes ",") s ≡ true → 1 ≤ length s

@@ -1,8 +1,8 @@
 -- The loop that stores the annotations of a line: what is left to store makes the whole. Assumes nothing.
 use Prim.Native.Nat.{ℕ, zero, suc, _+_, _-_, _<_, _≤_, min}
-use mathlib.Core.Path.{_≡_, refl, sym, ap, ap₂, _∙_, subst}
+use mathlib.Core.Path.{_≡_, refl, sym, ap, _∙_}
 use mathlib.Core.Bool.{Bool, true, false, cond}
-use mathlib.Core.List.{List, [], _∷_, _++_, append-assoc, append-nil}
+use mathlib.Core.List.{List, [], _++_, append-assoc, append-nil}
 use native.Mathlib.Omega.{arith}
 use borrow.Author.Tests.{ne-eqb}
 use lib.ListN.{length, drop}
@@ -10,14 +10,15 @@ use Rattle.rules.specs.Bytes.{bytes}
 use Rattle.rules.specs.Texts.{startsWith}
 use Rattle.puts.specs.Puts.{maxPlace}
 use Rattle.pages.specs.declared.Cursors.{Cursors}
-use Rattle.pages.specs.Pages.{Event, Ran, ends}
+use Rattle.pages.specs.Pages.{Event, Ran}
 use Rattle.pages.proofs.Events.{ran-none, ran-then, ran-as, ran-length}
+use Rattle.annotations.specs.declared.Parts.{Parts}
 use Rattle.store.specs.declared.Stored.{Stored}
 use Rattle.store.specs.Events.{annotationEvents, annotationSize, StoresAnnotation}
 use Rattle.reading.specs.declared.Going.{Going}
 use Rattle.reading.specs.Loops.{loop}
-use Rattle.reading.specs.Totals.{goesOn, behindComma}
-use Rattle.reading.specs.Stores.{behindOne, StoresNext, Done, doneOne, doneNext, doneFrom, lineEvents, StoresLine}
+use Rattle.reading.specs.Totals.{goesOn, behindComma, partsAt}
+use Rattle.reading.specs.Stores.{behindBy, StoresNext, Done, doneBy, doneOne, doneNext, doneFrom, lineEventsBy, StoresLine}
 use Rattle.reading.proofs.Loops.{loop-on, loop-ends}
 use Rattle.reading.proofs.Steps.{done-falls}
 
@@ -25,12 +26,12 @@ abbrev done : ℕ → List Event → Done
 done at es = record { at = at; events = es }
 
 -- one annotation
-pub next-stored : (line : List ℕ) (from : ℕ) {d e r : List ℕ} {c : Cursors} {x : Stored} {at : ℕ} → r ≡ drop from line → StoresAnnotation r d c e x
-    → at ≡ min (from + x .len) (length line) → StoresNext line from d c e (record { at = at; cursors = x .cursors })
-next-stored line from {d} {e} {r} {c} {x} {at} pr h pa =
+pub next-stored : (line : List ℕ) (from : ℕ) (p : Parts) {d e r : List ℕ} {c : Cursors} {x : Stored} {at : ℕ} → r ≡ drop from line → StoresAnnotation r p d c e x
+    → at ≡ min (from + x .len) (length line) → StoresNext line from p d c e (record { at = at; cursors = x .cursors })
+next-stored line from p {d} {e} {r} {c} {x} {at} pr h pa =
     record {
-      at = pa ∙ ap (λ (n : ℕ). min (from + n) (length line)) (h .len ∙ ap annotationSize pr);
-      ran = ran-as (h .ran) (ap annotationEvents pr);
+      at = pa ∙ ap (λ (n : ℕ). min (from + n) (length line)) (h .len ∙ ap (λ (s : List ℕ). annotationSize s p) pr);
+      ran = ran-as (h .ran) (ap (λ (s : List ℕ). annotationEvents s p) pr);
     }
 
 -- events that were stored before stay before
@@ -40,8 +41,10 @@ unfolding loop
 before-stays line zero pre es at = refl
 before-stays line (suc n) pre es at =
     let from = behindComma line at in
-    let ev = annotationEvents (drop from line) in
-    by (ap (λ (l : List Event). doneFrom line n (done (behindOne line from) l) .events) (append-assoc pre es ev) ∙ before-stays line n pre (es ++ ev) (behindOne line from)) (goesOn line at)
+    let p = partsAt line from in
+    let ev = annotationEvents (drop from line) p in
+    let to = behindBy line from p in
+    by (ap (λ (l : List Event). doneFrom line n (done to l) .events) (append-assoc pre es ev) ∙ before-stays line n pre (es ++ ev) to) (goesOn line at)
   where
     by : doneFrom line n (doneNext line (done at (pre ++ es))) .events ≡ pre ++ doneFrom line n (doneNext line (done at es)) .events → (t : Bool)
         → cond t (doneFrom line n (doneNext line (done at (pre ++ es)))) (done at (pre ++ es)) .events
@@ -65,16 +68,17 @@ module _ (line : List ℕ) {d e r : List ℕ} {t₀ t : Going} (s : Storing line
   goes : {b : Bool} → startsWith (bytes ",") r ≡ b → goesOn line (t .at) ≡ b
   goes q = ap (startsWith (bytes ",")) (sym pr) ∙ q
 
-  module _ {f : List ℕ} {u : Going} {from : ℕ} (q : startsWith (bytes ",") r ≡ true) (pf : from ≡ min (t .at + 1) (length line))
-      (x : StoresNext line from e (t .cursors) f u) where
-    next-is : doneNext line (done (t .at) (s .es)) ≡ done (u .at) (s .es ++ annotationEvents (drop from line))
+  module _ {f : List ℕ} {u : Going} {from : ℕ} {p : Parts} (q : startsWith (bytes ",") r ≡ true) (pf : from ≡ min (t .at + 1) (length line)) (pp : p ≡ partsAt line from)
+      (x : StoresNext line from p e (t .cursors) f u) where
+    next-is : doneNext line (done (t .at) (s .es)) ≡ done (u .at) (s .es ++ annotationEvents (drop from line) p)
     next-is =
-        ap (doneOne line (s .es)) (sym pf) ∙ ap (λ (n : ℕ). done n (s .es ++ annotationEvents (drop from line))) (sym (x .at))
+        ap (doneOne line (s .es)) (sym pf) ∙ ap (doneBy line (s .es) from) (sym pp)
+        ∙ ap (λ (n : ℕ). done n (s .es ++ annotationEvents (drop from line) p)) (sym (x .at))
 
     pub storing-turns : Storing line d t₀ f u
     storing-turns =
         record {
-          es = s .es ++ annotationEvents (drop from line);
+          es = s .es ++ annotationEvents (drop from line) p;
           ran = ran-then (s .ran) (x .ran);
           left =
               s .left
@@ -91,24 +95,24 @@ module _ (line : List ℕ) {d e r : List ℕ} {t₀ t : Going} (s : Storing line
       (s .left ∙ loop-ends (λ (a : Done). goesOn line (a .at)) (doneNext line) (length line) (done (t .at) (s .es)) (goes q))
 
   -- the first annotation began at 0
-  pub storing-ends : {d₀ : List ℕ} {c : Cursors} → 1 ≤ length line → StoresNext line 0 d₀ c d t₀ → startsWith (bytes ",") r ≡ false → StoresLine line d₀ c e
-  unfolding lineEvents
-  storing-ends {d₀} {c} h x q =
-      let ev = annotationEvents (drop 0 line) in
+  pub storing-ends : {d₀ : List ℕ} {c : Cursors} {p : Parts} → 1 ≤ length line → StoresNext line 0 p d₀ c d t₀ → startsWith (bytes ",") r ≡ false → StoresLine line p d₀ c e
+  unfolding lineEventsBy
+  storing-ends {d₀} {c} {p} h x q =
+      let ev = annotationEvents (drop 0 line) p in
       let z : (length line ≡ 0 → ⊥) = λ q. omega arith in
-      let w : doneFrom line (length line) (doneOne line [] 0) .events ≡ ev ++ s .es =
-      ap (λ (l : List Event). doneFrom line (length line) (done (behindOne line 0) l) .events) (sym (append-nil ev))
-      ∙ before-stays line (length line) ev [] (behindOne line 0)
+      let w : doneFrom line (length line) (doneBy line [] 0 p) .events ≡ ev ++ s .es =
+      ap (λ (l : List Event). doneFrom line (length line) (done (behindBy line 0 p) l) .events) (sym (append-nil ev))
+      ∙ before-stays line (length line) ev [] (behindBy line 0 p)
       ∙ ap (λ (n : ℕ). ev ++ doneFrom line (length line) (done n []) .events) (sym (x .at)) ∙ ap (λ (l : List Event). ev ++ l) (storing-is q) in
-      let v : lineEvents line ≡ ev ++ s .es = rw (ne-eqb (length line) 0 z) w in
+      let v : lineEventsBy line p ≡ ev ++ s .es = rw (ne-eqb (length line) 0 z) w in
       let a = ran-as (ran-then (x .ran) (s .ran)) (sym v) in
       record { ran = record { small = a .small; made = a .made; place = refl } }
 
 -- an empty line
-pub empty-stored : (line d : List ℕ) (c : Cursors) → length d ≤ maxPlace → length line < 1 → StoresLine line d c d
-unfolding lineEvents
-empty-stored line d c s h =
+pub empty-stored : (line : List ℕ) (p : Parts) (d : List ℕ) (c : Cursors) → length d ≤ maxPlace → length line < 1 → StoresLine line p d c d
+unfolding lineEventsBy
+empty-stored line p d c s h =
     let z : length line ≡ 0 = omega arith in
-    let v : lineEvents line ≡ [] = rw z in
+    let v : lineEventsBy line p ≡ [] = rw z in
     let a = ran-as (ran-none {c = c} s) (sym v) in
     record { ran = record { small = a .small; made = a .made; place = refl } }

@@ -1,7 +1,6 @@
 -- What is counted of the annotations of a spelled line. Assumes nothing.
-use Prim.Native.Nat.{ℕ, zero, suc, _+_, _-_, _<_, _≤_, min}
+use Prim.Native.Nat.{ℕ, suc, _+_, _-_, _≤_}
 use mathlib.Core.Path.{_≡_, refl, sym, ap, ap₂, _∙_, subst}
-use mathlib.Core.Bool.{Bool, true, false}
 use mathlib.Core.List.{List, [], _∷_, _++_}
 use native.Mathlib.Omega.{arith}
 use lib.Dec.{leb}
@@ -19,7 +18,7 @@ use Rattle.rules.specs.Ions.{Ion, series, internal, immonium, precursor, refere
 use Rattle.rules.specs.Lines.{Spelling, nextText, lineText}
 use Rattle.rules.specs.Fields.{filled}
 use Rattle.rules.specs.Limits.{annotationMarks, nextMarks, rowMarks, lineMarks}
-use Rattle.rules.specs.House.{annotationRules, one}
+use Rattle.rules.specs.House.{one}
 use Rattle.rules.specs.Stored.{isotopeRecords, annotationUnits, annotationTexts}
 use Rattle.rules.proofs.Keeps.{kept-left, kept-right}
 use Rattle.rules.proofs.Totals.{total}
@@ -33,7 +32,7 @@ use Rattle.annotations.specs.Groups.{plus}
 use Rattle.annotations.specs.Measured.{measureOf}
 use Rattle.annotations.proofs.Laws.{EndsAnnotation, at-end, at-comma, Measures, measure-read}
 use Rattle.reading.specs.declared.Totals.{Totals}
-use Rattle.reading.specs.Totals.{nothing, noted, summed, goesOn, behindComma, addOf, addNext, addedWith, totalsFrom, totalsOf}
+use Rattle.reading.specs.Totals.{nothing, noted, summed, goesOn, behindComma, addOf, addNext, addedWith, totalsFrom, totalsBy, totalsOf}
 use Rattle.reading.proofs.Loops.{loop-on, loop-ends}
 use Rattle.reading.proofs.Steps.{add-falls}
 use Rattle.reading.proofs.Folds.{behind, shareIn, foldBreach, foldExcess}
@@ -288,7 +287,7 @@ pub record TotalsRead (s : Spelling) (u : Totals) : Type 0 where
   pub finds : Finds (lineMarks s) s 0 nothing u
 
 pub totals-read : (s : Spelling) → length (lineText s) ≤ maxPlace → TotalsRead s (totalsOf (lineText s))
-unfolding totalsOf
+unfolding totalsBy addOf
 totals-read [] h =
     record {
       counts = counts-none nothing (record { annotations = omega arith; losses = omega arith; isotopes = omega arith; items = omega arith; units = omega arith; text = omega arith });

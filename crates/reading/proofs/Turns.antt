@@ -1,54 +1,61 @@
 -- The loops over the annotations of a line: what is left to do makes the whole. Assumes nothing.
-use Prim.Native.Nat.{ℕ, _+_, _-_, _<_, _≤_, min}
+use Prim.Native.Nat.{ℕ, _-_, _<_, _≤_}
 use mathlib.Core.Path.{_≡_, refl, sym, ap, _∙_}
 use mathlib.Core.Bool.{Bool, true, false}
-use mathlib.Core.List.{List, [], _∷_}
+use mathlib.Core.List.{List}
 use native.Mathlib.Omega.{arith}
-use native.Mathlib.Nat.{le-refl}
-use borrow.Author.Tests.{ne-eqb, eq-eqb}
+use borrow.Author.Tests.{ne-eqb}
 use lib.ListN.{length, drop}
 use Rattle.rules.specs.Bytes.{bytes}
 use Rattle.rules.specs.Texts.{startsWith}
+use Rattle.annotations.specs.declared.Parts.{Parts}
+use Rattle.annotations.specs.Measured.{partsOf}
 use Rattle.reading.specs.declared.Totals.{Totals}
-use Rattle.reading.specs.Totals.{nothing, goesOn, behindComma, addOf, addNext, totalsFrom, totalsOf}
+use Rattle.reading.specs.Totals.{nothing, goesOn, behindComma, addedBy, addOf, addNext, totalsFrom, totalsBy}
 use Rattle.reading.proofs.Loops.{loop-on, loop-ends}
 use Rattle.reading.proofs.Steps.{add-falls}
 
--- an empty line
-pub empty-totals : (line : List ℕ) {n : Totals} → length line < 1 → n ≡ nothing → n ≡ totalsOf line
-unfolding totalsOf
-empty-totals line h e = let z : length line ≡ 0 = omega arith in e ∙ rw z
+-- one annotation more, behind a comma
+pub next-added : (line : List ℕ) (t : Totals) {u : Totals} {from : ℕ} {r : List ℕ} {p : Parts} → from ≡ behindComma line (t .at) → r ≡ drop from line
+    → p ≡ partsOf (t .annotations) (length line) r (t .limit) → u ≡ addedBy line t from p → u ≡ addNext line t
+unfolding addOf
+next-added line t {from = from} pf pr pp pu =
+    pu ∙ ap (addedBy line t from) (pp ∙ ap (λ (r : List ℕ). partsOf (t .annotations) (length line) r (t .limit)) pr) ∙ ap (addOf line t) pf
 
--- the annotations counted in t, and those that are left
-pub record Counting (line : List ℕ) (t : Totals) : Type 0 where
-  pub is : totalsFrom line (length line) t ≡ totalsOf line
+-- an empty line
+pub empty-totals : (line : List ℕ) (p : Parts) {n : Totals} → length line < 1 → n ≡ nothing → n ≡ totalsBy line p
+unfolding totalsBy
+empty-totals line p h e = let z : length line ≡ 0 = omega arith in e ∙ rw z
+
+-- from t₀ on: the annotations counted in t, and those that are left
+pub record Counting (line : List ℕ) (t₀ t : Totals) : Type 0 where
+  pub is : totalsFrom line (length line) t ≡ totalsFrom line (length line) t₀
 
 module _ (line : List ℕ) where
-  pub counting-begins : {n t : Totals} → 1 ≤ length line → n ≡ nothing → t ≡ addOf line n 0 → Counting line t
-  unfolding totalsOf
-  counting-begins {n} {t} h e f =
-      let z : (length line ≡ 0 → ⊥) = λ q. omega arith in
-      record { is = ap (totalsFrom line (length line)) (f ∙ ap (λ (m : Totals). addOf line m 0) e) ∙ rw (ne-eqb (length line) 0 z) }
+  pub counting-begins : (t : Totals) → Counting line t t
+  counting-begins t = record { is = refl }
 
-  module _ {t : Totals} {r : List ℕ} (c : Counting line t) (pr : r ≡ drop (t .at) line) where
+  module _ {t₀ t : Totals} {r : List ℕ} (c : Counting line t₀ t) (pr : r ≡ drop (t .at) line) where
     goes : {b : Bool} → startsWith (bytes ",") r ≡ b → goesOn line (t .at) ≡ b
     goes e = ap (startsWith (bytes ",")) (sym pr) ∙ e
 
-    pub counting-ends : startsWith (bytes ",") r ≡ false → t ≡ totalsOf line
-    counting-ends e = sym (loop-ends (λ (t : Totals). goesOn line (t .at)) (addNext line) (length line) t (goes e)) ∙ c .is
+    -- the first annotation began at 0
+    pub counting-ends : (p : Parts) {n : Totals} → 1 ≤ length line → n ≡ nothing → t₀ ≡ addedBy line n 0 p → startsWith (bytes ",") r ≡ false → t ≡ totalsBy line p
+    unfolding totalsBy
+    counting-ends p h en e₀ e =
+        let z : (length line ≡ 0 → ⊥) = λ q. omega arith in
+        sym (loop-ends (λ (t : Totals). goesOn line (t .at)) (addNext line) (length line) t (goes e)) ∙ c .is
+        ∙ ap (totalsFrom line (length line)) (e₀ ∙ ap (λ (n : Totals). addedBy line n 0 p) en) ∙ rw (ne-eqb (length line) 0 z)
 
-    module _ {u : Totals} {from : ℕ} (e : startsWith (bytes ",") r ≡ true) (pf : from ≡ min (t .at + 1) (length line)) (pu : u ≡ addOf line t from) where
-      next-is : u ≡ addNext line t
-      next-is = pu ∙ ap (addOf line t) pf
-
-      pub counting-turns : Counting line u
+    module _ {u : Totals} (e : startsWith (bytes ",") r ≡ true) (pu : u ≡ addNext line t) where
+      pub counting-turns : Counting line t₀ u
       counting-turns =
           record {
             is =
-                ap (totalsFrom line (length line)) next-is
+                ap (totalsFrom line (length line)) pu
                 ∙ sym (loop-on (λ (t : Totals). goesOn line (t .at)) (addNext line) (λ (t : Totals). length line - t .at) (add-falls line) (length line) t (omega arith) (goes e))
                 ∙ c .is;
           }
 
       pub counting-falls : length line - u .at < length line - t .at
-      counting-falls = let f = add-falls line t (goes e) in omega (arith, ap (λ (v : Totals). v .at) next-is)
+      counting-falls = let f = add-falls line t (goes e) in omega (arith, ap (λ (v : Totals). v .at) pu)

@@ -10,9 +10,10 @@ use Rattle.rules.specs.House.{one}
 use Rattle.numbers.specs.Shares.{largest}
 use Rattle.terms.specs.declared.Fault.{Fault}
 use Rattle.terms.specs.Faults.{fault, join}
+use Rattle.annotations.specs.declared.Parts.{Parts}
 use Rattle.annotations.specs.declared.Measured.{Measured}
 use Rattle.annotations.specs.Groups.{plus}
-use Rattle.annotations.specs.Measured.{measureOf}
+use Rattle.annotations.specs.Measured.{partsOf, measuredOf}
 use Rattle.reading.specs.declared.Totals.{Totals}
 use Rattle.reading.specs.Loops.{loop}
 
@@ -59,8 +60,12 @@ addedWith line t from m =
       at = min (from + m .len) (length line);
     }
 
+-- the annotation that begins at `from`, of which p was read
+abbrev pub addedBy : List ℕ → Totals → ℕ → Parts → Totals
+addedBy line t from p = addedWith line t from (measuredOf (drop from line) p)
+
 unfoldable pub addOf : List ℕ → Totals → ℕ → Totals
-addOf line t from = addedWith line t from (measureOf (t .annotations) (length line) (drop from line) (t .limit))
+addOf line t from = addedBy line t from (partsOf (t .annotations) (length line) (drop from line) (t .limit))
 
 -- a comma: one annotation more, behind it
 abbrev pub goesOn : List ℕ → ℕ → Bool
@@ -75,6 +80,13 @@ addNext line t = addOf line t (behindComma line (t .at))
 abbrev pub totalsFrom : List ℕ → ℕ → Totals → Totals
 totalsFrom line n t = loop (λ t. goesOn line (t .at)) (addNext line) n t
 
--- the empty line has no annotations
-unfoldable pub totalsOf : List ℕ → Totals
-totalsOf line = cond (eqb (length line) 0) nothing (totalsFrom line (length line) (addOf line nothing 0))
+-- the annotation that begins at `from`, read as the first of its line
+abbrev pub partsAt : List ℕ → ℕ → Parts
+partsAt line from = partsOf 0 (length line) (drop from line) (fault 0 0)
+
+-- of the first annotation, p was read; the empty line has no annotations
+unfoldable pub totalsBy : List ℕ → Parts → Totals
+totalsBy line p = cond (eqb (length line) 0) nothing (totalsFrom line (length line) (addedBy line nothing 0 p))
+
+abbrev pub totalsOf : List ℕ → Totals
+totalsOf line = totalsBy line (partsAt line 0)

@@ -1,12 +1,15 @@
 // A line read: measured, then stored. Document 01, "Numbers of refusal": reading tests 1; then 2 or 3; then 4 and 5; then 6; 7; 8.
+// What was read of the first annotation is handed on from measuring to storing: most lines have no other.
 ghost use mathlib.Core.Path.{_≡_};
 ghost use lib.ListN.{length};
 ghost use Rattle.shape.specs.Steps.{scannedBy};
-ghost use Rattle.reading.specs.Totals.{nothing, noted, summed, addOf, totalsOf};
+ghost use Rattle.reading.specs.Totals.{nothing, noted, summed, partsAt, addedBy, addNext, totalsBy};
 ghost use Rattle.reading.specs.Stores.{StoresNext, StoresLine};
 ghost use Rattle.reading.specs.Readings.{answered, firstOf, countsIn, refusedOf, ReadsSpelled, anyOver, readOf};
 use annotations::ONE;
+use annotations::Parts;
 use annotations::measure;
+use annotations::read_parts;
 use openings::ahead;
 use pages::Counts;
 use pages::Cursors;
@@ -100,16 +103,26 @@ fn sum_of(sum: u64, share: u64) -> u64
     sum + share
 }
 
-// One annotation more, which begins at a place.
-fn add(t: Totals, line: &[u8], from: usize) -> Totals
-    ensures { λ r. ⌜ r ≡ addOf (now (line .entry)) t from ⌝ }
+// The annotation that begins at a place, read as the first of its line: no limit was broken before it.
+fn read_at(line: &[u8], from: usize) -> Parts
+    ensures { λ r. ⌜ r ≡ partsAt (now (line .entry)) from ⌝ }
+{
+    let none = Fault {
+        number: 0,
+        place: 0,
+    };
+    read_parts(0, rest(line, from), line.len(), none)
+}
+
+// One annotation more, which begins at a place and was read.
+fn add(t: Totals, line: &[u8], from: usize, p: Parts) -> Totals
+    ensures { λ r. ⌜ r ≡ addedBy (now (line .entry)) t from p ⌝ }
 {
     let s = rest(line, from);
     let place = less(line.len(), s.len());
-    let limit = t.limit;
     let breach = t.breach;
     let excess = t.excess;
-    let m = measure(t.annotations, s, line.len(), limit);
+    let m = measure(s, p);
     let fault = m.fault;
     let sum = sum_of(t.sum, m.share);
     Totals {
@@ -127,17 +140,27 @@ fn add(t: Totals, line: &[u8], from: usize) -> Totals
     }
 }
 
-// All annotations of a line.
-fn total(line: &[u8]) -> Totals
-    ensures { λ r. ⌜ r ≡ totalsOf (now (line .entry)) ⌝ }
+// One annotation more, which begins behind a comma.
+fn add_next(t: Totals, line: &[u8]) -> Totals
+    ensures { λ r. ⌜ r ≡ addNext (now (line .entry)) t ⌝ }
+{
+    let limit = t.limit;
+    let from = ahead(t.at, 1, line.len());
+    let p = read_parts(t.annotations, rest(line, from), line.len(), limit);
+    add(t, line, from, p)
+}
+
+// All annotations of a line, of which the first was read.
+fn total(line: &[u8], first: Parts) -> Totals
+    ensures { λ r. ⌜ r ≡ totalsBy (now (line .entry)) first ⌝ }
 {
     let none = before_all();
     if line.len() < 1 {
         return none;
     }
-    let mut t = add(none, line, 0);
+    let mut t = add(none, line, 0, first);
     while begins_with(rest(line, t.at), b',') {
-        let more = add(t, line, ahead(t.at, 1, line.len()));
+        let more = add_next(t, line);
         t = more;
     }
     t
@@ -145,11 +168,11 @@ fn total(line: &[u8]) -> Totals
 
 // ---- storing
 
-// The annotation that begins at a place.
-fn store_next(out: &mut [u8], c: Cursors, line: &[u8], from: usize) -> Going
-    ensures { λ r. ⌜ StoresNext (now (line .entry)) from (now (out .entry)) c (now (out .exit)) r ⌝ }
+// The annotation that begins at a place and was read.
+fn store_next(out: &mut [u8], c: Cursors, line: &[u8], from: usize, p: Parts) -> Going
+    ensures { λ r. ⌜ StoresNext (now (line .entry)) from p (now (out .entry)) c (now (out .exit)) r ⌝ }
 {
-    let x = store(out, c, rest(line, from));
+    let x = store(out, c, rest(line, from), p);
     let cursors = x.cursors;
     Going {
         at: ahead(from, x.len, line.len()),
@@ -157,17 +180,19 @@ fn store_next(out: &mut [u8], c: Cursors, line: &[u8], from: usize) -> Going
     }
 }
 
-// All annotations of a line.
-fn store_all(out: &mut [u8], c: Cursors, line: &[u8])
-    ensures { λ r. ⌜ StoresLine (now (line .entry)) (now (out .entry)) c (now (out .exit)) ⌝ }
+// All annotations of a line, of which the first was read.
+fn store_all(out: &mut [u8], c: Cursors, line: &[u8], first: Parts)
+    ensures { λ r. ⌜ StoresLine (now (line .entry)) first (now (out .entry)) c (now (out .exit)) ⌝ }
 {
     if line.len() < 1 {
         return;
     }
-    let mut t = store_next(out, c, line, 0);
+    let mut t = store_next(out, c, line, 0, first);
     while begins_with(rest(line, t.at), b',') {
         let here = t.cursors;
-        let more = store_next(out, here, line, ahead(t.at, 1, line.len()));
+        let from = ahead(t.at, 1, line.len());
+        let p = read_at(line, from);
+        let more = store_next(out, here, line, from, p);
         t = more;
     }
 }
@@ -216,7 +241,8 @@ fn counts(t: Totals) -> Counts
 fn read_spelled(line: &[u8], out: &mut [u8]) -> Answer
     ensures { λ r. ⌜ ReadsSpelled (now (line .entry)) (now (out .entry)) (now (out .exit)) r ⌝ }
 {
-    let t = total(line);
+    let first = read_at(line, 0);
+    let t = total(line, first);
     let found = first_refusal(t);
     if found.number != 0 {
         return refuse(found.number, found.place);
@@ -227,7 +253,7 @@ fn read_spelled(line: &[u8], out: &mut [u8]) -> Answer
         return refuse(8, size);
     }
     let c = put_header(out, n);
-    store_all(out, c, line);
+    store_all(out, c, line, first);
     Answer {
         number: 0,
         place: 0,

@@ -1,0 +1,4 @@
+pub mod Rooms
+pub mod Spelling
+pub mod Short
+pub mod Answering

@@ -1,6 +1,13 @@
 // The relabel program of document 01, shared by `relabel` and `examples`: for each line of standard input its preferred spelling, or `!`, the
 // number of refusal, a space and the place. Lines end at line feeds, and the last may lack its own. What is read and written cannot be
-// stated; those functions are proved safe and ending. `lines::relabel_by` states what becomes of a line, and `put_told` what is printed.
+// stated: `relabel_lines` and `all` are proved safe and ending. `one_line` states what is answered to the line that was found.
+ghost use Prim.Native.Nat.{_+_, _≤_};
+ghost use mathlib.Core.Path.{_≡_};
+ghost use lib.ListN.{length, take, drop};
+ghost use Rattle.rules.specs.Limits.{maxLine};
+ghost use Rattle.shape.specs.Steps.{machineBytes};
+ghost use Rattle.relabels.specs.Answered.{Answered};
+ghost use Rattle.relabels.specs.Spelled.{maxTable, Within, Spelled};
 ghost use Rattle.relabels.specs.Told.{Told};
 use feeds::behind;
 use feeds::stretch;
@@ -35,7 +42,9 @@ pub fn relabel_lines() {
 }
 
 // Line after line, until none comes. A proved loop has to end, so it counts down from a number that no run uses up.
-fn all(machine: &[u8], buf: &mut [u8], out: &mut [u8], table: &mut [u8]) {
+fn all(machine: &[u8], buf: &mut [u8], out: &mut [u8], table: &mut [u8])
+    requires { ⌜ (now machine ≡ machineBytes) × (maxTable ≤ length (now table)) × (maxLine + 1 ≤ length (now out)) ⌝ }
+{
     let mut s = next_line(buf, out, Stream::begin());
     let mut turns = u64::MAX;
     while turns > 0 {
@@ -50,7 +59,10 @@ fn all(machine: &[u8], buf: &mut [u8], out: &mut [u8], table: &mut [u8]) {
 }
 
 // The line that was found is answered, behind the answers that wait; a line feed ends its own.
-fn one_line(machine: &[u8], buf: &[u8], out: &mut [u8], table: &mut [u8], s: Stream) -> Stream {
+fn one_line(machine: &[u8], buf: &[u8], out: &mut [u8], table: &mut [u8], s: Stream) -> Stream
+    requires { ⌜ (now machine ≡ machineBytes) × (maxTable ≤ length (now table)) × (maxLine + 1 ≤ length (now out)) ⌝ }
+    ensures { λ r. ⌜ Answered (take (s .len) (drop (s .from) (now (buf .entry)))) s (now (out .entry)) (now (out .exit)) r ⌝ }
+{
     let at = room(out, s.waiting, MAX_LINE + 1);
     let line = stretch(buf, s.from, s.len);
     let a = spell(machine, line, table, out, at);
@@ -60,17 +72,21 @@ fn one_line(machine: &[u8], buf: &[u8], out: &mut [u8], table: &mut [u8], s: Str
 
 // The preferred spelling at a place of the output. What is lent is cleared, and clearing all that any line might need would cost more than
 // reading most lines: so as much is lent as this line might need, its spelling being no longer than itself. That this suffices is not
-// proved; where it did not, all would be lent.
-fn spell(machine: &[u8], line: &[u8], table: &mut [u8], out: &mut [u8], at: usize) -> Answer {
+// proved: where it does not, all is lent. Either way the answer is proved to be the one that all would give.
+fn spell(machine: &[u8], line: &[u8], table: &mut [u8], out: &mut [u8], at: usize) -> Answer
+    requires { ⌜ (now machine ≡ machineBytes) × (maxTable ≤ length (now table)) × (at + maxLine ≤ length (now out)) ⌝ }
+    ensures { λ r. ⌜ Spelled (now (line .entry)) (now (out .entry)) at (now (out .exit)) r ⌝ }
+{
     let n = behind(line.len(), 0, MAX_LINE);
-    let a = spell_within(machine, line, table, FIXED + SHARE * n, out, at, n);
+    let few = behind(FIXED + SHARE * n, 0, TABLE);
+    let a = spell_within(machine, line, table, few, out, at, n);
     if a.number != 8 {
         return a;
     }
     spell_within(machine, line, table, TABLE, out, at, MAX_LINE)
 }
 
-// By a table of at most `bytes`, into at most `most` bytes of the output.
+// By a table of so many bytes, into so many bytes of the output.
 fn spell_within(
     machine: &[u8],
     line: &[u8],
@@ -79,11 +95,11 @@ fn spell_within(
     out: &mut [u8],
     at: usize,
     most: usize,
-) -> Answer {
-    let few = behind(bytes, 0, table.len());
-    let from = behind(at, 0, out.len());
-    let end = ahead(from, most, out.len());
-    relabel_by(machine, line, &mut table[..few], &mut out[from..end])
+) -> Answer
+    requires { ⌜ (bytes ≤ length (now table)) × (at + most ≤ length (now out)) ⌝ }
+    ensures { λ r. ⌜ Within (now (machine .entry)) (now (line .entry)) bytes (now (out .entry)) at most (now (out .exit)) r ⌝ }
+{
+    relabel_by(machine, line, &mut table[..bytes], &mut out[at..at + most])
 }
 
 // The place behind a spelling that stands at a place already, or behind the refusal that is put there.

@@ -1,11 +1,10 @@
 -- What is stored of an adduct that is spelled. Assumes nothing.
-use Prim.Native.Nat.{ℕ, _+_}
-use mathlib.Core.Path.{_≡_, refl, sym, subst}
+use Prim.Native.Nat.{ℕ}
+use mathlib.Core.Path.{_≡_, sym, subst}
 use mathlib.Core.Bool.{false}
 use mathlib.Core.List.{List, [], _∷_, _++_, map, append-assoc}
-use native.Mathlib.Omega.{arith}
 use lib.Dec.{T, eqb}
-use lib.ListN.{length, length-append}
+use lib.ListN.{length}
 use Rattle.lang.specs.Parts.{flat}
 use Rattle.lang.specs.Mark.{Kept, here, later}
 use Rattle.lang.specs.Order.{Perm, same, rising}
@@ -19,13 +18,11 @@ use Rattle.rules.specs.Preferred.{itemLe}
 use Rattle.rules.specs.Limits.{bare, rowPart, itemMarks, adductMarks}
 use Rattle.rules.specs.Stored.{stores, unitRecord, addedUnits, itemRecord}
 use Rattle.rules.proofs.Keeps.{kept-part}
-use Rattle.terms.proofs.Ends.{ends-apart}
-use Rattle.openings.proofs.Laws.{no-sign}
-use Rattle.pieces.proofs.Laws.{EndsPieces}
 use Rattle.pages.specs.Pages.{bytesOf}
 use Rattle.arrange.proofs.Laws.{ItemsStored, items-stored, items-no-text}
 use Rattle.arrange.proofs.Fits.{items-fit}
-use Rattle.store.specs.Events.{adductCount, adductSize, adductEvents}
+use Rattle.annotations.proofs.Adducts.{closed}
+use Rattle.store.specs.Events.{adductCount, adductEvents}
 
 -- the bytes s begin with the adduct xs; its items are stored in preferred order
 pub record AdductStored (xs : List (Item Written)) (s : List ℕ) : Type 0 where
@@ -33,20 +30,15 @@ pub record AdductStored (xs : List (Item Written)) (s : List ℕ) : Type 0 where
   pub same : Perm (map (itemMap filled) xs) ls
   pub rise : T (rising itemLe ls)
   pub n : adductCount s ≡ length (map (itemMap filled) xs)
-  pub size : adductSize s ≡ length (adductText xs)
   pub own : bytesOf 3 (adductEvents s) ≡ flat (λ x. stores (itemRecord x)) ls
   pub units : bytesOf 4 (adductEvents s) ≡ flat (λ u. stores (unitRecord u)) (flat (λ x. addedUnits (x .what)) ls)
   pub text : bytesOf 5 (adductEvents s) ≡ []
   pub others : (i : ℕ) → eqb i 3 ≡ false → eqb i 4 ≡ false → eqb i 5 ≡ false → bytesOf i (adductEvents s) ≡ []
 
--- `]` goes on with no item
-closed : (k : List ℕ) → EndsPieces (93 ∷ k)
-closed k = record { formula = ends-apart (93 ∷ k) refl; none = no-sign (93 ∷ k) refl .0 }
-
 pub adduct-stored : (xs : List (Item Written)) (k : List ℕ) (at : ℕ) → startsWith (bytes "[M") k ≡ false → Kept (adductMarks xs at) → AdductStored xs (adductText xs ++ k)
-unfolding adductCount adductSize adductEvents
+unfolding adductCount adductEvents
 adduct-stored [] k at e h =
-    record { ls = []; same = same; rise = tt; n = rw e; size = rw e; own = rw e; units = rw e; text = rw e; others = λ i p q r. rw e }
+    record { ls = []; same = same; rise = tt; n = rw e; own = rw e; units = rw e; text = rw e; others = λ i p q r. rw e }
 adduct-stored (x ∷ xs) k at e h =
     let ys = x ∷ xs in
     let w = flat itemText ys in
@@ -60,7 +52,6 @@ adduct-stored (x ∷ xs) k at e h =
       same = r .same;
       rise = r .rise;
       n = r .n;
-      size = omega (arith, r .len, length-append (w ++ bytes "]") k, length-append w (bytes "]"));
       own = r .own;
       units = r .units-are;
       text = items-no-text r;

@@ -1,11 +1,11 @@
 -- What is stored of an ion that is spelled. Assumes nothing.
-use Prim.Native.Nat.{ℕ, _≤_}
+use Prim.Native.Nat.{ℕ}
 use mathlib.Core.Path.{_≡_, refl, ap, _∙_}
 use mathlib.Core.List.{List, [], _∷_, _++_, append-nil}
 use native.Mathlib.Omega.{arith}
 use lib.ListN.{length, drop}
-use Rattle.lang.specs.Parts.{silent, written, items, flat, wordOf}
-use Rattle.lang.specs.Mark.{In, Kept, here, later, marksOf}
+use Rattle.lang.specs.Parts.{items, flat, wordOf}
+use Rattle.lang.specs.Mark.{Kept, here, later, marksOf}
 use Rattle.rules.specs.Bytes.{bytes}
 use Rattle.rules.specs.Formulas.{Written, FormulaUnit, plain, labelled, unitText}
 use Rattle.rules.specs.Ions.{Ion, series, internal, immonium, precursor, reference, named, composed, smiles, unknown, ionText, ionMap}
@@ -13,16 +13,17 @@ use Rattle.rules.specs.Fields.{filled}
 use Rattle.rules.specs.Limits.{maxPosition, maxCount, bare, optPart, numberPart, unitMarks, formulaPart, ionParts}
 use Rattle.rules.specs.Stored.{stores, unitRecord, kind, ionFields}
 use Rattle.rules.proofs.Keeps.{kept-tail, kept-part, row-each}
-use Rattle.rules.proofs.FitParts.{number-within}
+use Rattle.rules.proofs.FitParts.{number-within, filled-within}
 use Rattle.terms.specs.declared.Fault.{Fault}
 use Rattle.formulas.specs.Chains.{chain}
 use Rattle.formulas.specs.Records.{recordsOf}
-use Rattle.formulas.proofs.Chains.{AllOf, all-none, all-more}
 use Rattle.formulas.proofs.Laws.{UnitTold, records-read}
 use Rattle.pages.specs.Pages.{bytesOf}
 use Rattle.ions.proofs.Laws.{ionRead, ion-spelled-text, ion-spelled-formula}
+use Rattle.arrange.proofs.Fits.{all-in}
 use Rattle.store.specs.Events.{ionEvents}
-use Rattle.store.proofs.Numbers.{number-told, label-told}
+use Rattle.annotations.proofs.Ions.{told-within}
+use Rattle.store.proofs.Numbers.{label-told}
 
 -- ---- its fields
 
@@ -35,11 +36,11 @@ pub record IonStored (x : Ion Written) (g : Fault) : Type 0 where
 pub ion-stored : (x : Ion Written) (at : ℕ) (g : Fault) → Kept (marksOf at (ionParts x)) → IonStored x g
 ion-stored (series s n t) at g k =
     let p = kept-part at (ionParts (series s n t)) k (numberPart maxPosition n) (later here) in
-    record { kind = refl; letter = refl; position = number-told n (p .0) (p .1); end = refl }
+    record { kind = refl; letter = refl; position = told-within n (p .0) (p .1); end = refl }
 ion-stored (internal m n t) at g k =
     let p = kept-part at (ionParts (internal m n t)) k (numberPart maxPosition m) (later here) in
     let q = kept-part at (ionParts (internal m n t)) k (numberPart maxPosition n) (later (later (later here))) in
-    record { kind = refl; letter = refl; position = number-told m (p .0) (p .1); end = number-told n (q .0) (q .1) }
+    record { kind = refl; letter = refl; position = told-within m (p .0) (p .1); end = told-within n (q .0) (q .1) }
 ion-stored (immonium a m) at g k = record { kind = refl; letter = refl; position = refl; end = refl }
 ion-stored precursor at g k = record { kind = refl; letter = refl; position = refl; end = refl }
 ion-stored (reference n) at g k = record { kind = refl; letter = refl; position = refl; end = refl }
@@ -52,10 +53,6 @@ ion-stored (unknown n) at g k =
 
 -- ---- its units
 
-filled-within : (c : Written) (at : ℕ) → Kept (optPart (numberPart maxCount) c .marks at) → filled c .value ≤ maxCount
-filled-within silent at k = omega arith
-filled-within (written n) at k = number-within maxCount n at k
-
 unit-told : (i : ℕ) (u : FormulaUnit Written) (at : ℕ) → Kept (unitMarks i u at) → UnitTold u
 unit-told i (plain s c) at k =
     let count = optPart (numberPart maxCount) c in
@@ -66,10 +63,6 @@ unit-told i (labelled a s c) at k =
     let p = kept-part at ps (kept-tail k) (numberPart maxCount a) (later here) in
     let q = kept-part at ps (kept-tail k) (numberPart maxCount c) (later (later (later here))) in
     (omega (arith, number-within maxCount a (p .0) (p .1)), omega (arith, number-within maxCount c (q .0) (q .1)))
-
-all-in : {A : Type 0} (P : A → Type 0) (xs : List A) → ((x : A) → In x xs → P x) → AllOf P xs
-all-in P [] h = all-none
-all-in P (x ∷ xs) h = all-more (h x here) (all-in P xs (λ y i. h y (later i)))
 
 -- the records of its units, where it has any
 ion-records : (x : Ion Written) (k : List ℕ) (at : ℕ) (g : Fault) → Kept (marksOf at (ionParts x))

@@ -22,36 +22,40 @@ use Rattle.rules.specs.Limits.{part, ionParts, annotationParts, annotationMarks
 use Rattle.rules.specs.Stored.{stores, unitRecord, lossRecord, itemRecord, lostUnits, lostName, addedUnits, ionFields, isotopeRecords, annotationRecord, annotationUnits, annotationTexts}
 use Rattle.rules.proofs.Keeps.{kept-tail, kept-part}
 use Rattle.rules.proofs.Totals.{perm-length}
-use Rattle.puts.specs.Puts.{maxPlace}
+use Rattle.terms.specs.declared.Fault.{Fault}
 use Rattle.pages.specs.Pages.{Event, share, bytesOf}
 use Rattle.pages.specs.Fills.{Fills}
 use Rattle.pages.proofs.Events.{flat-append}
 use Rattle.pages.proofs.Fills.{fills-one}
 use Rattle.isotopes.specs.Records.{Filed, filedIsotopes}
-use Rattle.ions.proofs.Laws.{ionRead}
 use Rattle.arrange.specs.Gathered.{gathered}
 use Rattle.arrange.specs.Events.{noKeys, pieceEvents}
-use Rattle.annotations.proofs.Laws.{EndsAnnotation, first, second, third, text-is}
+use Rattle.annotations.specs.declared.Parts.{Parts}
+use Rattle.annotations.specs.Measured.{partsOf}
+use Rattle.annotations.proofs.Laws.{EndsAnnotation, first, second, text-is, parts-read}
 use Rattle.store.specs.declared.Rows.{Rows}
 use Rattle.store.specs.Records.{recordBytes}
 use Rattle.store.specs.Events.{ionEvents, adductCount, adductEvents, annotationEvents, annotationSize}
 use Rattle.store.proofs.Ions.{ion-units, ion-name}
-use Rattle.store.proofs.Records.{tableOf, record-stored}
-use Rattle.store.proofs.Rests.{isotopesOn, adductOn, noFault, ionSeen, frontSeen, tailSeen, ion-at, losses-are, isotopes-are, adduct-is}
+use Rattle.store.proofs.Records.{tableOf, seen, ionSeen, record-stored}
+use Rattle.store.proofs.Rests.{isotopesOn, adductOn, ion-at, losses-are, isotopes-are, adduct-is}
 use Rattle.store.proofs.Sections.{share-all, events-are, size-is}
 
--- what the bytes s that begin with an annotation store
-pub record StoresRead (a : Annotation Written) (s : List ℕ) : Type 0 where
+-- what the bytes s that begin with an annotation store, where p was read of them
+pub record StoresRead (a : Annotation Written) (s : List ℕ) (p : Parts) : Type 0 where
   pub table : Annotation Number
   pub says : Says a table
-  pub size : annotationSize s ≡ length (annotationText a)
-  pub fills : Fills (table ∷ []) (annotationEvents s)
+  pub size : annotationSize s p ≡ length (annotationText a)
+  pub fills : Fills (table ∷ []) (annotationEvents s p)
 
 both : (x y : Bool) → T x → T y → T (x && y)
 both true y p q = q
 both false y p q = p
 
-module _ (a : Annotation Written) (k : List ℕ) (e : EndsAnnotation k) (i at : ℕ) (kept : Kept (annotationMarks i a at)) where
+module _ (a : Annotation Written) (k : List ℕ) (nth end : ℕ) (f : Fault) (e : EndsAnnotation k) (i at : ℕ) (kept : Kept (annotationMarks i a at)) where
+  abbrev read : Parts
+  read = seen a k nth end f
+
   abbrev lost : List (Loss Number)
   lost = losses-are a k e i at kept .ls
 
@@ -73,7 +77,7 @@ module _ (a : Annotation Written) (k : List ℕ) (e : EndsAnnotation k) (i at : 
   -- ---- section by section
 
   abbrev ion : List Event
-  ion = ionEvents (drop (frontSeen a k .at) (first a k)) (frontSeen a k .ion)
+  ion = ionEvents (drop (read .front .at) (first a k)) (read .front .ion)
 
   abbrev losses : List Event
   losses = pieceEvents 1 (second a k)
@@ -88,19 +92,19 @@ module _ (a : Annotation Written) (k : List ℕ) (e : EndsAnnotation k) (i at : 
   rows = record { losses = length (gathered noKeys (second a k) .slots); isotopes = filedIsotopes (isotopesOn a k) .known .n; items = adductCount (adductOn a k) }
 
   abbrev own : List ℕ
-  own = recordBytes (frontSeen a k) (tailSeen a k) rows
+  own = recordBytes (read .front) (read .tail) rows
 
   -- by what each part gives to section j
   section : (j : ℕ) {x l y d : List ℕ} → bytesOf j ion ≡ x → bytesOf j losses ≡ l → share j (2, isotopes) ≡ y → bytesOf j adduct ≡ d
-      → bytesOf j (annotationEvents (first a k)) ≡ x ++ (l ++ (y ++ (d ++ (share j (0, own) ++ []))))
+      → bytesOf j (annotationEvents (first a k) read) ≡ x ++ (l ++ (y ++ (d ++ (share j (0, own) ++ []))))
   section j p q r t =
-      ap (bytesOf j) (events-are a k e i at kept) ∙ share-all j ion losses isotopes adduct own
+      ap (bytesOf j) (events-are a k nth end f e i at kept) ∙ share-all j ion losses isotopes adduct own
       ∙ (λ z. p z ++ (q z ++ (r z ++ (t z ++ (share j (0, own) ++ [])))))
 
-  ion-other : (j : ℕ) → bytesOf j (ionEvents (ionText (a .ion) ++ second a k) (ionRead (a .ion) (ionSeen a k))) ≡ bytesOf j ion
-  ion-other j = ap (λ (s : List ℕ). bytesOf j (ionEvents s (ionRead (a .ion) (ionSeen a k)))) (sym (ion-at a k e))
+  ion-other : (j : ℕ) → bytesOf j (ionEvents (ionText (a .ion) ++ second a k) (read .front .ion)) ≡ bytesOf j ion
+  ion-other j = ap (λ (s : List ℕ). bytesOf j (ionEvents s (read .front .ion))) (sym (ion-at a k))
 
-  annotations-are : bytesOf 0 (annotationEvents (first a k)) ≡ stores (annotationRecord table)
+  annotations-are : bytesOf 0 (annotationEvents (first a k) read) ≡ stores (annotationRecord table)
   unfolding ionEvents
   annotations-are =
       let l = losses-are a k e i at kept in
@@ -108,17 +112,17 @@ module _ (a : Annotation Written) (k : List ℕ) (e : EndsAnnotation k) (i at : 
       let n = l .n ∙ perm-length (l .same) in
       let m = x .n ∙ perm-length (x .same) in
       section 0 refl (l .others 0 refl refl refl) refl (x .others 0 refl refl refl) ∙ append-nil own
-      ∙ record-stored a k (length (first a k)) (length (third a k)) (noFault a k) (ionSeen a k) (noFault a k) i at kept rows lost added n
+      ∙ record-stored a k nth end f i at kept rows lost added n
       (ap (λ (w : Walked Filed). w .known .n) (isotopes-are a k e i at kept)) m
 
-  losses-section : bytesOf 1 (annotationEvents (first a k)) ≡ flat (λ l. stores (lossRecord l)) lost
+  losses-section : bytesOf 1 (annotationEvents (first a k) read) ≡ flat (λ l. stores (lossRecord l)) lost
   unfolding ionEvents
   losses-section =
       let l = losses-are a k e i at kept in
       let x = adduct-is a k e i at kept in
       section 1 refl (l .own) refl (x .others 1 refl refl refl) ∙ append-nil (flat (λ l. stores (lossRecord l)) lost)
 
-  isotopes-section : bytesOf 2 (annotationEvents (first a k)) ≡ flat (λ x. stores x) (isotopeRecords (isotopesMap filled (a .isotopes)))
+  isotopes-section : bytesOf 2 (annotationEvents (first a k) read) ≡ flat (λ x. stores x) (isotopeRecords (isotopesMap filled (a .isotopes)))
   unfolding ionEvents
   isotopes-section =
       let l = losses-are a k e i at kept in
@@ -126,41 +130,46 @@ module _ (a : Annotation Written) (k : List ℕ) (e : EndsAnnotation k) (i at : 
       section 2 refl (l .others 2 refl refl refl) (ap (λ (w : Walked Filed). w .known .bytes) (isotopes-are a k e i at kept)) (x .others 2 refl refl refl)
       ∙ append-nil (flat (λ x. stores x) (isotopeRecords (isotopesMap filled (a .isotopes))))
 
-  items-section : bytesOf 3 (annotationEvents (first a k)) ≡ flat (λ x. stores (itemRecord x)) added
+  items-section : bytesOf 3 (annotationEvents (first a k) read) ≡ flat (λ x. stores (itemRecord x)) added
   unfolding ionEvents
   items-section =
       let l = losses-are a k e i at kept in
       let x = adduct-is a k e i at kept in
       section 3 refl (l .others 3 refl refl refl) refl (x .own) ∙ append-nil (flat (λ x. stores (itemRecord x)) added)
 
-  units-section : bytesOf 4 (annotationEvents (first a k)) ≡ flat (λ u. stores (unitRecord u)) (annotationUnits table)
+  units-section : bytesOf 4 (annotationEvents (first a k) read) ≡ flat (λ u. stores (unitRecord u)) (annotationUnits table)
   units-section =
       let l = losses-are a k e i at kept in
       let x = adduct-is a k e i at kept in
       let p = kept-part at (annotationParts a) (kept-tail kept) (part (ionText (a .ion)) (λ at. marksOf at (ionParts (a .ion)))) (later (later here)) in
-      let f : FormulaUnit Number → List ℕ = λ u. stores (unitRecord u) in
+      let g : FormulaUnit Number → List ℕ = λ u. stores (unitRecord u) in
       let us = ionFields (ionMap filled (a .ion)) .units in
       let vs = flat (λ l. lostUnits (l .what)) lost in
       let ws = flat (λ x. addedUnits (x .what)) added in
-      section 4 (sym (ion-other 4) ∙ ion-units (a .ion) (second a k) (ionSeen a k) (p .0) (p .1)) (l .units-are) refl (x .units)
-      ∙ ap (λ (z : List ℕ). flat f us ++ z) (ap (λ (z : List ℕ). flat f vs ++ z) (append-nil (flat f ws)) ∙ sym (flat-append f vs ws)) ∙ sym (flat-append f us (vs ++ ws))
+      section 4 (sym (ion-other 4) ∙ ion-units (a .ion) (second a k) (ionSeen a k nth end f) (p .0) (p .1)) (l .units-are) refl (x .units)
+      ∙ ap (λ (z : List ℕ). flat g us ++ z) (ap (λ (z : List ℕ). flat g vs ++ z) (append-nil (flat g ws)) ∙ sym (flat-append g vs ws)) ∙ sym (flat-append g us (vs ++ ws))
 
-  text-section : bytesOf 5 (annotationEvents (first a k)) ≡ annotationTexts table
+  text-section : bytesOf 5 (annotationEvents (first a k) read) ≡ annotationTexts table
   text-section =
       let l = losses-are a k e i at kept in
       let x = adduct-is a k e i at kept in
-      section 5 (sym (ion-other 5) ∙ ion-name (a .ion) (second a k) (ionSeen a k)) (l .text) refl (x .text)
+      section 5 (sym (ion-other 5) ∙ ion-name (a .ion) (second a k) (ionSeen a k nth end f)) (l .text) refl (x .text)
       ∙ ap (λ (z : List ℕ). ionFields (ionMap filled (a .ion)) .text ++ z) (append-nil (flat (λ l. lostName (l .what)) lost))
 
-  first-stored : StoresRead a (first a k)
+  first-stored : StoresRead a (first a k) read
   first-stored =
       record {
         table = table;
         says = table-says;
-        size = size-is a k e i at kept;
+        size = size-is a k nth end f;
         fills = fills-one table annotations-are losses-section isotopes-section items-section units-section text-section;
       }
 
-pub store-read : (a : Annotation Written) (k : List ℕ) (i at : ℕ) → EndsAnnotation k → Kept (annotationMarks i a at) → length (annotationText a ++ k) ≤ maxPlace
-    → StoresRead a (annotationText a ++ k)
-store-read a k i at e kept h = subst (StoresRead a) (sym (text-is a k)) (first-stored a k e i at kept)
+-- whichever of a line it was read as, from whichever fault on: a fault is not stored
+pub store-read : (a : Annotation Written) (k : List ℕ) (nth end : ℕ) (f : Fault) (i at : ℕ) → EndsAnnotation k → Kept (annotationMarks i a at) → length (annotationText a ++ k) ≤ end
+    → StoresRead a (annotationText a ++ k) (partsOf nth end (annotationText a ++ k) f)
+store-read a k nth end f i at e kept h =
+    let t = text-is a k in
+    let g : length (first a k) ≤ end = subst (λ (s : List ℕ). length s ≤ end) t h in
+    subst (λ (s : List ℕ). StoresRead a s (partsOf nth end s f)) (sym t)
+    (subst (StoresRead a (first a k)) (parts-read a k nth end f e g) (first-stored a k nth end f e i at kept))

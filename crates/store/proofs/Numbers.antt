@@ -4,7 +4,6 @@ use mathlib.Core.Path.{_≡_, refl, ap, _∙_}
 use mathlib.Core.Bool.{Bool, true, false, cond, not}
 use mathlib.Core.List.{[], _∷_}
 use native.Mathlib.Omega.{arith}
-use lib.Dec.{T}
 use borrow.Author.Tests.{ne-eqb}
 use Rattle.lang.specs.Parts.{Opt, silent, written}
 use Rattle.lang.specs.Mark.{Kept, here, later}
@@ -13,25 +12,23 @@ use Rattle.rules.specs.Numbers.{From, Number}
 use Rattle.rules.specs.Decimals.{Decimal}
 use Rattle.rules.specs.Annotations.{Deviation, flagText}
 use Rattle.rules.specs.Preferred.{countOr1}
-use Rattle.rules.specs.Limits.{maxPosition, maxCharge, fits, bare, optPart, numberPart, decimalMark, decimalPart, analytePart, chargePart, deviationPart, confidencePart}
+use Rattle.rules.specs.Limits.{maxPosition, maxCharge, bare, optPart, numberPart, decimalPart, analytePart, chargePart, deviationPart, confidencePart}
 use Rattle.rules.specs.Stored.{little, flag, present, valueOr0, number, deviationKind, signed}
 use Rattle.rules.proofs.Keeps.{kept-part, not-past}
-use Rattle.rules.proofs.FitParts.{number-within}
 use Rattle.terms.specs.declared.Fault.{Fault}
 use Rattle.terms.proofs.Spelled.{told}
 use Rattle.tails.specs.declared.DecimalPart.{DecimalPart}
 use Rattle.tails.proofs.Laws.{chargeRead, kindRead, deviationRead, confidenceRead}
 use Rattle.ions.proofs.Told.{labelRead}
+use Rattle.annotations.proofs.Ions.{told-within}
+use Rattle.annotations.proofs.Rules.{fits-kept}
 use Rattle.store.specs.Records.{signedOf}
 
 -- ---- numbers
 
-pub number-told : (n : Number) (at : ℕ) → Kept (numberPart maxPosition n .marks at) → told (n .value) ≡ n .value
-number-told n at k = omega (arith, number-within maxPosition n at k)
-
 pub label-told : (n : Opt Number) (at : ℕ) → Kept (optPart (numberPart maxPosition) n .marks at) → labelRead n ≡ valueOr0 number n
 label-told silent at k = refl
-label-told (written n) at k = number-told n at k
+label-told (written n) at k = told-within n at k
 
 pub analyte-told : (n : Opt ℕ) (at : ℕ) → Kept (optPart analytePart n .marks at) → valueOr0 told n ≡ valueOr0 (λ n. n) n
 analyte-told silent at k = refl
@@ -42,13 +39,6 @@ charge-told silent at k = refl
 charge-told (written n) at k = omega (arith, not-past maxCharge (n .value) (λ b. k _ here b))
 
 -- ---- decimals
-
-fits-kept : (d : Decimal) (at : ℕ) → Kept (decimalMark d at) → fits d ≡ true
-fits-kept d at k = by (fits d) (λ t. k _ here t)
-  where
-    by : (b : Bool) → (T (not b) → ⊥) → b ≡ true
-    by true h = refl
-    by false h = absurd (h tt)
 
 -- 0 with a minus is 2 ^ 64, whose eight low bytes are those of 0
 signed-bytes : (minus : Bool) (v : ℕ) → little 8 (signedOf minus v) ≡ little 8 (signed minus v)

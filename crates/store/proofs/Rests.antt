@@ -1,4 +1,4 @@
--- What is read of an annotation that is spelled, and what is left behind each of its parts. Assumes nothing.
+-- What is stored of each part of an annotation that is spelled, and what is left behind it. Assumes nothing.
 use Prim.Native.Nat.{ℕ, _-_}
 use mathlib.Core.Path.{_≡_, sym, ap, _∙_}
 use mathlib.Core.List.{List, _++_, map, append-assoc}
@@ -18,19 +18,14 @@ use Rattle.rules.specs.Fields.{filled}
 use Rattle.rules.specs.Limits.{part, rowPart, lossMarks, isotopesMarks, adductMarks, annotationParts, annotationMarks}
 use Rattle.rules.specs.Stored.{stores, isotopeRecords}
 use Rattle.rules.proofs.Keeps.{kept-tail, kept-part}
-use Rattle.terms.specs.declared.Fault.{Fault}
-use Rattle.terms.specs.Faults.{fault}
 use Rattle.isotopes.specs.Records.{Filed, filedIsotopes}
 use Rattle.isotopes.proofs.Stores.{isotopes-stored, kept-told}
 use Rattle.arrange.proofs.Laws.{LossesStored, losses-stored}
 use Rattle.arrange.proofs.Fits.{losses-fit}
-use Rattle.annotations.specs.declared.Front.{Front}
-use Rattle.annotations.specs.declared.Tail.{Tail}
-use Rattle.annotations.proofs.Chains.{drop-is, drop-three}
-use Rattle.annotations.proofs.Laws.{EndsAnnotation, ionFault, prefixLength, front-read, tail-read, first, second, third, ends-middle, ends-ion, losses-ends, adduct-ends}
-use Rattle.store.specs.Events.{behindLosses, behindIsotopes, behindAdduct, frontHere, tailHere, s1}
+use Rattle.annotations.proofs.Chains.{drop-is}
+use Rattle.annotations.proofs.Laws.{EndsAnnotation, prefixLength, first, second, third, ends-middle, losses-ends, adduct-ends}
+use Rattle.store.specs.Events.{behindLosses, behindIsotopes}
 use Rattle.store.proofs.Adducts.{AdductStored, adduct-stored}
-use Rattle.store.proofs.Records.{front, tail}
 
 module _ (a : Annotation Written) (k : List ℕ) where
   -- the text behind the losses, and behind the isotopes
@@ -40,70 +35,39 @@ module _ (a : Annotation Written) (k : List ℕ) where
   abbrev pub adductOn : List ℕ
   adductOn = adductText (a .adduct) ++ third a k
 
-  abbrev pub noFault : Fault
-  noFault = fault 0 0
-
-  abbrev pub ionSeen : Fault
-  ionSeen = ionFault (a .marked) (a .analyte) (a .ion) (second a k) (length (first a k)) noFault
-
-  abbrev pub frontSeen : Front
-  frontSeen = front a k (length (first a k)) 0 noFault ionSeen noFault
-
-  abbrev pub tailSeen : Tail
-  tailSeen = tail a k 0 (length (third a k)) noFault noFault noFault
-
-  behind-prefix : drop (prefixLength (a .marked) (a .analyte)) (first a k) ≡ ionText (a .ion) ++ second a k
-  behind-prefix =
+  -- what is left behind the prefix
+  pub ion-at : drop (prefixLength (a .marked) (a .analyte)) (first a k) ≡ ionText (a .ion) ++ second a k
+  ion-at =
       let m = flagText (bytes "&") (a .marked) in
       let n = optText analyteText (a .analyte) in
       let t = ionText (a .ion) ++ second a k in
       ap (drop (prefixLength (a .marked) (a .analyte))) (sym (append-assoc m n t)) ∙ drop-is (m ++ n) t (sym (length-append m n))
 
-  module _ (e : EndsAnnotation k) where
-    pub front-is : frontHere (first a k) ≡ frontSeen
-    front-is =
-        front-read (a .marked) (a .analyte) (a .ion) (second a k) (length (first a k)) noFault
-        (ends-ion (a .charge) (a .deviation) (a .confidence) e (a .losses) (a .isotopes) (a .adduct)) (omega arith)
+  module _ (e : EndsAnnotation k) (i at : ℕ) (kept : Kept (annotationMarks i a at)) where
+    pub losses-are : LossesStored (map (lossMap filled) (a .losses)) (second a k) (length (flat lossText (a .losses)))
+    losses-are =
+        let p = kept-part at (annotationParts a) (kept-tail kept) (rowPart lossText lossMarks (a .losses)) (later (later (later here))) in
+        let m = ends-middle (a .charge) (a .deviation) (a .confidence) e in
+        losses-stored (a .losses) isotopesOn (losses-ends (a .losses) (a .isotopes) (a .adduct) (third a k) m) (losses-fit (a .losses) (p .0) (p .1))
 
-    pub ion-at : drop (frontSeen .at) (first a k) ≡ ionText (a .ion) ++ second a k
-    ion-at = behind-prefix
+    pub behind-losses : behindLosses (second a k) ≡ isotopesOn
+    behind-losses = drop-is (flat lossText (a .losses)) isotopesOn (losses-are .len)
 
-    pub behind-ion : s1 (first a k) ≡ second a k
-    behind-ion =
-        ap (λ (f : Front). drop (f .len) (first a k)) front-is
-        ∙ drop-three (flagText (bytes "&") (a .marked)) (optText analyteText (a .analyte)) (ionText (a .ion)) (second a k)
+    pub isotopes-are : filedIsotopes isotopesOn
+        ≡ record { rest = adductOn; known = record { n = length (isotopeRecords (isotopesMap filled (a .isotopes))); bytes = flat (λ r. stores r) (isotopeRecords (isotopesMap filled (a .isotopes))) } }
+    isotopes-are =
+        let p = kept-part at (annotationParts a) (kept-tail kept) (part (isotopesText (a .isotopes)) (isotopesMarks (a .isotopes))) (later (later (later (later here)))) in
+        let m = ends-middle (a .charge) (a .deviation) (a .confidence) e in
+        isotopes-stored (a .isotopes) adductOn (adduct-ends (a .losses) (a .isotopes) (a .adduct) (third a k) m) (kept-told (a .isotopes) (p .0) (p .1))
 
-    pub tail-is : tailHere (third a k) ≡ tailSeen
-    tail-is = tail-read (a .charge) (a .deviation) (a .confidence) k (length (third a k)) noFault e (omega arith)
+    pub behind-isotopes : behindIsotopes isotopesOn ≡ adductOn
+    behind-isotopes =
+        let z = ap (λ (w : Walked Filed). length (w .rest)) isotopes-are in
+        let n : length isotopesOn - length (filedIsotopes isotopesOn .rest) ≡ length (isotopesText (a .isotopes)) =
+        omega (arith, z, length-append (isotopesText (a .isotopes)) adductOn) in
+        drop-is (isotopesText (a .isotopes)) adductOn n
 
-    module _ (i at : ℕ) (kept : Kept (annotationMarks i a at)) where
-      pub losses-are : LossesStored (map (lossMap filled) (a .losses)) (second a k) (length (flat lossText (a .losses)))
-      losses-are =
-          let p = kept-part at (annotationParts a) (kept-tail kept) (rowPart lossText lossMarks (a .losses)) (later (later (later here))) in
-          let m = ends-middle (a .charge) (a .deviation) (a .confidence) e in
-          losses-stored (a .losses) isotopesOn (losses-ends (a .losses) (a .isotopes) (a .adduct) (third a k) m) (losses-fit (a .losses) (p .0) (p .1))
-
-      pub behind-losses : behindLosses (second a k) ≡ isotopesOn
-      behind-losses = drop-is (flat lossText (a .losses)) isotopesOn (losses-are .len)
-
-      pub isotopes-are : filedIsotopes isotopesOn
-          ≡ record { rest = adductOn; known = record { n = length (isotopeRecords (isotopesMap filled (a .isotopes))); bytes = flat (λ r. stores r) (isotopeRecords (isotopesMap filled (a .isotopes))) } }
-      isotopes-are =
-          let p = kept-part at (annotationParts a) (kept-tail kept) (part (isotopesText (a .isotopes)) (isotopesMarks (a .isotopes))) (later (later (later (later here)))) in
-          let m = ends-middle (a .charge) (a .deviation) (a .confidence) e in
-          isotopes-stored (a .isotopes) adductOn (adduct-ends (a .losses) (a .isotopes) (a .adduct) (third a k) m) (kept-told (a .isotopes) (p .0) (p .1))
-
-      pub behind-isotopes : behindIsotopes isotopesOn ≡ adductOn
-      behind-isotopes =
-          let z = ap (λ (w : Walked Filed). length (w .rest)) isotopes-are in
-          let n : length isotopesOn - length (filedIsotopes isotopesOn .rest) ≡ length (isotopesText (a .isotopes)) =
-          omega (arith, z, length-append (isotopesText (a .isotopes)) adductOn) in
-          drop-is (isotopesText (a .isotopes)) adductOn n
-
-      pub adduct-is : AdductStored (a .adduct) adductOn
-      adduct-is =
-          let p = kept-part at (annotationParts a) (kept-tail kept) (part (adductText (a .adduct)) (adductMarks (a .adduct))) (later (later (later (later (later here))))) in
-          adduct-stored (a .adduct) (third a k) (p .0) (ends-middle (a .charge) (a .deviation) (a .confidence) e .adduct) (p .1)
-
-      pub behind-adduct : behindAdduct adductOn ≡ third a k
-      behind-adduct = drop-is (adductText (a .adduct)) (third a k) (adduct-is .size)
+    pub adduct-is : AdductStored (a .adduct) adductOn
+    adduct-is =
+        let p = kept-part at (annotationParts a) (kept-tail kept) (part (adductText (a .adduct)) (adductMarks (a .adduct))) (later (later (later (later (later here))))) in
+        adduct-stored (a .adduct) (third a k) (p .0) (ends-middle (a .charge) (a .deviation) (a .confidence) e .adduct) (p .1)

@@ -1,4 +1,4 @@
--- What an annotation stores in each section, from the bytes that begin with it. Assumes nothing.
+-- What an annotation stores in each section, from the bytes that begin with it and what was read of them. Assumes nothing.
 use Prim.Native.Nat.{ℕ, _-_}
 use mathlib.Core.Path.{_≡_}
 use mathlib.Core.Bool.{cond}
@@ -6,20 +6,19 @@ use mathlib.Core.List.{List, [], _∷_, _++_}
 use lib.ListN.{length, take, drop}
 use Rattle.rules.specs.Bytes.{bytes}
 use Rattle.rules.specs.Texts.{startsWith}
-use Rattle.terms.specs.Faults.{fault}
 use Rattle.formulas.specs.Records.{recordsOf}
 use Rattle.pages.specs.declared.Cursors.{Cursors}
 use Rattle.pages.specs.Pages.{Event, Ran}
 use Rattle.ions.specs.declared.IonRead.{IonRead}
 use Rattle.isotopes.specs.Records.{filedIsotopes}
-use Rattle.arrange.specs.declared.Arranged.{Arranged}
 use Rattle.arrange.specs.Gathered.{gathered}
 use Rattle.arrange.specs.Events.{noKeys, pieceEvents}
 use Rattle.annotations.specs.declared.Front.{Front}
 use Rattle.annotations.specs.declared.Tail.{Tail}
-use Rattle.annotations.specs.Parts.{adductLen}
-use Rattle.annotations.specs.Groups.{before, frontOf, tailOf}
+use Rattle.annotations.specs.declared.Parts.{Parts}
+use Rattle.annotations.specs.Groups.{before}
 use Rattle.store.specs.declared.Rows.{Rows}
+use Rattle.store.specs.declared.Added.{Added}
 use Rattle.store.specs.declared.Stored.{Stored}
 use Rattle.store.specs.Records.{recordBytes}
 
@@ -32,15 +31,11 @@ ionEvents s x = (4, recordsOf (x .units) (drop (x .start) s)) ∷ (5, take (x .t
 unfoldable pub adductCount : List ℕ → ℕ
 adductCount s = cond (startsWith (bytes "[M") s) (length (gathered noKeys (drop 2 s) .slots)) 0
 
-unfoldable pub adductSize : List ℕ → ℕ
-adductSize s = cond (startsWith (bytes "[M") s) (adductLen (gathered noKeys (drop 2 s) .at) (length s)) 0
-
 unfoldable pub adductEvents : List ℕ → List Event
 adductEvents s = cond (startsWith (bytes "[M") s) (pieceEvents 3 (drop 2 s)) []
 
-pub record StoresAdduct (s d : List ℕ) (c : Cursors) (e : List ℕ) (r : Arranged) : Type 0 where
+pub record StoresAdduct (s d : List ℕ) (c : Cursors) (e : List ℕ) (r : Added) : Type 0 where
   pub n : r .n ≡ adductCount s
-  pub len : r .len ≡ adductSize s
   pub ran : Ran d c (adductEvents s) e (r .cursors)
 
 -- ---- the annotation, by what is left behind each of its parts
@@ -51,34 +46,22 @@ behindLosses s = drop (gathered noKeys s .at) s
 abbrev pub behindIsotopes : List ℕ → List ℕ
 behindIsotopes s = drop (length s - length (filedIsotopes s .rest)) s
 
-abbrev pub behindAdduct : List ℕ → List ℕ
-behindAdduct s = drop (adductSize s) s
-
--- s1 is left behind the ion, s2 behind the losses, s3 behind the isotopes, s4 behind the adduct
+-- s1 is left behind the ion, s2 behind the losses, s3 behind the isotopes
 abbrev pub eventsWith : List ℕ → List ℕ → List ℕ → List ℕ → Front → Tail → List Event
 eventsWith s s1 s2 s3 a b =
     let n : Rows = record { losses = length (gathered noKeys s1 .slots); isotopes = filedIsotopes s2 .known .n; items = adductCount s3 } in
     ionEvents (drop (a .at) s) (a .ion)
     ++ (pieceEvents 1 s1 ++ ((2, filedIsotopes s2 .known .bytes) ∷ (adductEvents s3 ++ ((0, recordBytes a b n) ∷ []))))
 
-abbrev pub frontHere : List ℕ → Front
-frontHere s = frontOf (length s) s (fault 0 0)
+abbrev pub s1 : List ℕ → Parts → List ℕ
+s1 s p = drop (p .front .len) s
 
-abbrev pub tailHere : List ℕ → Tail
-tailHere s = tailOf (length s) s (fault 0 0)
+unfoldable pub annotationEvents : List ℕ → Parts → List Event
+annotationEvents s p = eventsWith s (s1 s p) (behindLosses (s1 s p)) (behindIsotopes (behindLosses (s1 s p))) (p .front) (p .tail)
 
-abbrev pub s1 : List ℕ → List ℕ
-s1 s = drop (frontHere s .len) s
+unfoldable pub annotationSize : List ℕ → Parts → ℕ
+annotationSize s p = before s (drop (p .tail .len) (drop (p .middle .len) (s1 s p)))
 
-abbrev pub s4 : List ℕ → List ℕ
-s4 s = behindAdduct (behindIsotopes (behindLosses (s1 s)))
-
-unfoldable pub annotationEvents : List ℕ → List Event
-annotationEvents s = eventsWith s (s1 s) (behindLosses (s1 s)) (behindIsotopes (behindLosses (s1 s))) (frontHere s) (tailHere (s4 s))
-
-unfoldable pub annotationSize : List ℕ → ℕ
-annotationSize s = before s (drop (tailHere (s4 s) .len) (s4 s))
-
-pub record StoresAnnotation (s d : List ℕ) (c : Cursors) (e : List ℕ) (r : Stored) : Type 0 where
-  pub len : r .len ≡ annotationSize s
-  pub ran : Ran d c (annotationEvents s) e (r .cursors)
+pub record StoresAnnotation (s : List ℕ) (p : Parts) (d : List ℕ) (c : Cursors) (e : List ℕ) (r : Stored) : Type 0 where
+  pub len : r .len ≡ annotationSize s p
+  pub ran : Ran d c (annotationEvents s p) e (r .cursors)

@@ -1,16 +1,13 @@
-// One annotation, read from the rest of a line and stored at six cursors. Its limits were measured before: what its readers tell of them is not looked at.
+// One annotation, of which the parts were read, stored at six cursors. Its limits were measured before: what its readers tell of them is not looked at.
 ghost use mathlib.Core.Path.{_≡_};
 ghost use Rattle.puts.specs.Puts.{Put};
 ghost use Rattle.pages.specs.Pages.{Ran};
 ghost use Rattle.store.specs.Records.{signedOf, frontBytes, tailBytes, countBytes, recordBytes};
 ghost use Rattle.store.specs.Events.{ionEvents, StoresAdduct, StoresAnnotation};
 use annotations::Front;
+use annotations::Parts;
 use annotations::Tail;
-use annotations::adduct_len;
 use annotations::begins_adduct;
-use annotations::read_front;
-use annotations::read_tail;
-use arrange::Arranged;
 use arrange::store_pieces;
 use formulas::put_records;
 use ions::IonRead;
@@ -21,7 +18,6 @@ use pages::with_cursor;
 use puts::put_le;
 use puts::put_run;
 use puts::put8;
-use terms::Fault;
 use terms::less;
 use terms::rest;
 
@@ -30,6 +26,12 @@ pub struct Rows {
     pub losses: usize,
     pub isotopes: usize,
     pub items: usize,
+}
+
+// The adduct items that were stored, and the cursors behind them.
+pub struct Added {
+    pub n: usize,
+    pub cursors: Cursors,
 }
 
 // What was stored: how many bytes of the line, and the cursors behind it.
@@ -93,14 +95,23 @@ fn put_counts(out: &mut [u8], to: usize, x: IonRead, n: Rows) -> usize
     put8(out, t, 0)
 }
 
-// The record of an annotation, 36 bytes.
-fn put_annotation(out: &mut [u8], to: usize, a: Front, b: Tail, n: Rows) -> usize
+// The fields of an annotation's record.
+fn put_fields(out: &mut [u8], to: usize, a: Front, b: Tail, n: Rows) -> usize
     ensures { λ r. ⌜ Put (now (out .entry)) to (recordBytes a b n) (now (out .exit)) r ⌝ }
 {
     let x = a.ion;
     let p = put_front(out, to, a);
     let q = put_tail(out, p, b);
     put_counts(out, q, x, n)
+}
+
+// The record of an annotation, put in one piece: whether it fits is asked once, and not for each field.
+fn put_annotation(out: &mut [u8], to: usize, a: Front, b: Tail, n: Rows) -> usize
+    ensures { λ r. ⌜ Put (now (out .entry)) to (recordBytes a b n) (now (out .exit)) r ⌝ }
+{
+    let mut record = [0u8; 36];
+    put_fields(&mut record, 0, a, b, n);
+    put_run(out, to, &record)
 }
 
 // The units and the text of an ion that a part begins with; it has one of the two at most.
@@ -115,35 +126,25 @@ fn put_ion(out: &mut [u8], c: Cursors, s: &[u8], x: IonRead) -> Cursors
 }
 
 // The adduct items that a part begins with.
-fn store_adduct(out: &mut [u8], c: Cursors, s: &[u8]) -> Arranged
+fn store_adduct(out: &mut [u8], c: Cursors, s: &[u8]) -> Added
     ensures { λ r. ⌜ StoresAdduct (now (s .entry)) (now (out .entry)) c (now (out .exit)) r ⌝ }
 {
     if !begins_adduct(s) {
-        return Arranged {
-            n: 0,
-            len: 0,
-            cursors: c,
-        };
+        return Added { n: 0, cursors: c };
     }
     let x = store_pieces(out, c, 3, rest(s, 2));
     let cursors = x.cursors;
-    Arranged {
-        n: x.n,
-        len: adduct_len(x.len, s.len()),
-        cursors,
-    }
+    Added { n: x.n, cursors }
 }
 
-// The annotation that a part begins with.
-pub fn store(out: &mut [u8], c: Cursors, s: &[u8]) -> Stored
-    ensures { λ r. ⌜ StoresAnnotation (now (s .entry)) (now (out .entry)) c (now (out .exit)) r ⌝ }
+// The annotation that a part begins with, by what was read of it. Losses, isotopes and adduct were only counted then: they are read here, as they are stored.
+pub fn store(out: &mut [u8], c: Cursors, s: &[u8], p: Parts) -> Stored
+    ensures { λ r. ⌜ StoresAnnotation (now (s .entry)) p (now (out .entry)) c (now (out .exit)) r ⌝ }
 {
-    let none = Fault {
-        number: 0,
-        place: 0,
-    };
-    let a = read_front(s, s.len(), none);
+    let a = p.front;
     let x = a.ion;
+    let m = p.middle;
+    let b = p.tail;
     let c1 = put_ion(out, c, rest(s, a.at), x);
     let s1 = rest(s, a.len);
     let l = store_pieces(out, c1, 1, s1);
@@ -151,11 +152,8 @@ pub fn store(out: &mut [u8], c: Cursors, s: &[u8]) -> Stored
     let s2 = rest(s1, l.len);
     let y = store_isotopes(s2, out, cursor(c2, 2));
     let c3 = with_cursor(c2, 2, y.next);
-    let s3 = rest(s2, y.len);
-    let i = store_adduct(out, c3, s3);
+    let i = store_adduct(out, c3, rest(s2, y.len));
     let c4 = i.cursors;
-    let s4 = rest(s3, i.len);
-    let b = read_tail(s4, s4.len(), none);
     let n = Rows {
         losses: l.n,
         isotopes: y.n,
@@ -163,7 +161,7 @@ pub fn store(out: &mut [u8], c: Cursors, s: &[u8]) -> Stored
     };
     let next = put_annotation(out, cursor(c4, 0), a, b, n);
     Stored {
-        len: less(s.len(), rest(s4, b.len).len()),
+        len: less(s.len(), rest(rest(s1, m.len), b.len).len()),
         cursors: with_cursor(c4, 0, next),
     }
 }

@@ -1,4 +1,4 @@
-use Rattle.annotations.proofs.Parts.{adduct-apart, adduct-behind}
+use Rattle.annotations.proofs.Groups.{adduct-apart, adduct-behind}
 use Rattle.rules.specs.Bytes.{bytes}
 use Rattle.rules.specs.Texts.{startsWith}
 use borrow.Author.Tests.{not-true, not-false}
@@ -6,28 +6,19 @@ use mathlib.Core.Path.{sym, ap, _∙_}
 use borrow.Author.Needs.{needs}
 use Rattle.annotations.proofs.begins_adduct.Statement.{statement}
 use Rattle.annotations.proofs.begins_adduct.Tie as tie
-use Rattle.annotations.proofs.begins_adduct.Reads as reads
-use Rattle.annotations.proofs.begins_adduct.Lts as lts
-use Rattle.terms.proofs.begins_with.Reads as begins-with-reads
-use Rattle.terms.proofs.rest.Reads as rest-reads
 
--- src/lib.rt:131:9
 begins-with-requires : tie.Need-begins-with-requires
 begins-with-requires c κs = search needs
 
--- src/lib.rt:132:9
 returns : tie.Need-returns
 returns c = adduct-apart (c .before .before .before .args .s .now) (sym (c .before .begins-with .ensures) ∙ not-true _ (c .if1 .taken))
 
--- src/lib.rt:134:17
 rest-requires : tie.Need-rest-requires
 rest-requires c κs = search needs
 
--- src/lib.rt:134:5
 begins-with-requires-2 : tie.Need-begins-with-requires-2
 begins-with-requires-2 c κs = search needs
 
--- src/lib.rt:128:1
 returns-2 : tie.Need-returns-2
 returns-2 c = (c .begins-with2 .ensures) ∙ ap (startsWith (bytes "M")) (c .before .rest .ensures) ∙ adduct-behind (c .before .before .before .before .before .args .s .now) (sym (c .before .before .before .begins-with .ensures) ∙ not-false _ (c .before .before .if1 .left))
 

@@ -2,15 +2,11 @@ use Rattle.annotations.specs.House.{deviationRuleOf}
 use borrow.Author.Tests.{not-true, not-false}
 use Rattle.annotations.proofs.keeps_deviation_rule.Statement.{statement}
 use Rattle.annotations.proofs.keeps_deviation_rule.Tie as tie
-use Rattle.annotations.proofs.keeps_deviation_rule.Reads as reads
-use Rattle.annotations.proofs.keeps_deviation_rule.Lts as lts
 
--- src/lib.rt:231:9
 returns : tie.Need-returns
 unfolding deviationRuleOf
 returns c = rw (not-true (c .before .before .args .d .minus) (c .if1 .taken))
 
--- src/lib.rt:227:1
 returns-2 : tie.Need-returns-2
 unfolding deviationRuleOf
 returns-2 c = rw (not-false (c .before .before .before .args .d .minus) (c .before .if1 .left))

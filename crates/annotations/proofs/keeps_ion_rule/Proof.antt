@@ -2,25 +2,19 @@ use Rattle.annotations.specs.House.{ionRuleOf}
 use borrow.Author.Tests.{eq-eqb, ne-eqb, lt-leb, le-leb}
 use Rattle.annotations.proofs.keeps_ion_rule.Statement.{statement}
 use Rattle.annotations.proofs.keeps_ion_rule.Tie as tie
-use Rattle.annotations.proofs.keeps_ion_rule.Reads as reads
-use Rattle.annotations.proofs.keeps_ion_rule.Lts as lts
 
--- src/lib.rt:216:13
 returns : tie.Need-returns
 unfolding ionRuleOf
 returns c = rw (eq-eqb _ 2 (c .before .before .if1 .taken), lt-leb _ _ (c .if2 .taken))
 
--- src/lib.rt:218:9
 returns-2 : tie.Need-returns-2
 unfolding ionRuleOf
 returns-2 c = rw (eq-eqb _ 2 (c .before .before .before .if1 .taken), le-leb _ _ (c .before .if2 .left))
 
--- src/lib.rt:221:9
 returns-3 : tie.Need-returns-3
 unfolding ionRuleOf
 returns-3 c = rw (ne-eqb _ 2 (c .before .before .if1 .left), eq-eqb _ 8 (c .if3 .taken))
 
--- src/lib.rt:211:1
 returns-4 : tie.Need-returns-4
 unfolding ionRuleOf
 returns-4 c = rw (ne-eqb _ 2 (c .before .before .if1 .left), ne-eqb _ 8 (c .if3 .left))

@@ -1,35 +1,23 @@
-use Rattle.annotations.proofs.Parts.{front-is}
+use Rattle.annotations.proofs.Groups.{front-is}
 use borrow.Author.Needs.{needs}
 use Rattle.annotations.proofs.read_front.Statement.{statement}
 use Rattle.annotations.proofs.read_front.Tie as tie
-use Rattle.annotations.proofs.read_front.Reads as reads
-use Rattle.annotations.proofs.read_front.Lts as lts
-use Rattle.annotations.proofs.read_prefix.Reads as read-prefix-reads
-use Rattle.ions.proofs.ion.Reads as ion-reads
-use Rattle.terms.proofs.less.Reads as less-reads
-use Rattle.terms.proofs.rest.Reads as rest-reads
 
--- src/lib.rt:173:9
 read-prefix-requires : tie.Need-read-prefix-requires
 read-prefix-requires c κs = search needs
 
--- src/lib.rt:175:9
 rest-requires : tie.Need-rest-requires
 rest-requires c κs = search needs
 
--- src/lib.rt:176:9
 ion-requires : tie.Need-ion-requires
 ion-requires c κs = search needs
 
--- src/lib.rt:177:29
 rest-requires-2 : tie.Need-rest-requires-2
 rest-requires-2 c κs = search needs
 
--- src/lib.rt:177:9
 less-requires : tie.Need-less-requires
 less-requires c κs = search needs
 
--- src/lib.rt:170:1
 returns : tie.Need-returns
 returns c = front-is (c .before .before .before .before .before .before .before .args .end) (c .before .before .before .before .before .before .before .args .s .now) (c .before .before .before .before .before .before .before .args .f) (c .before .before .before .before .before .read-prefix .ensures) (c .before .before .before .rest .ensures) (c .before .before .ion .ensures) (c .before .rest2 .ensures) (c .less .ensures)
 

@@ -1,44 +1,29 @@
-use Rattle.annotations.proofs.Parts.{tail-is}
+use Rattle.annotations.proofs.Groups.{tail-is}
 use borrow.Author.Needs.{needs}
 use Rattle.annotations.proofs.read_tail.Statement.{statement}
 use Rattle.annotations.proofs.read_tail.Tie as tie
-use Rattle.annotations.proofs.read_tail.Reads as reads
-use Rattle.annotations.proofs.read_tail.Lts as lts
-use Rattle.tails.proofs.read_charge.Reads as read-charge-reads
-use Rattle.tails.proofs.read_confidence.Reads as read-confidence-reads
-use Rattle.tails.proofs.read_deviation.Reads as read-deviation-reads
-use Rattle.terms.proofs.less.Reads as less-reads
-use Rattle.terms.proofs.rest.Reads as rest-reads
 
--- src/lib.rt:195:9
 read-charge-requires : tie.Need-read-charge-requires
 read-charge-requires c κs = search needs
 
--- src/lib.rt:197:9
 rest-requires : tie.Need-rest-requires
 rest-requires c κs = search needs
 
--- src/lib.rt:198:9
 read-deviation-requires : tie.Need-read-deviation-requires
 read-deviation-requires c κs = search needs
 
--- src/lib.rt:200:9
 rest-requires-2 : tie.Need-rest-requires-2
 rest-requires-2 c κs = search needs
 
--- src/lib.rt:201:9
 read-confidence-requires : tie.Need-read-confidence-requires
 read-confidence-requires c κs = search needs
 
--- src/lib.rt:206:28
 rest-requires-3 : tie.Need-rest-requires-3
 rest-requires-3 c κs = search needs
 
--- src/lib.rt:206:14
 less-requires : tie.Need-less-requires
 less-requires c κs = search needs
 
--- src/lib.rt:192:1
 returns : tie.Need-returns
 returns c = tail-is (c .before .before .before .before .before .before .before .before .before .before .args .end) (c .before .before .before .before .before .before .before .before .before .before .args .s .now) (c .before .before .before .before .before .before .before .before .before .before .args .f) (c .before .before .before .before .before .before .before .before .read-charge .ensures) (c .before .before .before .before .before .before .rest .ensures) (c .before .before .before .before .before .read-deviation .ensures) (c .before .before .before .rest2 .ensures) (c .before .before .read-confidence .ensures) (c .before .rest3 .ensures) (c .less .ensures)
 

@@ -3,18 +3,13 @@ use mathlib.Core.Bool.{not}
 use Rattle.terms.proofs.Marks.{join-known, join-kept, join-broken}
 use Rattle.reading.proofs.note.Statement.{statement}
 use Rattle.reading.proofs.note.Tie as tie
-use Rattle.reading.proofs.note.Reads as reads
-use Rattle.reading.proofs.note.Lts as lts
 
--- src/lib.rt:77:9
 returns : tie.Need-returns
 returns c = sym (join-known _ _ (c .if1 .taken))
 
--- src/lib.rt:80:9
 returns-2 : tie.Need-returns-2
 returns-2 c = sym (join-kept _ _ (ap not (c .if2 .taken)))
 
--- src/lib.rt:73:1
 returns-3 : tie.Need-returns-3
 returns-3 c = sym (join-broken _ _ (c .before .if1 .left) (ap not (c .if2 .left)))
 

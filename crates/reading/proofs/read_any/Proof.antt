@@ -3,53 +3,37 @@ use Rattle.reading.proofs.Answered.{any-fine, any-short, any-stray}
 use borrow.Author.Needs.{needs}
 use Rattle.reading.proofs.read_any.Statement.{statement}
 use Rattle.reading.proofs.read_any.Tie as tie
-use Rattle.reading.proofs.read_any.Reads as reads
-use Rattle.reading.proofs.read_any.Lts as lts
-use Rattle.reading.proofs.read_spelled.Reads as read-spelled-reads
-use Rattle.reading.proofs.refuse.Reads as refuse-reads
-use Rattle.shape.proofs.scan_by.Reads as scan-by-reads
 
--- src/lib.rt:239:11
 scan-by-requires : tie.Need-scan-by-requires
 scan-by-requires c κs = search needs
 
--- src/lib.rt:240:45
 enum-told : tie.Need-enum-told
 enum-told c = search needs
 
--- src/lib.rt:240:26
 read-spelled-requires : tie.Need-read-spelled-requires
 read-spelled-requires c κs = search needs
 
--- src/lib.rt:241:37
 enum-told-2 : tie.Need-enum-told-2
 enum-told-2 c = search needs
 
--- src/lib.rt:241:27
 refuse-requires : tie.Need-refuse-requires
 refuse-requires c κs = search needs
 
--- src/lib.rt:242:24
 enum-known-place : tie.Need-enum-known-place
 enum-known-place c = search needs
 
--- src/lib.rt:242:34
 refuse-requires-2 : tie.Need-refuse-requires-2
 refuse-requires-2 c κs = search needs
 
--- src/lib.rt:236:1
 same-length : tie.Need-same-length
 same-length c = search needs
 
--- src/lib.rt:236:1
 returns : tie.Need-returns
 returns c = any-fine _ _ (sym (c .before .before .before .before .before .before .scan-by .ensures) ∙ c .before .before .before .before .enum-told .given .1) (c .before .before .read-spelled .ensures)
 
--- src/lib.rt:236:1
 returns-2 : tie.Need-returns-2
 returns-2 c = any-short _ _ (sym (c .before .before .before .scan-by .ensures) ∙ c .before .enum-told2 .given .1) (c .refuse .ensures)
 
--- src/lib.rt:236:1
 returns-3 : tie.Need-returns-3
 returns-3 c = any-stray _ _ (sym (c .before .before .before .before .scan-by .ensures) ∙ c .before .before .place .given .1) (c .refuse2 .ensures)
 

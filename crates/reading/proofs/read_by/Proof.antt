@@ -2,37 +2,25 @@ use Rattle.reading.proofs.Answered.{read-long, read-within}
 use borrow.Author.Needs.{needs}
 use Rattle.reading.proofs.read_by.Statement.{statement}
 use Rattle.reading.proofs.read_by.Tie as tie
-use Rattle.reading.proofs.read_by.Reads as reads
-use Rattle.reading.proofs.read_by.Lts as lts
-use Rattle.puts.proofs.clear.Reads as clear-reads
-use Rattle.reading.proofs.read_any.Reads as read-any-reads
-use Rattle.reading.proofs.refuse.Reads as refuse-reads
 
--- src/lib.rt:250:5
 clear-requires : tie.Need-clear-requires
 clear-requires c κs = search needs
 
--- src/lib.rt:252:9
 refuse-requires : tie.Need-refuse-requires
 refuse-requires c κs = search needs
 
--- src/lib.rt:252:9
 same-length : tie.Need-same-length
 same-length c = search needs
 
--- src/lib.rt:252:9
 returns : tie.Need-returns
 returns c = read-long _ _ _ (c .before .before .before .before .clear .ensures) (c .before .if1 .taken) (c .refuse .ensures)
 
--- src/lib.rt:254:5
 read-any-requires : tie.Need-read-any-requires
 read-any-requires c κs = search needs
 
--- src/lib.rt:247:1
 same-length-2 : tie.Need-same-length-2
 same-length-2 c = search needs
 
--- src/lib.rt:247:1
 returns-2 : tie.Need-returns-2
 returns-2 c = read-within _ _ _ (c .before .before .before .before .before .before .before .clear .ensures) (c .before .before .before .before .if1 .left) (c .before .before .read-any .ensures)
 

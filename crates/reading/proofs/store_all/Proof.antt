@@ -1,18 +1,12 @@
+use Rattle.reading.proofs.Storing.{Storing, storing-begins, storing-length, storing-falls, storing-turns, storing-ends, empty-stored}
 use Rattle.pages.proofs.Events.{ran-length}
+use lib.ListN.{length}
+use Prim.Native.Nat.{_-_}
 use mathlib.Core.Path.{sym, _∙_}
 use native.Mathlib.Omega.{arith}
 use borrow.Author.Needs.{needs}
-use Prim.Native.Nat.{_-_}
-use lib.ListN.{length}
-use Rattle.reading.proofs.Storing.{Storing, storing-begins, storing-length, storing-falls, storing-turns, storing-ends, empty-stored}
 use Rattle.reading.proofs.store_all.Statement.{statement}
 use Rattle.reading.proofs.store_all.Tie as tie
-use Rattle.reading.proofs.store_all.Reads as reads
-use Rattle.reading.proofs.store_all.Lts as lts
-use Rattle.reading.proofs.store_next.Reads as store-next-reads
-use Rattle.openings.proofs.ahead.Reads as ahead-reads
-use Rattle.terms.proofs.begins_with.Reads as begins-with-reads
-use Rattle.terms.proofs.rest.Reads as rest-reads
 
 abbrev Inv-loop : tie.InvT-loop
 Inv-loop out₀ line t₀ out t = Storing line out₀ t₀ out t
@@ -20,47 +14,39 @@ Inv-loop out₀ line t₀ out t = Storing line out₀ t₀ out t
 abbrev μ-loop : tie.MeasureT-loop
 μ-loop out₀ line t₀ out t = length line - t .at
 
--- src/lib.rt:171:9
 returns : tie.Need-returns Inv-loop μ-loop
-returns c = empty-stored _ _ _ (omega arith) (c .if1 .taken)
+returns c = empty-stored _ _ _ _ (omega arith) (c .if1 .taken)
 
--- src/lib.rt:173:9
 store-next-requires : tie.Need-store-next-requires Inv-loop μ-loop
 store-next-requires c κs = search needs
 
--- src/lib.rt:174:5
 loop-holds : tie.Need-loop-holds Inv-loop μ-loop
 loop-holds c = storing-begins _ _ (omega arith)
 
--- src/lib.rt:174:23
 rest-requires : tie.Need-rest-requires Inv-loop μ-loop
 rest-requires c κs = search needs
 
--- src/lib.rt:174:11
 begins-with-requires : tie.Need-begins-with-requires Inv-loop μ-loop
 begins-with-requires c κs = search needs
 
--- src/lib.rt:176:48
 ahead-requires : tie.Need-ahead-requires Inv-loop μ-loop
 ahead-requires c κs = search needs
 
--- src/lib.rt:176:13
+read-at-requires : tie.Need-read-at-requires Inv-loop μ-loop
+read-at-requires c κs = search needs
+
 store-next-requires-2 : tie.Need-store-next-requires-2 Inv-loop μ-loop
 store-next-requires-2 c κs = search needs
 
--- src/lib.rt:174:5
 loop-less : tie.Need-loop-less Inv-loop μ-loop
-loop-less c = storing-falls _ (c .before .before .before .before .before .before .before .before .before .loop .inv) (c .before .before .before .before .before .before .before .before .rest .ensures) (sym (c .before .before .before .before .before .before .before .begins-with .ensures) ∙ c .before .before .before .before .before .before .if2 .taken) (c .before .before .before .ahead .ensures) (c .before .before .store-next2 .ensures)
+loop-less c = storing-falls _ (c .before .before .before .before .before .before .before .before .before .before .loop .inv) (c .before .before .before .before .before .before .before .before .before .rest .ensures) (sym (c .before .before .before .before .before .before .before .before .begins-with .ensures) ∙ c .before .before .before .before .before .before .before .if2 .taken) (c .before .before .before .before .before .ahead .ensures) (c .before .before .before .before .read-at .ensures) (c .before .before .store-next2 .ensures)
 
--- src/lib.rt:174:5
 loop-again : tie.Need-loop-again Inv-loop μ-loop
-loop-again c = storing-turns _ (c .before .before .before .before .before .before .before .before .before .loop .inv) (c .before .before .before .before .before .before .before .before .rest .ensures) (sym (c .before .before .before .before .before .before .before .begins-with .ensures) ∙ c .before .before .before .before .before .before .if2 .taken) (c .before .before .before .ahead .ensures) (c .before .before .store-next2 .ensures)
+loop-again c = storing-turns _ (c .before .before .before .before .before .before .before .before .before .before .loop .inv) (c .before .before .before .before .before .before .before .before .before .rest .ensures) (sym (c .before .before .before .before .before .before .before .before .begins-with .ensures) ∙ c .before .before .before .before .before .before .before .if2 .taken) (c .before .before .before .before .before .ahead .ensures) (c .before .before .before .before .read-at .ensures) (c .before .before .store-next2 .ensures)
 
--- src/lib.rt:167:1
 same-length : tie.Need-same-length Inv-loop μ-loop
 same-length c = storing-length (c .before .before .before .loop .inv) ∙ ran-length (c .before .before .before .before .before .before .store-next .ensures .ran)
 
--- src/lib.rt:167:1
 returns-2 : tie.Need-returns-2 Inv-loop μ-loop
 returns-2 c = storing-ends _ (c .before .before .before .loop .inv) (c .before .before .rest .ensures) (c .before .before .before .before .before .before .before .before .if1 .left) (c .before .before .before .before .before .before .store-next .ensures) (sym (c .before .begins-with .ensures) ∙ c .if2 .left)
 
@@ -76,6 +62,7 @@ store-all-spec =
     rest-requires
     begins-with-requires
     ahead-requires
+    read-at-requires
     store-next-requires-2
     loop-less
     loop-again

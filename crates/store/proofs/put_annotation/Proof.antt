@@ -1,25 +1,35 @@
--- `store::put_annotation` meets its contract: one group of fields after the other. Assumes nothing.
-use Rattle.puts.proofs.Laws.{put-then}
+-- `store::put_annotation` meets its contract: the fields fill the record, which is then put. Assumes nothing.
+use Rattle.puts.proofs.Laws.{put-as, put-over}
+use Rattle.store.proofs.Steps.{record-long}
 use borrow.Author.Needs.{needs}
 use Rattle.store.proofs.put_annotation.Statement.{statement}
 use Rattle.store.proofs.put_annotation.Tie as tie
 
-put-front-requires : tie.Need-put-front-requires
-put-front-requires c κs = search needs
+slice-aggregate-put-fields : tie.Need-slice-aggregate-put-fields
+slice-aggregate-put-fields c = search needs
 
-put-tail-requires : tie.Need-put-tail-requires
-put-tail-requires c κs = search needs
+put-fields-requires : tie.Need-put-fields-requires
+put-fields-requires c κs = search needs
 
-put-counts-requires : tie.Need-put-counts-requires
-put-counts-requires c κs = search needs
+slice-aggregate-put-run : tie.Need-slice-aggregate-put-run
+slice-aggregate-put-run c = search needs
+
+put-run-requires : tie.Need-put-run-requires
+put-run-requires c κs = search needs
 
 same-length : tie.Need-same-length
 same-length c = search needs
 
 returns : tie.Need-returns
-returns c = put-then (c .before .before .before .before .before .before .before .before .before .before .put-front .ensures) (put-then (c .before .before .before .before .before .before .put-tail .ensures) (c .before .before .put-counts .ensures))
+returns c = put-as (c .before .before .put-run .ensures) (put-over (c .before .before .before .before .before .before .put-fields .ensures) (record-long _ _ _))
 
 pub put-annotation-spec : {M : Type 1} → statement M
 put-annotation-spec =
     tie.close
-    (tie.spec put-front-requires put-tail-requires put-counts-requires same-length returns)
+    (tie.spec
+    slice-aggregate-put-fields
+    put-fields-requires
+    slice-aggregate-put-run
+    put-run-requires
+    same-length
+    returns)

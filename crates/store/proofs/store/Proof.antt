@@ -7,9 +7,6 @@ use borrow.Author.Needs.{needs}
 use Rattle.store.proofs.store.Statement.{statement}
 use Rattle.store.proofs.store.Tie as tie
 
-read-front-requires : tie.Need-read-front-requires
-read-front-requires c κs = search needs
-
 rest-requires : tie.Need-rest-requires
 rest-requires c κs = search needs
 
@@ -40,17 +37,14 @@ rest-requires-4 c κs = search needs
 store-adduct-requires : tie.Need-store-adduct-requires
 store-adduct-requires c κs = search needs
 
-rest-requires-5 : tie.Need-rest-requires-5
-rest-requires-5 c κs = search needs
-
-read-tail-requires : tie.Need-read-tail-requires
-read-tail-requires c κs = search needs
-
 cursor-requires-2 : tie.Need-cursor-requires-2
 cursor-requires-2 c κs = search needs
 
 put-annotation-requires : tie.Need-put-annotation-requires
 put-annotation-requires c κs = search needs
+
+rest-requires-5 : tie.Need-rest-requires-5
+rest-requires-5 c κs = search needs
 
 rest-requires-6 : tie.Need-rest-requires-6
 rest-requires-6 c κs = search needs
@@ -62,16 +56,15 @@ with-cursor-requires-2 : tie.Need-with-cursor-requires-2
 with-cursor-requires-2 c κs = search needs
 
 same-length : tie.Need-same-length
-same-length c = put-length (c .before .before .before .before .before .put-annotation .ensures) ∙ ran-length (c .before .before .before .before .before .before .before .before .before .before .before .before .before .store-adduct .ensures .ran) ∙ put-length (c .before .before .before .before .before .before .before .before .before .before .before .before .before .before .before .before .before .before .before .store-isotopes .ensures .put) ∙ ran-length (c .before .before .before .before .before .before .before .before .before .before .before .before .before .before .before .before .before .before .before .before .before .before .before .before .before .before .store-pieces .ensures .ran) ∙ ran-length (c .before .before .before .before .before .before .before .before .before .before .before .before .before .before .before .before .before .before .before .before .before .before .before .before .before .before .before .before .before .before .before .put-ion .ensures)
+same-length c = put-length (c .before .before .before .before .before .before .put-annotation .ensures) ∙ ran-length (c .before .before .before .before .before .before .before .before .before .before .before .before .store-adduct .ensures .ran) ∙ put-length (c .before .before .before .before .before .before .before .before .before .before .before .before .before .before .before .before .before .before .store-isotopes .ensures .put) ∙ ran-length (c .before .before .before .before .before .before .before .before .before .before .before .before .before .before .before .before .before .before .before .before .before .before .before .before .before .store-pieces .ensures .ran) ∙ ran-length (c .before .before .before .before .before .before .before .before .before .before .before .before .before .before .before .before .before .before .before .before .before .before .before .before .before .before .before .before .before .before .put-ion .ensures)
 
 returns : tie.Need-returns
-returns c = annotation-stored (c .before .before .before .before .before .before .before .before .before .before .before .before .before .before .before .before .before .before .before .before .before .before .before .before .before .before .before .before .before .before .before .before .before .before .before .read-front .ensures) (c .before .before .before .before .before .before .before .before .before .before .before .before .before .before .before .before .before .before .before .before .before .before .before .before .before .before .before .before .before .before .before .before .rest .ensures) (c .before .before .before .before .before .before .before .before .before .before .before .before .before .before .before .before .before .before .before .before .before .before .before .before .before .before .before .before .before .before .before .put-ion .ensures) (c .before .before .before .before .before .before .before .before .before .before .before .before .before .before .before .before .before .before .before .before .before .before .before .before .before .before .before .before .rest2 .ensures) (c .before .before .before .before .before .before .before .before .before .before .before .before .before .before .before .before .before .before .before .before .before .before .before .before .before .before .store-pieces .ensures) (c .before .before .before .before .before .before .before .before .before .before .before .before .before .before .before .before .before .before .before .before .before .before .rest3 .ensures) (c .before .before .before .before .before .before .before .before .before .before .before .before .before .before .before .before .before .before .before .before .cursor .ensures) (c .before .before .before .before .before .before .before .before .before .before .before .before .before .before .before .before .before .before .before .store-isotopes .ensures) (c .before .before .before .before .before .before .before .before .before .before .before .before .before .before .before .before .with-cursor .ensures) (c .before .before .before .before .before .before .before .before .before .before .before .before .before .before .before .rest4 .ensures) (c .before .before .before .before .before .before .before .before .before .before .before .before .before .store-adduct .ensures) (c .before .before .before .before .before .before .before .before .before .rest5 .ensures) (c .before .before .before .before .before .before .before .before .read-tail .ensures) (c .before .before .before .before .before .before .cursor2 .ensures) (c .before .before .before .before .before .put-annotation .ensures) (c .with-cursor2 .ensures) (c .before .before .rest6 .ensures) (c .before .less .ensures)
+returns c = annotation-stored (c .before .before .before .before .before .before .before .before .before .before .before .before .before .before .before .before .before .before .before .before .before .before .before .before .before .before .before .before .before .before .before .rest .ensures) (c .before .before .before .before .before .before .before .before .before .before .before .before .before .before .before .before .before .before .before .before .before .before .before .before .before .before .before .before .before .before .put-ion .ensures) (c .before .before .before .before .before .before .before .before .before .before .before .before .before .before .before .before .before .before .before .before .before .before .before .before .before .before .before .rest2 .ensures) (c .before .before .before .before .before .before .before .before .before .before .before .before .before .before .before .before .before .before .before .before .before .before .before .before .before .store-pieces .ensures) (c .before .before .before .before .before .before .before .before .before .before .before .before .before .before .before .before .before .before .before .before .before .rest3 .ensures) (c .before .before .before .before .before .before .before .before .before .before .before .before .before .before .before .before .before .before .before .cursor .ensures) (c .before .before .before .before .before .before .before .before .before .before .before .before .before .before .before .before .before .before .store-isotopes .ensures) (c .before .before .before .before .before .before .before .before .before .before .before .before .before .before .before .with-cursor .ensures) (c .before .before .before .before .before .before .before .before .before .before .before .before .before .rest4 .ensures) (c .before .before .before .before .before .before .before .before .before .before .before .before .store-adduct .ensures) (c .before .before .before .before .before .before .before .cursor2 .ensures) (c .before .before .before .before .before .before .put-annotation .ensures) (c .with-cursor2 .ensures) (c .before .before .before .rest5 .ensures) (c .before .before .rest6 .ensures) (c .before .less .ensures)
 
 pub store-spec : {M : Type 1} → statement M
 store-spec =
     tie.close
     (tie.spec
-    read-front-requires
     rest-requires
     put-ion-requires
     rest-requires-2
@@ -82,10 +75,9 @@ store-spec =
     with-cursor-requires
     rest-requires-4
     store-adduct-requires
-    rest-requires-5
-    read-tail-requires
     cursor-requires-2
     put-annotation-requires
+    rest-requires-5
     rest-requires-6
     less-requires
     with-cursor-requires-2

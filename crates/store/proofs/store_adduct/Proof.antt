@@ -19,14 +19,11 @@ rest-requires c κs = search needs
 store-pieces-requires : tie.Need-store-pieces-requires
 store-pieces-requires c κs = search needs
 
-adduct-len-requires : tie.Need-adduct-len-requires
-adduct-len-requires c κs = search needs
-
 same-length : tie.Need-same-length
 same-length c = search needs
 
 returns-2 : tie.Need-returns-2
-returns-2 c = adduct-some (sym (c .before .before .before .before .before .before .before .before .begins-adduct .ensures) ∙ not-false _ (c .before .before .before .before .before .before .before .if1 .left)) (c .before .before .before .before .before .rest .ensures) (c .before .before .before .before .store-pieces .ensures) (c .adduct-len .ensures)
+returns-2 c = adduct-some (sym (c .before .before .before .before .before .before .before .begins-adduct .ensures) ∙ not-false _ (c .before .before .before .before .before .before .if1 .left)) (c .before .before .before .before .rest .ensures) (c .before .before .before .store-pieces .ensures)
 
 pub store-adduct-spec : {M : Type 1} → statement M
 store-adduct-spec =
@@ -36,6 +33,5 @@ store-adduct-spec =
     returns
     rest-requires
     store-pieces-requires
-    adduct-len-requires
     same-length
     returns-2)

@@ -26,10 +26,11 @@ use Rattle.annotations.specs.declared.PrefixRead.{PrefixRead}
 use Rattle.annotations.specs.declared.Front.{Front}
 use Rattle.annotations.specs.declared.Middle.{Middle}
 use Rattle.annotations.specs.declared.Tail.{Tail}
+use Rattle.annotations.specs.declared.Parts.{Parts}
 use Rattle.annotations.specs.Parts.{prefixOf, adductOf}
 use Rattle.annotations.specs.Groups.{frontOf, middleOf, tailOf}
 use Rattle.annotations.specs.House.{rulesOf, shareOf}
-use Rattle.annotations.specs.Measured.{measureOf}
+use Rattle.annotations.specs.Measured.{partsOf, measuredOf}
 
 -- ---- `[M`
 
@@ -70,21 +71,29 @@ module _ (end : ℕ) (s : List ℕ) (f : Fault) {t u v : List ℕ} {q : ℕ} whe
   unfolding tailOf
   tail-is pc pt pd pu pe pv pq = rw (← pc, ← pt, ← pd, ← pu, ← pe, ← pv, ← pq)
 
-  pub measure-is : (i : ℕ) {place : ℕ} {g : Fault} {a : Front} {m : Middle} {b : Tail} {n w share : ℕ} {kept : Bool} → place ≡ end - length s → g ≡ join f (manyMark maxAnnotations i place)
+module _ (end : ℕ) (s : List ℕ) (f : Fault) {t u : List ℕ} where
+  pub parts-are : (i : ℕ) {place : ℕ} {g : Fault} {a : Front} {m : Middle} {b : Tail} → place ≡ end - length s → g ≡ join f (manyMark maxAnnotations i place)
       → a ≡ frontOf end s g → t ≡ drop (a .len) s → m ≡ middleOf end t (a .ion .fault) → u ≡ drop (m .len) t → b ≡ tailOf end u (m .fault)
-      → share ≡ shareOf (b .confidence) → n ≡ min (a .ion .units + m .units) maxPlace → w ≡ min (a .ion .text + m .text) maxPlace
-      → kept ≡ rulesOf (a .ion) (m .items) (b .deviation) share → v ≡ drop (b .len) u → q ≡ length s - length v
-      → record {
-        losses = m .losses;
-        isotopes = m .isotopes;
-        items = m .items;
-        units = n;
-        text = w;
-        share = share;
-        kept = kept;
-        len = q;
-        fault = b .confidence .fault;
-      }
-      ≡ measureOf i end s f
-  unfolding measureOf
-  measure-is i pp pg pa pt pm pu pb ps pn pw pk pv pq = rw (← pp, ← pg, ← pa, ← pt, ← pm, ← pu, ← pb, ← ps, ← pn, ← pw, ← pk, ← pv, ← pq)
+      → record { front = a; middle = m; tail = b } ≡ partsOf i end s f
+  unfolding partsOf
+  parts-are i pp pg pa pt pm pu pb = rw (← pp, ← pg, ← pa, ← pt, ← pm, ← pu, ← pb)
+
+-- ---- what was read, measured
+
+pub measure-is : (s : List ℕ) (p : Parts) {t u v : List ℕ} {n w share q : ℕ} {kept : Bool} → share ≡ shareOf (p .tail .confidence) → t ≡ drop (p .front .len) s → u ≡ drop (p .middle .len) t
+    → n ≡ min (p .front .ion .units + p .middle .units) maxPlace → w ≡ min (p .front .ion .text + p .middle .text) maxPlace
+    → kept ≡ rulesOf (p .front .ion) (p .middle .items) (p .tail .deviation) share → v ≡ drop (p .tail .len) u → q ≡ length s - length v
+    → record {
+      losses = p .middle .losses;
+      isotopes = p .middle .isotopes;
+      items = p .middle .items;
+      units = n;
+      text = w;
+      share = share;
+      kept = kept;
+      len = q;
+      fault = p .tail .confidence .fault;
+    }
+    ≡ measuredOf s p
+unfolding measuredOf
+measure-is s p ps pt pu pn pw pk pv pq = rw (← ps, ← pt, ← pu, ← pn, ← pw, ← pk, ← pv, ← pq)

@@ -1,0 +1,53 @@
+-- `relabels::one_line` meets its contract. Assumes nothing.
+use lib.ListN.{length}
+use native.Mathlib.Omega.{arith}
+use Rattle.relabels.proofs.Answering.{answered-by}
+use Rattle.relabels.proofs.Short.{room-fits}
+use borrow.Author.Needs.{needs}
+use Rattle.relabels.proofs.one_line.Statement.{statement}
+use Rattle.relabels.proofs.one_line.Tie as tie
+
+add-room : tie.Need-add-room
+add-room c = search needs
+
+room-requires : tie.Need-room-requires
+room-requires c κs = search needs
+
+stretch-requires : tie.Need-stretch-requires
+stretch-requires c κs = search needs
+
+spell-requires : tie.Need-spell-requires
+spell-requires c κs = (c .before .before .before .before .before .before .before .before .before .pre .0, c .before .before .before .before .before .before .before .before .before .pre .1, omega (arith, c .before .before .before .room .ensures, room-fits (length (c .before .before .before .before .before .before .before .before .before .args .out .now)) (c .before .before .before .before .before .before .before .before .before .args .s .waiting) 4097 (c .before .before .before .before .before .before .before .before .before .pre .2)))
+
+put-told-requires : tie.Need-put-told-requires
+put-told-requires c κs = search needs
+
+put8-requires : tie.Need-put8-requires
+put8-requires c κs = search needs
+
+answered-requires : tie.Need-answered-requires
+answered-requires c κs = search needs
+
+same-length : tie.Need-same-length
+same-length c = search needs
+
+same-length-2 : tie.Need-same-length-2
+same-length-2 c = search needs
+
+returns : tie.Need-returns
+returns c = answered-by (c .before .before .before .before .before .before .before .before .before .before .before .before .before .before .before .before .before .room .ensures) (c .before .before .before .before .before .before .before .before .before .before .before .before .before .before .before .before .before .before .before .before .before .before .before .pre .2) (c .before .before .before .before .before .before .before .before .before .before .before .before .before .before .before .before .stretch .ensures) (c .before .before .before .before .before .before .before .before .before .before .out .given) (omega arith) (omega arith) (c .before .before .before .before .before .before .before .before .before .before .before .before .before .spell .ensures) (c .before .before .before .before .before .before .before .put-told .ensures) (c .before .before .before .put8 .ensures) (c .answered .ensures)
+
+pub one-line-spec : {M : Type 1} → statement M
+one-line-spec =
+    tie.close
+    (tie.spec
+    add-room
+    room-requires
+    stretch-requires
+    spell-requires
+    put-told-requires
+    put8-requires
+    answered-requires
+    same-length
+    same-length-2
+    returns)

@@ -1,0 +1,25 @@
+-- `store::put_fields` meets its contract: one group of fields after the other. Assumes nothing.
+use Rattle.puts.proofs.Laws.{put-then}
+use borrow.Author.Needs.{needs}
+use Rattle.store.proofs.put_fields.Statement.{statement}
+use Rattle.store.proofs.put_fields.Tie as tie
+
+put-front-requires : tie.Need-put-front-requires
+put-front-requires c κs = search needs
+
+put-tail-requires : tie.Need-put-tail-requires
+put-tail-requires c κs = search needs
+
+put-counts-requires : tie.Need-put-counts-requires
+put-counts-requires c κs = search needs
+
+same-length : tie.Need-same-length
+same-length c = search needs
+
+returns : tie.Need-returns
+returns c = put-then (c .before .before .before .before .before .before .before .before .before .before .put-front .ensures) (put-then (c .before .before .before .before .before .before .put-tail .ensures) (c .before .before .put-counts .ensures))
+
+pub put-fields-spec : {M : Type 1} → statement M
+put-fields-spec =
+    tie.close
+    (tie.spec put-front-requires put-tail-requires put-counts-requires same-length returns)
