@@ -3,3 +3,5 @@ pub mod Given
 pub mod Relabelled
 pub mod Right
 pub mod Back
+pub mod Small
+pub mod Enough

@@ -11,6 +11,10 @@ use Rattle.reading.specs.Readings.{readOf}
 use Rattle.writing.specs.Writings.{lineOver}
 use Rattle.lines.specs.Plain.{spellingOf}
 
+-- how many bytes the table of a line within its bound has at most
+abbrev pub maxTable : ℕ
+maxTable = 21340
+
 -- read into an output of tableRoom bytes, which are then `table`; what was read is written, or the refusal told again
 pub data Relabels (line : List ℕ) (tableRoom room : ℕ) : List ℕ → Answer → Type 0 where
   refused : {a : Answer} → Reads line tableRoom a → (a .number ≡ 0 → ⊥) → Relabels line tableRoom room (a .out) (refuses room (a .number) (a .place))

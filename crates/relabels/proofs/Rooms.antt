@@ -8,8 +8,9 @@ use lib.Seq.{take-append-seam}
 use Rattle.rules.specs.Lines.{Spelling}
 use Rattle.rules.specs.Limits.{maxLine}
 use Rattle.rules.specs.Answers.{Answer, refuses, gives, Delivers, no-room, done, Reads, ReadsSpelling, ReadsRules, ReadsSum, Writes}
-use Rattle.lines.specs.Relabels.{Relabels, refused, relabelled}
-use Rattle.relabels.specs.Spelled.{maxTable, Answers}
+use Rattle.lines.specs.Relabels.{maxTable, Relabels, refused, relabelled}
+use Rattle.lines.proofs.Enough.{relabel-enough}
+use Rattle.relabels.specs.Spelled.{Answers}
 
 -- ---- the same but for the zeros behind the result
 
@@ -95,13 +96,16 @@ relabels-roomy (relabelled r n w) = writes-roomy w
 
 -- ---- read and written
 
+pub answers-by : {line table : List ℕ} {a : Answer} → Relabels line maxTable maxLine table a → Answers line a
+answers-by {line} {table} r = record { table = table; relabels = r; enough = relabel-enough line r (omega arith) (omega arith) }
+
 module _ {line : List ℕ} {tableRoom room : ℕ} (wide : tableRoom ≤ maxTable) (large : room ≤ maxLine) where
   refused-also : {a : Answer} → Also (Reads line maxTable) a → (a .number ≡ 0 → ⊥) → Also (Answers line) (refuses room (a .number) (a .place))
   refused-also x n =
       let b = x .answer in
       record {
         answer = refuses maxLine (b .number) (b .place);
-        is = record { table = b .out; relabels = refused (x .is) (λ e. n (x .same .number ∙ e)) };
+        is = answers-by (refused (x .is) (λ e. n (x .same .number ∙ e)));
         same = record { number = x .same .number; place = x .same .place; size = refl; result = refl };
       }
 
@@ -109,7 +113,7 @@ module _ {line : List ℕ} {tableRoom room : ℕ} (wide : tableRoom ≤ maxTable
   relabelled-also x n y =
       let r = x .answer in
       let w = subst (λ (l : List ℕ). Writes l maxLine (y .answer)) (x .same .result) (y .is) in
-      record { answer = y .answer; is = record { table = r .out; relabels = relabelled (x .is) (sym (x .same .number) ∙ n) w }; same = y .same }
+      record { answer = y .answer; is = answers-by (relabelled (x .is) (sym (x .same .number) ∙ n) w); same = y .same }
 
   pub relabels-also : {table : List ℕ} {a : Answer} → Relabels line tableRoom room table a → (a .number ≡ 8 → ⊥) → Also (Answers line) a
   relabels-also (refused r n) h = refused-also (reads-also wide r h) n

@@ -10,10 +10,10 @@ use Rattle.puts.specs.Puts.{maxPlace}
 use Rattle.shape.specs.Steps.{machineBytes, scannedBy}
 use Rattle.reading.specs.declared.Answer.{Answer}
 use Rattle.reading.specs.Readings.{answered}
-use Rattle.lines.specs.Relabels.{Relabels, RelabelsBy}
+use Rattle.lines.specs.Relabels.{maxTable, Relabels, RelabelsBy}
 use Rattle.lines.proofs.Right.{relabel-made}
-use Rattle.relabels.specs.Spelled.{maxTable, Within, Answers, Spelled}
-use Rattle.relabels.proofs.Rooms.{Also, relabels-roomy, relabels-also}
+use Rattle.relabels.specs.Spelled.{Within, Answers, Spelled}
+use Rattle.relabels.proofs.Rooms.{Also, answers-by, relabels-roomy, relabels-also}
 
 -- what stood before a place already
 pub spelled-over : {line d₀ d e : List ℕ} {at : ℕ} {r : Answer} → take at d ≡ take at d₀ → Spelled line d at e r → Spelled line d₀ at e r
@@ -71,7 +71,7 @@ spelled-whole {r = r} fits made bytes short w =
     spelled-also fits w made (omega arith) bytes short
     (record {
       answer = answered r (w .part);
-      is = record { table = w .table; relabels = x };
+      is = answers-by x;
       same = record { number = refl; place = refl; size = refl; result = refl };
     })
 

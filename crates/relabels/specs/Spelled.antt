@@ -8,11 +8,7 @@ use Rattle.rules.specs.Answers as rules
 use Rattle.shape.specs.Steps.{scannedBy}
 use Rattle.reading.specs.declared.Answer.{Answer}
 use Rattle.reading.specs.Readings.{answered}
-use Rattle.lines.specs.Relabels.{Relabels, RelabelsBy}
-
--- how many bytes are lent for a table
-abbrev pub maxTable : ℕ
-maxTable = 21340
+use Rattle.lines.specs.Relabels.{maxTable, Relabels, RelabelsBy}
 
 -- output d is e, where room bytes at a place are the output of the answer, and all else is as it was
 pub record Within (machine line : List ℕ) (tableRoom : ℕ) (d : List ℕ) (at room : ℕ) (e : List ℕ) (r : Answer) : Type 0 where
@@ -21,10 +17,11 @@ pub record Within (machine line : List ℕ) (tableRoom : ℕ) (d : List ℕ) (at
   pub by : RelabelsBy (scannedBy machine line) line tableRoom room table (answered r part)
   pub made : e ≡ take at d ++ (part ++ drop (at + room) d)
 
--- an answer to a line, with so many bytes for its table and an output as long as a line may be
+-- an answer to a line, with as many bytes for its table as one may have and an output as long as a line may be: both suffice
 pub record Answers (line : List ℕ) (a : rules.Answer) : Type 0 where
   pub table : List ℕ
   pub relabels : Relabels line maxTable maxLine table a
+  pub enough : a .number ≡ 8 → ⊥
 
 -- output d is e, where the spelling that is answered stands at a place, and what stood before it is as it was
 pub record Spelled (line d : List ℕ) (at : ℕ) (e : List ℕ) (r : Answer) : Type 0 where

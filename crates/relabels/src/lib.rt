@@ -6,8 +6,9 @@ ghost use mathlib.Core.Path.{_≡_};
 ghost use lib.ListN.{length, take, drop};
 ghost use Rattle.rules.specs.Limits.{maxLine};
 ghost use Rattle.shape.specs.Steps.{machineBytes};
+ghost use Rattle.lines.specs.Relabels.{maxTable};
 ghost use Rattle.relabels.specs.Answered.{Answered};
-ghost use Rattle.relabels.specs.Spelled.{maxTable, Within, Spelled};
+ghost use Rattle.relabels.specs.Spelled.{Within, Spelled};
 ghost use Rattle.relabels.specs.Told.{Told};
 use feeds::behind;
 use feeds::stretch;
@@ -72,7 +73,8 @@ fn one_line(machine: &[u8], buf: &[u8], out: &mut [u8], table: &mut [u8], s: Str
 
 // The preferred spelling at a place of the output. What is lent is cleared, and clearing all that any line might need would cost more than
 // reading most lines: so as much is lent as this line might need, its spelling being no longer than itself. That this suffices is not
-// proved: where it does not, all is lent. Either way the answer is proved to be the one that all would give.
+// proved: where it does not, all is lent, which is proved to suffice. Either way the answer is proved to be the one that all would give,
+// and so never 8.
 fn spell(machine: &[u8], line: &[u8], table: &mut [u8], out: &mut [u8], at: usize) -> Answer
     requires { ⌜ (now machine ≡ machineBytes) × (maxTable ≤ length (now table)) × (at + maxLine ≤ length (now out)) ⌝ }
     ensures { λ r. ⌜ Spelled (now (line .entry)) (now (out .entry)) at (now (out .exit)) r ⌝ }
