@@ -1,6 +1,10 @@
 // The programs `reads` and `rooms`: lines of standard input are read, and each is answered by number, place and length, and the table
 // in hexadecimal digits, `-` where there is none. Lines end at line feeds, and the last may lack its own. What is read and written
-// cannot be stated; these functions are proved safe and ending.
+// cannot be stated: `answer_lines` and `all` are proved safe and ending. `one_line` states what is answered to the line that was found.
+ghost use mathlib.Core.Bool.{true};
+ghost use lib.ListN.{take, drop};
+ghost use Rattle.answers.specs.Answered.{Answered};
+ghost use Rattle.answers.specs.Reads.{ReadInto};
 use feeds::behind;
 use feeds::stretch;
 use numbers::read_number;
@@ -43,7 +47,7 @@ fn all(machine: &[u8], buf: &mut [u8], out: &mut [u8], table: &mut [u8], sized: 
     }
 }
 
-// The line that was found is answered.
+// The line that was found is answered, behind the answers that wait.
 fn one_line(
     machine: &[u8],
     buf: &[u8],
@@ -51,7 +55,9 @@ fn one_line(
     table: &mut [u8],
     s: Stream,
     sized: bool,
-) -> Stream {
+) -> Stream
+    ensures { λ r. ⌜ Answered (now (machine .entry)) (take (s .len) (drop (s .from) (now (buf .entry)))) sized s (now (table .entry)) (now (table .exit)) (now (out .entry)) (now (out .exit)) r ⌝ }
+{
     let at = room(out, s.waiting, ANSWER);
     let line = stretch(buf, s.from, s.len);
     let a = read_one(machine, line, table, sized);
@@ -59,15 +65,20 @@ fn one_line(
     s.answered(end)
 }
 
-fn read_one(machine: &[u8], line: &[u8], table: &mut [u8], sized: bool) -> Answer {
+// A line behind its number, or, where lines are not sized, all of it into the whole table.
+fn read_one(machine: &[u8], line: &[u8], table: &mut [u8], sized: bool) -> Answer
+    ensures { λ r. ⌜ ReadInto (now (machine .entry)) (now (line .entry)) sized (now (table .entry)) (now (table .exit)) r ⌝ }
+{
     if sized {
         return read_sized(machine, line, table);
     }
     read_by(machine, line, table)
 }
 
-// The line behind a number and a blank, into so many bytes.
-fn read_sized(machine: &[u8], asked: &[u8], table: &mut [u8]) -> Answer {
+// The line behind a number and a blank, into so many bytes, or into all where they are fewer.
+fn read_sized(machine: &[u8], asked: &[u8], table: &mut [u8]) -> Answer
+    ensures { λ r. ⌜ ReadInto (now (machine .entry)) (now (asked .entry)) true (now (table .entry)) (now (table .exit)) r ⌝ }
+{
     let n = read_number(asked);
     let line = stretch(stretch(asked, n.len, asked.len()), 1, asked.len());
     let bytes = behind(n.value as usize, 0, table.len());

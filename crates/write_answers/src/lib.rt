@@ -1,11 +1,18 @@
 // The programs `writes` and `write_rooms`: stored tables come from standard input, one a line in hexadecimal digits, and each is
 // answered by number, place and length, and its line in such digits, `-` where there is none or it is empty. Lines end at line feeds,
-// and the last may lack its own. What is read and written cannot be stated; these functions are proved safe and ending.
+// and the last may lack its own. What is read and written cannot be stated: `answer_tables` and `all` are proved safe and ending.
+// `one_table` states what is answered to the table that was found.
+ghost use mathlib.Core.Path.{_≡_};
+ghost use mathlib.Core.Bool.{true};
+ghost use lib.ListN.{length, take, drop};
+ghost use Rattle.reading.specs.Readings.{answered};
+ghost use Rattle.write_answers.specs.Answered.{hexOf, roomIn, answerTo, Written, Answered};
 use feeds::behind;
 use feeds::stretch;
 use hexes::is_hex;
 use hexes::put_unhexed;
 use numbers::read_number;
+use puts::clear;
 use reading::Answer;
 use reading::MAX_LINE;
 use reading::refuse;
@@ -58,7 +65,7 @@ fn all(
     }
 }
 
-// The table that was found is answered.
+// The table that was found is answered, behind the answers that wait.
 fn one_table(
     machine: &[u8],
     buf: &[u8],
@@ -67,7 +74,9 @@ fn one_table(
     line: &mut [u8],
     s: Stream,
     sized: bool,
-) -> Stream {
+) -> Stream
+    ensures { λ r. ⌜ Answered (answerTo (now (machine .entry)) sized (take (s .len) (drop (s .from) (now (buf .entry)))) (length (now (table .entry))) (length (now (line .entry)))) s (now (out .entry)) (now (out .exit)) r ⌝ }
+{
     let at = room(out, s.waiting, ANSWER);
     let asked = stretch(buf, s.from, s.len);
     let a = write_one(machine, asked, table, line, sized);
@@ -75,13 +84,10 @@ fn one_table(
     s.answered(end)
 }
 
-fn write_one(
-    machine: &[u8],
-    asked: &[u8],
-    table: &mut [u8],
-    line: &mut [u8],
-    sized: bool,
-) -> Answer {
+// What is asked, sized or not.
+fn write_one(machine: &[u8], asked: &[u8], table: &mut [u8], line: &mut [u8], sized: bool) -> Answer
+    ensures { λ r. ⌜ Written (roomIn sized (now (asked .entry)) (length (now (line .entry)))) (answerTo (now (machine .entry)) sized (now (asked .entry)) (length (now (table .entry))) (length (now (line .entry)))) (now (line .entry)) (now (line .exit)) r ⌝ }
+{
     if sized {
         return write_sized(machine, asked, table, line);
     }
@@ -89,16 +95,21 @@ fn write_one(
 }
 
 // The digits behind a number and a blank, into so many bytes.
-fn write_sized(machine: &[u8], asked: &[u8], table: &mut [u8], line: &mut [u8]) -> Answer {
+fn write_sized(machine: &[u8], asked: &[u8], table: &mut [u8], line: &mut [u8]) -> Answer
+    ensures { λ r. ⌜ Written (roomIn true (now (asked .entry)) (length (now (line .entry)))) (answerTo (now (machine .entry)) true (now (asked .entry)) (length (now (table .entry))) (length (now (line .entry)))) (now (line .entry)) (now (line .exit)) r ⌝ }
+{
     let n = read_number(asked);
     let digits = stretch(stretch(asked, n.len, asked.len()), 1, asked.len());
     let bytes = behind(n.value as usize, 0, line.len());
     write_hex(machine, digits, table, &mut line[..bytes])
 }
 
-// What no digits spell is no table.
-fn write_hex(machine: &[u8], digits: &[u8], table: &mut [u8], line: &mut [u8]) -> Answer {
+// What no digits spell is no table: the line holds zeros then, as it does after every refusal.
+fn write_hex(machine: &[u8], digits: &[u8], table: &mut [u8], line: &mut [u8]) -> Answer
+    ensures { λ r. ⌜ answered r (now (line .exit)) ≡ hexOf (now (machine .entry)) (now (digits .entry)) (length (now (table .entry))) (length (now (line .entry))) ⌝ }
+{
     if !is_hex(digits) {
+        clear(line);
         return refuse(9, 0);
     }
     let n = put_unhexed(table, 0, digits);

@@ -1,7 +1,8 @@
--- `answers::read_sized` is safe. Assumes nothing.
-use mathlib.Core.Path.{sym}
+-- `answers::read_sized` meets its contract. Assumes nothing.
+use mathlib.Core.Path.{sym, refl}
 use lib.Seq.{length-take-le}
 use borrow.Author.Needs.{needs}
+use Rattle.answers.proofs.Reading.{read-behind}
 use Rattle.answers.proofs.read_sized.Statement.{statement}
 use Rattle.answers.proofs.read_sized.Tie as tie
 
@@ -33,7 +34,9 @@ same-length : tie.Need-same-length
 same-length c = search needs
 
 returns : tie.Need-returns
-returns c = search needs
+returns c =
+    let a = c .before .before .before .before .before .before .before .before .before .before .before .before .args in
+    read-behind (a .asked .now) (a .table .now) _ _ (c .before .before .before .before .before .before .before .before .read-number .ensures) (c .before .before .before .before .before .before .before .stretch .ensures) (c .before .before .before .before .before .before .stretch2 .ensures) (c .before .before .before .before .behind .ensures) (c .before .before .read-by .ensures) (c .before .table .given .0) refl
 
 pub read-sized-spec : {M : Type 1} → statement M
 read-sized-spec =

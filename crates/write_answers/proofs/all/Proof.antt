@@ -52,7 +52,9 @@ loop-less : tie.Need-loop-less Inv-loop μ-loop
 loop-less c = search needs
 
 loop-again : tie.Need-loop-again Inv-loop μ-loop
-loop-again c = (omega arith, (omega arith, (omega arith, omega arith)))
+loop-again c =
+    let i = c .before .before .before .before .before .before .before .before .before .before .before .before .before .before .before .before .before .before .before .loop .inv .1 .1 in
+    (omega arith, (omega arith, (omega (arith, c .before .before .before .before .before .before .before .before .table .given, i .0), omega (arith, c .before .before .before .before .before .before .line .given, i .1))))
 
 same-length-5 : tie.Need-same-length-5 Inv-loop μ-loop
 same-length-5 c = omega arith

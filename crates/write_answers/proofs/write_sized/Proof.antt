@@ -1,5 +1,7 @@
--- `write_answers::write_sized` is safe. Assumes nothing.
-use mathlib.Core.Path.{sym}
+-- `write_answers::write_sized` meets its contract. Assumes nothing.
+use Rattle.write_answers.proofs.Answering.{written-sized}
+use mathlib.Core.Path.{sym, refl}
+use lib.ListN.{length}
 use lib.Seq.{length-take-le}
 use borrow.Author.Needs.{needs}
 use Rattle.write_answers.proofs.write_sized.Statement.{statement}
@@ -36,7 +38,10 @@ same-length-2 : tie.Need-same-length-2
 same-length-2 c = search needs
 
 returns : tie.Need-returns
-returns c = search needs
+returns c =
+    let a = c .before .before .before .before .before .before .before .before .before .before .before .before .before .before .before .before .args in
+    written-sized (a .machine .now) (a .asked .now) (length (a .table .now)) (c .before .before .before .before .before .before .before .before .before .before .before .read-number .ensures) (c .before .before .before .before .before .before .before .before .before .before .stretch .ensures) (c .before .before .before .before .before .before .before .before .before .stretch2 .ensures)
+    (c .before .before .before .before .before .before .before .behind .ensures) (search needs) (c .before .before .before .before .write-hex .ensures) refl
 
 pub write-sized-spec : {M : Type 1} → statement M
 write-sized-spec =

@@ -1,0 +1,42 @@
+-- `answers::one_line` meets its contract. Assumes nothing.
+use borrow.Author.Needs.{needs}
+use Rattle.answers.proofs.Answering.{answered-by}
+use Rattle.answers.proofs.one_line.Statement.{statement}
+use Rattle.answers.proofs.one_line.Tie as tie
+
+room-requires : tie.Need-room-requires
+room-requires c κs = search needs
+
+stretch-requires : tie.Need-stretch-requires
+stretch-requires c κs = search needs
+
+read-one-requires : tie.Need-read-one-requires
+read-one-requires c κs = search needs
+
+put-answer-requires : tie.Need-put-answer-requires
+put-answer-requires c κs = search needs
+
+answered-requires : tie.Need-answered-requires
+answered-requires c κs = search needs
+
+same-length : tie.Need-same-length
+same-length c = search needs
+
+same-length-2 : tie.Need-same-length-2
+same-length-2 c = search needs
+
+returns : tie.Need-returns
+returns c = answered-by (c .before .before .before .before .before .before .before .before .before .before .before .room .ensures) (c .before .before .before .before .before .before .before .before .before .before .stretch .ensures) (c .before .before .before .before .before .before .before .before .read-one .ensures) (c .before .before .before .put-answer .ensures) (c .answered .ensures)
+
+pub one-line-spec : {M : Type 1} → statement M
+one-line-spec =
+    tie.close
+    (tie.spec
+    room-requires
+    stretch-requires
+    read-one-requires
+    put-answer-requires
+    answered-requires
+    same-length
+    same-length-2
+    returns)

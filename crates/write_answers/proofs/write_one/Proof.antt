@@ -1,0 +1,47 @@
+-- `write_answers::write_one` meets its contract: sized, or not. Assumes nothing.
+use lib.ListN.{length}
+use Rattle.write_answers.proofs.Answering.{one-sized, one-plain}
+use borrow.Author.Needs.{needs}
+use Rattle.write_answers.proofs.write_one.Statement.{statement}
+use Rattle.write_answers.proofs.write_one.Tie as tie
+
+write-sized-requires : tie.Need-write-sized-requires
+write-sized-requires c κs = search needs
+
+same-length : tie.Need-same-length
+same-length c = search needs
+
+same-length-2 : tie.Need-same-length-2
+same-length-2 c = search needs
+
+returns : tie.Need-returns
+returns c =
+    let a = c .before .before .before .before .before .before .before .before .before .before .before .before .args in
+    one-sized (a .machine .now) (a .sized) (a .asked .now) (length (a .table .now)) (c .before .before .before .before .before .before .before .if1 .taken) (c .before .before .before .before .write-sized .ensures)
+
+write-hex-requires : tie.Need-write-hex-requires
+write-hex-requires c κs = search needs
+
+same-length-3 : tie.Need-same-length-3
+same-length-3 c = search needs
+
+same-length-4 : tie.Need-same-length-4
+same-length-4 c = search needs
+
+returns-2 : tie.Need-returns-2
+returns-2 c =
+    let a = c .before .before .before .before .before .before .before .before .before .before .before .before .args in
+    one-plain (a .machine .now) (a .sized) (a .asked .now) (length (a .table .now)) (c .before .before .before .before .before .before .before .if1 .left) (c .before .line2 .given) (c .before .before .before .before .write-hex .ensures)
+
+pub write-one-spec : {M : Type 1} → statement M
+write-one-spec =
+    tie.close
+    (tie.spec
+    write-sized-requires
+    same-length
+    same-length-2
+    returns
+    write-hex-requires
+    same-length-3
+    same-length-4
+    returns-2)
