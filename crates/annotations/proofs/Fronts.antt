@@ -33,7 +33,7 @@ module _ (m : Bool) (n : Opt ℕ) (x : Ion Written) (k : List ℕ) where
   abbrev pub frontText : List ℕ
   frontText = flagText (bytes "&") m ++ behindFlag
 
-  behind-prefix : drop (prefixLength m n) frontText ≡ ionText x ++ k
+  pub behind-prefix : drop (prefixLength m n) frontText ≡ ionText x ++ k
   behind-prefix =
       ap (drop (prefixLength m n)) (sym (append-assoc (flagText (bytes "&") m) (optText analyteText n) (ionText x ++ k)))
       ∙ drop-is (flagText (bytes "&") m ++ optText analyteText n) (ionText x ++ k) (sym (length-append (flagText (bytes "&") m) (optText analyteText n)))

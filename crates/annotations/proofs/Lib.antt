@@ -1,4 +1,5 @@
 pub mod Groups
+pub mod Nones
 pub mod Ends
 pub mod Chains
 pub mod Tails
@@ -13,5 +14,7 @@ pub mod Rules
 pub mod Sizes
 pub mod Wholes
 pub mod Readings
+pub mod Sized
 pub mod Spelled
 pub mod Laws
+pub mod Worded

@@ -1,10 +1,14 @@
 -- The parts of an annotation in three groups, each read behind the one before it. Assumes nothing.
 use Prim.Native.Nat.{ℕ, _+_, _-_, min}
+use mathlib.Core.Bool.{Bool, _||_}
 use mathlib.Core.List.{List}
 use lib.ListN.{length, drop}
+use Rattle.rules.specs.Bytes.{bytes}
+use Rattle.rules.specs.Texts.{startsWith}
 use Rattle.rules.specs.Limits.{maxLosses}
 use Rattle.puts.specs.Puts.{maxPlace}
 use Rattle.terms.specs.declared.Fault.{Fault}
+use Rattle.openings.specs.Heads.{beginsSign}
 use Rattle.ions.specs.declared.IonRead.{IonRead}
 use Rattle.ions.specs.Ions.{ionOf}
 use Rattle.pieces.specs.declared.Row.{Row}
@@ -42,6 +46,10 @@ unfoldable pub frontOf : ℕ → List ℕ → Fault → Front
 frontOf end s f = frontIn end s (prefixOf end s f)
 
 -- ---- losses, isotopes, adduct
+
+-- a sign, or the bracket of an adduct
+abbrev pub beginsMiddle : List ℕ → Bool
+beginsMiddle s = beginsSign s || startsWith (bytes "[") s
 
 -- t is left behind the losses, u behind the isotopes
 abbrev pub middleWith : List ℕ → List ℕ → Row → IsotopesRead → Row → Middle

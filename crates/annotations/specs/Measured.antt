@@ -47,3 +47,11 @@ measuredOf s p = measuredWith s (drop (p .middle .len) (drop (p .front .len) s))
 
 abbrev pub measureOf : ℕ → ℕ → List ℕ → Fault → Measured
 measureOf i end s f = measuredOf s (partsOf i end s f)
+
+-- ---- how far it goes
+
+abbrev pub behindIon : List ℕ → Parts → List ℕ
+behindIon s p = drop (p .front .len) s
+
+unfoldable pub annotationSize : List ℕ → Parts → ℕ
+annotationSize s p = before s (drop (p .tail .len) (drop (p .middle .len) (behindIon s p)))

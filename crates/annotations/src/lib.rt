@@ -3,7 +3,7 @@ ghost use mathlib.Core.Path.{_≡_};
 ghost use Rattle.rules.specs.Bytes.{bytes};
 ghost use Rattle.rules.specs.Texts.{startsWith};
 ghost use Rattle.annotations.specs.Parts.{flagOf, prefixOf, adductLen, adductOf};
-ghost use Rattle.annotations.specs.Groups.{frontOf, middleOf, tailOf};
+ghost use Rattle.annotations.specs.Groups.{frontOf, beginsMiddle, middleOf, tailOf};
 ghost use Rattle.annotations.specs.House.{ionRuleOf, deviationRuleOf, rulesOf, shareOf};
 ghost use Rattle.annotations.specs.Measured.{partsOf, measuredOf};
 use ions::IonRead;
@@ -14,6 +14,7 @@ use numbers::Decimal;
 use numbers::billionths;
 use numbers::read_number;
 use openings::ahead;
+use openings::begins_sign;
 use pieces::MAX_ITEMS;
 use pieces::MAX_LOSSES;
 use pieces::Row;
@@ -192,10 +193,32 @@ fn read_front(s: &[u8], end: usize, f: Fault) -> Front
     }
 }
 
+// Whether losses, isotopes or an adduct may stand where a part begins: each begins with a sign or a bracket.
+fn begins_middle(s: &[u8]) -> bool
+    ensures { λ r. ⌜ r ≡ beginsMiddle (now (s .entry)) ⌝ }
+{
+    if begins_sign(s) {
+        return true;
+    }
+    begins_with(s, b'[')
+}
+
 // Losses, isotopes, adduct.
 fn read_middle(s: &[u8], end: usize, f: Fault) -> Middle
     ensures { λ r. ⌜ r ≡ middleOf end (now (s .entry)) f ⌝ }
 {
+    // Most annotations have none of the three.
+    if !begins_middle(s) {
+        return Middle {
+            losses: 0,
+            isotopes: 0,
+            items: 0,
+            units: 0,
+            text: 0,
+            len: 0,
+            fault: f,
+        };
+    }
     let l = read_pieces(MAX_LOSSES, s, end, f);
     let g = l.fault;
     let t = rest(s, l.len);

@@ -1,7 +1,7 @@
 -- One loss, or adduct item, behind which stands no other: its slot is the only one, so that no key is looked at. Assumes nothing.
 use Prim.Native.Nat.{ℕ, _+_, min}
 use mathlib.Core.Path.{_≡_, refl, sym, ap, _∙_}
-use mathlib.Core.Bool.{true, false}
+use mathlib.Core.Bool.{Bool, true, false}
 use mathlib.Core.List.{List, append-nil}
 use native.Mathlib.Omega.{arith}
 use lib.ListN.{length, drop}
@@ -14,7 +14,7 @@ use Rattle.order.specs.declared.Slot.{Slot}
 use Rattle.pages.specs.declared.Cursors.{Cursors}
 use Rattle.pages.specs.Pages.{Ran}
 use Rattle.pages.proofs.Events.{ran-as}
-use Rattle.arrange.specs.Gathered.{Got, pieceHere, gatherOne, gotNone}
+use Rattle.arrange.specs.Gathered.{Got, pieceHere, gatherOne, gotNone, gathered}
 use Rattle.arrange.specs.Events.{slotEvents, noKeys, pieceEvents, StoresPieces}
 use Rattle.arrange.proofs.Gathers.{gathered-one, here-long, one-at}
 
@@ -38,18 +38,33 @@ module _ (keys s : List ℕ) where
   unfolding gatherOne slotEvents
   first-events j = append-nil (slotEvents j s firstSlot)
 
+-- what stands behind the first, as the code finds it
+pub behind : (s : List ℕ) {r : List ℕ} {x : Piece} {t : Bool} → x ≡ pieceHere s → r ≡ drop (x .len) s → beginsPiece r ≡ t
+    → beginsPiece (drop (pieceSize s) s) ≡ t
+behind s px pr z =
+    ap (λ (n : ℕ). beginsPiece (drop n s)) (sym (ap (λ (y : Piece). y .len) px ∙ here-long s)) ∙ ap beginsPiece (sym pr) ∙ z
+
+-- how many bytes are read where no other stands there
+pub alone-at : (s : List ℕ) {x : Piece} → beginsPiece s ≡ true → x ≡ pieceHere s → beginsPiece (drop (pieceSize s) s) ≡ false → x .len ≡ gathered noKeys s .at
+alone-at s b px last =
+    let m = size-moves s b in
+    omega (
+      arith,
+      ap (λ (y : Piece). y .len) px ∙ here-long s,
+      ap (λ (a : Got). a .at) (gathered-one noKeys s b last),
+      one-at (length s) (gotNone noKeys) s,
+    )
+
 pub stores-one : {s r d e : List ℕ} {j start : ℕ} {c k : Cursors} {x : Piece} → beginsPiece s ≡ true → x ≡ pieceHere s
     → r ≡ drop (x .len) s → beginsPiece r ≡ false → start ≡ min (0 + x .start) (length s) → Ran d c (slotEvents j s (keyless x start)) e k
     → StoresPieces s j d c e (record { n = 1; len = x .len; cursors = k })
 unfolding pieceEvents
 stores-one {s} {r} {j = j} {start} {x = x} b px pr z ps ran =
-    let m = size-moves s b in
-    let long : x .len ≡ pieceSize s = ap (λ (y : Piece). y .len) px ∙ here-long s in
-    let last : beginsPiece (drop (pieceSize s) s) ≡ false = ap (λ (n : ℕ). beginsPiece (drop n s)) (sym long) ∙ ap beginsPiece (sym pr) ∙ z in
+    let last = behind s px pr z in
     let all = gathered-one noKeys s b last in
     let slot : keyless x start ≡ firstSlot noKeys s = ap (keyless x) ps ∙ ap (λ (y : Piece). keyless y (min (0 + y .start) (length s))) px in
     record {
       n = sym (ap (λ (a : Got). length (a .slots)) all ∙ first-length noKeys s);
-      len = omega (arith, ap (λ (a : Got). a .at) all, one-at (length s) (gotNone noKeys) s);
+      len = alone-at s b px last;
       ran = ran-as ran (ap (slotEvents j s) slot ∙ sym (ap (λ (a : Got). flat (slotEvents j s) (a .slots)) all ∙ first-events noKeys s j));
     }

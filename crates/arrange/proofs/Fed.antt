@@ -153,13 +153,13 @@ module _ {m : ℕ} {j : ℕ} {all : List ℕ} where
         used = omega (arith, n .used, f .used, length-append ys (y ∷ []));
       }
 
-piece-size : {m : ℕ} (x : Spelled m) (k : List ℕ) → EndsFormula k → pieceSize (pieceText x ++ k) ≡ length (pieceText x)
+pub piece-size : {m : ℕ} (x : Spelled m) (k : List ℕ) → EndsFormula k → pieceSize (pieceText x ++ k) ≡ length (pieceText x)
 piece-size x k e =
     let s = pieceText x ++ k in
     piece-long 0 0 0 0 0 (length s) s (fault 0 0) (fault 0 0) ∙ ap (λ (p : Piece). p .len) (here-told x k e .1)
 
 -- what follows one of a row
-row-ends : {m : ℕ} (xs : List (Spelled m)) (k : List ℕ) → EndsFormula k → EndsFormula (flat pieceText xs ++ k)
+pub row-ends : {m : ℕ} (xs : List (Spelled m)) (k : List ℕ) → EndsFormula k → EndsFormula (flat pieceText xs ++ k)
 row-ends [] k e = e
 row-ends (x ∷ xs) k e = rw (append-assoc (pieceText x) (flat pieceText xs) k) (piece-ends x (flat pieceText xs ++ k))
 

@@ -101,13 +101,17 @@ unit-short i (labelled a s c) at k =
 
 -- ---- lists
 
-pub all-in : {A : Type 0} (P : A → Type 0) (xs : List A) → ((x : A) → In x xs → P x) → AllOf P xs
+all-in : {A : Type 0} (P : A → Type 0) (xs : List A) → ((x : A) → In x xs → P x) → AllOf P xs
 all-in P [] h = all-none
 all-in P (x ∷ xs) h = all-more (h x here) (all-in P xs (λ y i. h y (later i)))
 
 all-map : {A B : Type 0} (f : A → B) (P : B → Type 0) (xs : List A) → ((x : A) → In x xs → P (f x)) → AllOf P (map f xs)
 all-map f P [] h = all-none
 all-map f P (x ∷ xs) h = all-more (h x here) (all-map f P xs (λ y i. h y (later i)))
+
+-- units within the limits are read as they are
+pub units-told : (us : List (FormulaUnit Written)) (at : ℕ) → Kept (rowMarks unitText unitMarks 0 us at) → AllOf UnitTold us
+units-told us at k = all-in UnitTold us (λ u i. let c = row-each unitText unitMarks 0 us at k u i in unit-short (c .0) u (c .1) (c .2) .units)
 
 units-short : (us : List (FormulaUnit Written)) → ((u : FormulaUnit Written) → In u us → UnitShort u)
     → length (flat unitText (map (unitMap shortened) (map (unitMap filled) us))) ≤ 10 * length us

@@ -29,7 +29,7 @@ same-units x = omega (arith, length-map (x .more) (unitMap filled))
 
 -- ---- losses
 
-lost-key : (w : Lost Written) → whatKey (ofLost w) ≡ lostText (lostMap shortened (lostMap filled w))
+pub lost-key : (w : Lost Written) → whatKey (ofLost w) ≡ lostText (lostMap shortened (lostMap filled w))
 lost-key (lost-formula x) = refl
 lost-key (lost-name n) = refl
 
@@ -49,11 +49,11 @@ lost-name-is : (w : Lost Written) → whatName (ofLost w) ≡ lostName (lostMap 
 lost-name-is (lost-formula x) = refl
 lost-name-is (lost-name n) = refl
 
-loss-count : (c : Opt (From 2)) → countValue c ≡ countOr1 c
+pub loss-count : (c : Opt (From 2)) → countValue c ≡ countOr1 c
 loss-count silent = refl
 loss-count (written n) = refl
 
-loss-key : (l : Loss Written) → pieceKey (ofLoss l) ≡ lossKey (lossMap filled l)
+pub loss-key : (l : Loss Written) → pieceKey (ofLoss l) ≡ lossKey (lossMap filled l)
 loss-key l = ap₂ (λ (t : List ℕ) (n : ℕ). key t (l .sign) n) (lost-key (l .what)) (loss-count (l .count))
 
 loss-record : (l : Loss Written) → stores (pieceRecord (ofLoss l)) ≡ stores (lossRecord (lossMap filled l))
@@ -79,7 +79,7 @@ losses-stored xs k e h =
 
 -- ---- adduct items
 
-added-key : (w : Added Written) → whatKey (ofAdded w) ≡ addedText (addedMap shortened (addedMap filled w))
+pub added-key : (w : Added Written) → whatKey (ofAdded w) ≡ addedText (addedMap shortened (addedMap filled w))
 added-key (added-formula x) = refl
 added-key electron = refl
 
@@ -99,11 +99,11 @@ added-no-name : (w : Added Written) → whatName (ofAdded w) ≡ []
 added-no-name (added-formula x) = refl
 added-no-name electron = refl
 
-item-count : (c : Written) → countValue c ≡ filled c .value
+pub item-count : (c : Written) → countValue c ≡ filled c .value
 item-count silent = refl
 item-count (written n) = refl
 
-item-key : (x : Item Written) → pieceKey (ofItem x) ≡ itemKey (itemMap filled x)
+pub item-key : (x : Item Written) → pieceKey (ofItem x) ≡ itemKey (itemMap filled x)
 item-key x = ap₂ (λ (t : List ℕ) (n : ℕ). key t (x .sign) n) (added-key (x .what)) (item-count (x .count))
 
 item-record : (x : Item Written) → stores (pieceRecord (ofItem x)) ≡ stores (itemRecord (itemMap filled x))

@@ -2,9 +2,11 @@ pub mod Steps
 pub mod Grown
 pub mod Gathers
 pub mod Alone
+pub mod Spells
 pub mod Told
 pub mod Fed
 pub mod Sections
 pub mod Rows
 pub mod Laws
+pub mod Respelled
 pub mod Fits

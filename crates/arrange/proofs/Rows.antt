@@ -1,4 +1,4 @@
--- What is stored of a row of spelled things that are losses or adduct items. Assumes nothing.
+-- What is stored, and what is spelled anew, of a row of spelled things that are losses or adduct items. Assumes nothing.
 use Prim.Native.Nat.{ℕ, _<_}
 use mathlib.Core.Path.{_≡_, refl, sym, ap, ap₂, _∙_, subst}
 use mathlib.Core.Bool.{Bool, false, _&&_}
@@ -17,13 +17,15 @@ use Rattle.formulas.proofs.Chains.{flat-map}
 use Rattle.order.specs.declared.Slot.{Slot}
 use Rattle.order.specs.Slots.{slotKey}
 use Rattle.order.proofs.Arranged.{byKey, fed-arranged}
+use Rattle.heads.specs.Heads.{headText}
 use Rattle.pages.specs.Pages.{Event, bytesOf}
 use Rattle.pages.proofs.Events.{flat-append, bytes-each, bytes-none}
 use Rattle.pieces.proofs.Spelled.{Spelled, pieceText}
 use Rattle.pieces.proofs.Sums.{EndsPieces}
 use Rattle.arrange.specs.Gathered.{gathered}
 use Rattle.arrange.specs.Events.{slotEvents, noKeys, pieceEvents}
-use Rattle.arrange.proofs.Told.{whatUnits, pieceKey, pieceRecord, spelledEvents}
+use Rattle.arrange.specs.Spelled.{slotSpelled, manySpelled}
+use Rattle.arrange.proofs.Told.{whatUnits, pieceKey, pieceSpelled, pieceRecord, spelledEvents}
 use Rattle.arrange.proofs.Sections.{whatName, bytes-record, bytes-units, bytes-name, bytes-other}
 use Rattle.arrange.proofs.Fed.{Stands, fed-count, After, RowFits, gathered-fed}
 
@@ -51,10 +53,20 @@ flat-flat : {A B C : Type 0} (g : B → List C) (h : A → List B) (xs : List A)
 flat-flat g h [] = refl
 flat-flat g h (x ∷ xs) = ap (λ l. flat g (h x) ++ l) (flat-flat g h xs) ∙ sym (flat-append g (h x) (flat h xs))
 
+each-flat : {X A C : Type 0} (R : X → A → Type 0) (f : X → List C) (g : A → List C) → ((x : X) (a : A) → R x a → f x ≡ g a) → {xs : List X} {l : List A}
+    → Each R xs l → flat f xs ≡ flat g l
+each-flat R f g h none = refl
+each-flat R f g h (next {a = x} {b = a} r e) = ap₂ _++_ (h x a r) (each-flat R f g h e)
+
 -- the same of each member
-flat-each : {A B : Type 0} (f g : A → List B) → ((x : A) → f x ≡ g x) → (xs : List A) → flat f xs ≡ flat g xs
+pub flat-each : {A B : Type 0} (f g : A → List B) → ((x : A) → f x ≡ g x) → (xs : List A) → flat f xs ≡ flat g xs
 flat-each f g h [] = refl
 flat-each f g h (x ∷ xs) = ap₂ _++_ (h x) (flat-each f g h xs)
+
+-- the texts of things that are spelled so
+pub texts-of : {A : Type 0} {m : ℕ} (of : A → Spelled m) (text : A → List ℕ) → ((a : A) → text a ≡ pieceText (of a)) → (xs : List A)
+    → flat text xs ≡ flat pieceText (map of xs)
+texts-of of text text-of xs = flat-each text (λ a. pieceText (of a)) text-of xs ∙ flat-map pieceText of xs
 
 -- ---- what is stored
 
@@ -80,30 +92,36 @@ module _ {A B : Type 0} {m : ℕ} (of : A → Spelled m) (fill : A → B) (key :
   same-key : (all keys : List ℕ) (y : Slot) (a : A) → StandsAs all keys y a → slotKey keys y ≡ key (fill a)
   same-key all keys y a t = (λ i. map rank (t .text i) ++ (0 ∷ t .sign i ∷ t .count i ∷ [])) ∙ key-of a
 
-  each-events : (all keys : List ℕ) {ys : List Slot} {xs : List A} → Each (StandsAs all keys) ys xs → flat (slotEvents j all) ys ≡ flat (λ a. spelledEvents j (of a)) xs
-  each-events all keys none = refl
-  each-events all keys (next r e) = ap₂ _++_ (r .events) (each-events all keys e)
+  slot-spelled : (all keys : List ℕ) (y : Slot) (a : A) → StandsAs all keys y a → slotSpelled keys y ≡ pieceSpelled (of a)
+  unfolding slotSpelled
+  slot-spelled all keys y a t = λ i. headText (t .sign i) (t .count i) ++ t .text i
 
   -- what the slots hold, in their order
-  record Rowed (all : List ℕ) (xs : List A) : Type 0 where
-    list : List A
-    same : Perm xs list
-    rise : T (rising (byKey (λ a. key (fill a))) list)
-    n : length (gathered noKeys all .slots) ≡ length xs
-    events : pieceEvents j all ≡ flat (λ a. spelledEvents j (of a)) list
+  pub record Rowed (all : List ℕ) (xs : List A) : Type 0 where
+    pub list : List A
+    pub same : Perm (map fill xs) (map fill list)
+    pub rise : T (rising (byKey key) (map fill list))
+    pub n : length (gathered noKeys all .slots) ≡ length xs
+    pub events : pieceEvents j all ≡ flat (λ a. spelledEvents j (of a)) list
+    pub spelled : manySpelled all ≡ flat (λ a. pieceSpelled (of a)) list
 
-  rowed : {all : List ℕ} {at : ℕ} (xs : List A) → After j all (gathered noKeys all) (map of xs) at → Rowed all xs
-  unfolding pieceEvents
+  pub rowed : {all : List ℕ} {at : ℕ} (xs : List A) → After j all (gathered noKeys all) (map of xs) at → Rowed all xs
+  unfolding pieceEvents manySpelled
   rowed {all} xs z =
       let keys = gathered noKeys all .keys in
       let f = z .fed in
       let r = fed-arranged (λ a. key (fill a)) keys (StandsAs all keys) (same-key all keys) (each-unmap (Stands j all keys) of (z .read) xs (f .each)) in
       record {
         list = r .list;
-        same = r .same;
-        rise = r .rise;
+        same = perm-map fill (r .same);
+        rise = subst (λ (t : Bool). T t) (rising-map fill (byKey key) (r .list)) (r .rise);
         n = fed-count f ∙ each-length (f .each) ∙ length-map xs of;
-        events = ap (flat (slotEvents j all)) (f .slots) ∙ each-events all keys (r .stand);
+        events =
+            ap (flat (slotEvents j all)) (f .slots)
+            ∙ each-flat (StandsAs all keys) (slotEvents j all) (λ a. spelledEvents j (of a)) (λ y a t. t .events) (r .stand);
+        spelled =
+            ap (flat (slotSpelled keys)) (f .slots)
+            ∙ each-flat (StandsAs all keys) (slotSpelled keys) (λ a. pieceSpelled (of a)) (slot-spelled all keys) (r .stand);
       }
 
   module _ (h : j < 4) (fields : B → List Field) (units : B → List (FormulaUnit Number)) (name : B → List ℕ)
@@ -121,8 +139,8 @@ module _ {A B : Type 0} {m : ℕ} (of : A → Spelled m) (fill : A → B) (key :
         let f : A → List Event = λ a. spelledEvents j (of a) in
         record {
           ls = map fill l;
-          same = perm-map fill (r .same);
-          rise = subst (λ (t : Bool). T t) (rising-map fill (byKey key) l) (r .rise);
+          same = r .same;
+          rise = r .rise;
           n = r .n ∙ sym (length-map xs fill);
           len = z .at-is;
           own =
@@ -141,6 +159,5 @@ module _ {A B : Type 0} {m : ℕ} (of : A → Spelled m) (fill : A → B) (key :
     pub row-stored : (text : A → List ℕ) → ((a : A) → text a ≡ pieceText (of a)) → (xs : List A) (k : List ℕ) → EndsPieces k → RowFits (map of xs)
         → StoredRow (byKey key) fields units name j (map fill xs) (flat text xs ++ k) (length (flat text xs))
     row-stored text text-of xs k e fits =
-        let t : flat text xs ≡ flat pieceText (map of xs) = flat-each text (λ a. pieceText (of a)) text-of xs ∙ flat-map pieceText of xs in
-        subst (λ (s : List ℕ). StoredRow (byKey key) fields units name j (map fill xs) (s ++ k) (length s)) (sym t)
+        subst (λ (s : List ℕ). StoredRow (byKey key) fields units name j (map fill xs) (s ++ k) (length s)) (sym (texts-of of text text-of xs))
         (row-gathered xs (gathered-fed j (map of xs) k e fits))

@@ -56,6 +56,21 @@ module _ (j : ℕ) (s : List ℕ) (x : Slot) where
 
 -- ---- all slots
 
+module _ (slots : Slots) where
+  -- the first of those that are left
+  pub next-left : (x : Slot) (i : ℕ) → length (slots .at) ≡ 8 → i < slots .n → i < 8
+      → drop i (slotsOf slots) ≡ getD (slots .at) i x ∷ drop (i + 1) (slotsOf slots)
+  next-left x i o h m =
+      drop-cons (slotsOf slots) i x (omega (arith, length-take (slots .n) (slots .at)))
+      ∙ ap₂ (λ (y : Slot) (m : ℕ). y ∷ drop m (slotsOf slots)) (getD-take (slots .n) (slots .at) i x h) (sym (add-one i))
+
+  -- none is left of all, or of eight
+  pub none-left : {i : ℕ} → slots .n ≤ i → drop i (slotsOf slots) ≡ []
+  none-left {i} h = drop-of-length-le (slotsOf slots) {i = i} (omega (arith, length-take (slots .n) (slots .at)))
+
+  pub none-past : {i : ℕ} → length (slots .at) ≡ 8 → 8 ≤ i → drop i (slotsOf slots) ≡ []
+  none-past {i} o h = drop-of-length-le (slotsOf slots) {i = i} (omega (arith, length-take (slots .n) (slots .at)))
+
 module _ (j : ℕ) (s : List ℕ) (slots : Slots) where
   -- what is left to store of them
   abbrev pub slotsFrom : ℕ → List Event
@@ -72,21 +87,11 @@ module _ {j : ℕ} {s : List ℕ} {slots : Slots} {d : List ℕ} {c : Cursors} w
 
   pub slots-turn : (x : Slot) {e f : List ℕ} {k l : Cursors} {i : ℕ} → Storing j s slots d c e k i
       → i < slots .n → i < 8 → Ran e k (slotEvents j s (getD (slots .at) i x)) f l → Storing j s slots d c f l (i + 1)
-  slots-turn x {i = i} g h m a =
-      let n = slots .n in
-      let o = g .eight in
-      let y = getD (slots .at) i x in
-      let e : drop i (slotsOf slots) ≡ y ∷ drop (i + 1) (slotsOf slots) =
-      drop-cons (slotsOf slots) i x (omega (arith, length-take n (slots .at)))
-      ∙ ap₂ (λ (y : Slot) (m : ℕ). y ∷ drop m (slotsOf slots)) (getD-take n (slots .at) i x h) (sym (add-one i)) in
-      record { eight = o; going = more (g .going) a (ap (flat (slotEvents j s)) e) }
-
-  slots-end : {e : List ℕ} {k : Cursors} (i : ℕ) → Storing j s slots d c e k i → length (slotsOf slots) ≤ i → Ran d c (slotsEvents j s slots) e k
-  slots-end i g h = ends (g .going) (ap (flat (slotEvents j s)) (drop-of-length-le (slotsOf slots) {i = i} h))
+  slots-turn x {i = i} g h m a = record { eight = g .eight; going = more (g .going) a (ap (flat (slotEvents j s)) (next-left slots x i (g .eight) h m)) }
 
   -- all of them, or eight
   pub slots-all : {e : List ℕ} {k : Cursors} {i : ℕ} → Storing j s slots d c e k i → slots .n ≤ i → Ran d c (slotsEvents j s slots) e k
-  slots-all {i = i} g h = slots-end i g (omega (arith, length-take (slots .n) (slots .at)))
+  slots-all g h = ends (g .going) (ap (flat (slotEvents j s)) (none-left slots h))
 
   pub slots-eight : {e : List ℕ} {k : Cursors} {i : ℕ} → Storing j s slots d c e k i → 8 ≤ i → Ran d c (slotsEvents j s slots) e k
-  slots-eight {i = i} g h = let o = g .eight in slots-end i g (omega (arith, length-take (slots .n) (slots .at)))
+  slots-eight g h = ends (g .going) (ap (flat (slotEvents j s)) (none-past slots (g .eight) h))

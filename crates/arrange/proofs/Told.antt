@@ -16,6 +16,7 @@ use Rattle.rules.specs.Losses.{signText}
 use Rattle.rules.specs.Preferred.{signRank, key, shortened}
 use Rattle.rules.specs.Fields.{filled}
 use Rattle.rules.specs.Stored.{Field, u8, u16, stores, unitRecord}
+use Rattle.heads.specs.Heads.{headText}
 use Rattle.terms.specs.declared.Fault.{Fault}
 use Rattle.terms.specs.Faults.{fault}
 use Rattle.terms.proofs.Ends.{EndsFormula}
@@ -53,6 +54,10 @@ countValue (written n) = n .value
 
 abbrev pub pieceKey : {m : ℕ} → Spelled m → List ℕ
 pieceKey x = key (whatKey (x .what)) (x .sign) (countValue (x .count))
+
+-- as it is spelled anew
+abbrev pub pieceSpelled : {m : ℕ} → Spelled m → List ℕ
+pieceSpelled x = headText (signRank (x .sign)) (countValue (x .count)) ++ whatKey (x .what)
 
 -- what is stored of it in section j, and of its units or its name
 abbrev pub pieceRecord : {m : ℕ} → Spelled m → List Field

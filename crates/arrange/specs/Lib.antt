@@ -1,3 +1,4 @@
 pub mod Keys
 pub mod Gathered
 pub mod Events
+pub mod Spelled

@@ -1,13 +1,14 @@
-// Losses, or adduct items, stored in preferred order: read from the rest of a line into slots, and from the slots to the page.
-ghost use mathlib.Core.Path.{_≡_};
-ghost use lib.ListN.{take, drop};
+// Losses, or adduct items, in preferred order: read from the rest of a line into slots, and from the slots stored, or spelled anew.
 ghost use Rattle.puts.specs.Puts.{Put};
 ghost use Rattle.pages.specs.Pages.{Ran};
 ghost use Rattle.arrange.specs.Keys.{keyText};
 ghost use Rattle.arrange.specs.Gathered.{Grows, Gathers};
 ghost use Rattle.arrange.specs.Events.{slotRecord, slotEvents, slotsEvents, StoresPieces};
+ghost use Rattle.arrange.specs.Spelled.{slotSpelled, slotsSpelled, SpellsMany, SpellsPieces};
 use formulas::put_preferred;
 use formulas::put_records;
+use heads::Respelled;
+use heads::put_head;
 use openings::begins_piece;
 use order::Slot;
 use order::Slots;
@@ -21,6 +22,7 @@ use pieces::read_piece;
 use puts::put_le;
 use puts::put_run;
 use terms::Fault;
+use terms::part;
 use terms::rest;
 
 // Eight names of 255 bytes in their brackets: no keys of one annotation have more bytes.
@@ -38,17 +40,6 @@ pub struct Arranged {
     pub n: usize,
     pub len: usize,
     pub cursors: Cursors,
-}
-
-// The n bytes of a part that begin at a place, as far as they are there.
-pub fn part<'a>(s: &'a [u8], at: usize, n: usize) -> &'a [u8]
-    ensures { λ r. ⌜ now r ≡ take n (drop at (now (s .entry))) ⌝ }
-{
-    let t = rest(s, at);
-    if n < t.len() {
-        return &t[..n];
-    }
-    t
 }
 
 // The text of a loss or an adduct item by which it is put in order: preferred units, a name in its brackets, or `e`.
@@ -106,6 +97,8 @@ fn gather(s: &[u8], keys: &mut [u8]) -> Gathered
     }
     g
 }
+
+// ---- stored
 
 // The record of a loss or an adduct item: sign, kind, count, units or name bytes.
 fn put_slot_record(out: &mut [u8], to: usize, x: Slot) -> usize
@@ -201,5 +194,67 @@ pub fn store_pieces(out: &mut [u8], c: Cursors, j: usize, s: &[u8]) -> Arranged
         n: 1,
         len: x.len,
         cursors,
+    }
+}
+
+// ---- spelled anew
+
+// A loss or an adduct item in preferred spelling: the text by which it was put in order stands among the keys.
+fn spell_slot(out: &mut [u8], to: usize, keys: &[u8], x: Slot) -> usize
+    ensures { λ r. ⌜ Put (now (out .entry)) to (slotSpelled (now (keys .entry)) x) (now (out .exit)) r ⌝ }
+{
+    let at = put_head(out, to, x.sign, x.count);
+    put_run(out, at, part(keys, x.key, x.len))
+}
+
+// All slots.
+fn spell_slots(out: &mut [u8], to: usize, keys: &[u8], slots: Slots) -> usize
+    ensures { λ r. ⌜ Put (now (out .entry)) to (slotsSpelled (now (keys .entry)) slots) (now (out .exit)) r ⌝ }
+{
+    let at = slots.at;
+    let mut end = to;
+    let mut i: usize = 0;
+    while i < slots.n {
+        if 8 <= i {
+            return end;
+        }
+        let x = at[i];
+        end = spell_slot(out, end, keys, x);
+        i += 1;
+    }
+    end
+}
+
+// All losses, or adduct items, that a part begins with, however many.
+fn spell_many(out: &mut [u8], to: usize, s: &[u8]) -> Respelled
+    ensures { λ r. ⌜ SpellsMany (now (s .entry)) (now (out .entry)) to (now (out .exit)) r ⌝ }
+{
+    let mut keys = [0u8; KEYS];
+    let g = gather(s, &mut keys);
+    let slots = g.slots;
+    let end = spell_slots(out, to, &keys, slots);
+    Respelled { to: end, len: g.at }
+}
+
+// The same; one alone needs no key.
+pub fn spell_pieces(out: &mut [u8], to: usize, s: &[u8]) -> Respelled
+    ensures { λ r. ⌜ SpellsPieces (now (s .entry)) (now (out .entry)) to (now (out .exit)) r ⌝ }
+{
+    if !begins_piece(s) {
+        return Respelled { to, len: 0 };
+    }
+    let none = Fault {
+        number: 0,
+        place: 0,
+    };
+    let first = read_piece(0, 0, s, s.len(), none);
+    if begins_piece(rest(s, first.len)) {
+        return spell_many(out, to, s);
+    }
+    let at = put_head(out, to, first.sign, first.count);
+    let end = put_key(out, at, s, first);
+    Respelled {
+        to: end,
+        len: first.len,
     }
 }

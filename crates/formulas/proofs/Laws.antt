@@ -1,15 +1,16 @@
 -- What is put of units that are spelled, or stored. Assumes nothing.
 use Prim.Native.Nat.{ℕ, _+_, _*_, _/_, _%_, _≤_}
-use mathlib.Core.Path.{_≡_, refl, ap, ap₂, _∙_}
+use mathlib.Core.Path.{_≡_, refl, sym, ap, ap₂, _∙_}
 use mathlib.Core.Bool.{Bool, true, false, cond}
-use mathlib.Core.List.{List, [], _∷_, _++_, append-assoc, map}
+use mathlib.Core.List.{List, [], _∷_, _++_, append-assoc, append-nil, map}
 use native.Mathlib.Omega.{arith}
 use lib.Dec.{leb, leb→le}
-use lib.ListN.{length}
+use lib.ListN.{length, take}
+use lib.Seq.{take-append-seam}
 use borrow.Author.Tests.{ne-eqb}
 use Rattle.lang.specs.Parts.{silent, written, flat, wordOf}
 use Rattle.rules.specs.Bytes.{digit}
-use Rattle.rules.specs.Numbers.{digits, Number}
+use Rattle.rules.specs.Numbers.{digits, Number, numberText}
 use Rattle.rules.specs.Elements.{Symbol, atomicNumber}
 use Rattle.rules.specs.Formulas.{Written, writtenText, FormulaUnit, plain, labelled, unitText, unitMap}
 use Rattle.rules.specs.Texts.{firstIn, inBrackets}
@@ -20,11 +21,12 @@ use Rattle.elements.specs.Numbers.{spelled}
 use Rattle.elements.specs.Symbols.{small}
 use Rattle.elements.proofs.Laws.{which-below, letters-symbol, word-symbol, spelt-symbol}
 use Rattle.terms.specs.declared.UnitRead.{UnitRead}
+use Rattle.terms.specs.declared.UnitSpan.{UnitSpan}
 use Rattle.terms.specs.Units.{unitOf}
 use Rattle.terms.specs.Formulas.{unitSize}
-use Rattle.terms.proofs.Spelled.{told, countRead, unitRead, unit-no-digit, unit-no-small, unit-read}
+use Rattle.terms.proofs.Spelled.{told, countRead, unitSpan, unitRead, unit-no-digit, unit-no-small, span-read, unit-read}
 use Rattle.formulas.specs.Records.{recordOf, recordsOf, wordOf as storedWord, storedUnit}
-use Rattle.formulas.specs.Preferred.{symbolText, plainText, labelledText, preferredUnit, preferredUnits, printedUnits}
+use Rattle.formulas.specs.Preferred.{symbolText, plainText, labelledText, preferredUnit, keptOf, keptUnit, preferredUnits, printedUnits}
 use Rattle.formulas.proofs.Chains.{AllOf, chain-spelled, flat-map}
 
 pub symbol-text : (x : Symbol) → symbolText (atomicNumber x) ≡ wordOf x
@@ -67,14 +69,35 @@ module _ (u : UnitRead) (s : Symbol) (is : u .element ≡ atomicNumber s) where
       let z : (a .value ≡ 0 → ⊥) = λ z. omega (arith, leb→le 1 (a .value) (a .least)) in
       rw (n, is, e, ne-eqb (a .value) 0 z) (ap (λ (w : List ℕ). inBrackets (digits (a .value) ++ (w ++ digits (c .value)))) (symbol-text s))
 
-pub unit-preferred : (u : FormulaUnit Written) → UnitUpTo 1000000 (unitMap filled u) → preferredUnit (unitRead u) ≡ unitText (unitMap shortened (unitMap filled u))
-unit-preferred (plain s c) h = plain-fields (unitRead (plain s c)) s refl (filled c) refl (count-filled c h)
-unit-preferred (labelled a s c) h = labelled-fields (unitRead (labelled a s c)) s refl a c (told-all (a .value) (h .0)) (told-all (c .value) (h .1))
-
 pub unit-record : (u : FormulaUnit Written) → UnitUpTo 1000000 (unitMap filled u) → recordOf (unitRead u) ≡ stores (unitRecord (unitMap filled u))
 unit-record (plain s c) h = ap (λ (n : ℕ). stores (u16 0 ∷ u16 (atomicNumber s) ∷ u16 n ∷ [])) (count-filled c h)
 unit-record (labelled a s c) h =
     ap₂ (λ (m n : ℕ). stores (u16 m ∷ u16 (atomicNumber s) ∷ u16 n ∷ [])) (told-all (a .value) (h .0)) (told-all (c .value) (h .1))
+
+-- ---- what is kept of one unit, as it is spelled
+
+-- the first of three texts
+take-first : (w d k : List ℕ) → take (length w) ((w ++ d) ++ k) ≡ w ++ []
+take-first w d k = ap (take (length w)) (append-assoc w d k) ∙ take-append-seam w (d ++ k) ∙ sym (append-nil w)
+
+-- a symbol, and a count that is kept where it is more than 1
+count-kept : (w : List ℕ) (n : Number) (k : List ℕ)
+    → take (cond (leb (n .value) 1) (length w) (length (w ++ numberText n))) ((w ++ numberText n) ++ k) ≡ w ++ writtenText (shortened n)
+count-kept w n k = by (leb (n .value) 1)
+  where
+    by : (t : Bool)
+        → take (cond t (length w) (length (w ++ numberText n))) ((w ++ numberText n) ++ k) ≡ w ++ writtenText (elim t [ true ↦ silent | false ↦ written n ])
+    by true = take-first w (numberText n) k
+    by false = take-append-seam (w ++ numberText n) k
+
+span-kept : (u : FormulaUnit Written) (k : List ℕ) → UnitUpTo 1000000 (unitMap filled u)
+    → take (keptOf (unitSpan u)) (unitText u ++ k) ≡ unitText (unitMap shortened (unitMap filled u))
+unfolding keptOf
+span-kept (plain s silent) k h = take-first (wordOf s) [] k
+span-kept (plain s (written n)) k h = rw (told-all (n .value) h) (count-kept (wordOf s) n k)
+span-kept (labelled a s c) k h =
+    let z : (a .value ≡ 0 → ⊥) = λ z. omega (arith, leb→le 1 (a .value) (a .least)) in
+    rw (told-all (a .value) (h .0), ne-eqb (a .value) 0 z) (take-append-seam (unitText (labelled a s c)) k)
 
 -- ---- units in a row, as they are spelled
 
@@ -102,11 +125,18 @@ unit-long (labelled a s c) = refl
 unit-size : (u : FormulaUnit Written) (us : List (FormulaUnit Written)) (k : List ℕ) → EndsUnits k → unitSize (unitText u ++ (flat unitText us ++ k)) ≡ length (unitText u)
 unit-size u us k e = ap (λ (r : UnitRead). r .len) (unit-here u us k e) ∙ unit-long u
 
+unit-kept : (u : FormulaUnit Written) (us : List (FormulaUnit Written)) (k : List ℕ) → UnitTold u → EndsUnits k
+    → keptUnit (unitText u ++ (flat unitText us ++ k)) ≡ unitText (unitMap shortened (unitMap filled u))
+unfolding keptUnit
+unit-kept u us k h e =
+    let m = flat unitText us ++ k in
+    let r = units-end us k e in
+    ap (λ (p : UnitSpan). take (keptOf p) (unitText u ++ m)) (span-read u m (r .no-digit) (r .no-small)) ∙ span-kept u m h
+
 pub preferred-read : (us : List (FormulaUnit Written)) (k : List ℕ) → AllOf UnitTold us → EndsUnits k
     → preferredUnits (length us) (flat unitText us ++ k) ≡ flat unitText (map (λ u. unitMap shortened (unitMap filled u)) us)
 preferred-read us k a e =
-    chain-spelled (λ r. preferredUnit (unitOf r)) unitSize unitText (λ u. unitText (unitMap shortened (unitMap filled u))) UnitTold EndsUnits
-    (λ u us k h e. ap preferredUnit (unit-here u us k e) ∙ unit-preferred u h)
+    chain-spelled keptUnit unitSize unitText (λ u. unitText (unitMap shortened (unitMap filled u))) UnitTold EndsUnits unit-kept
     (λ u us k h e. unit-size u us k e) us k a e
     ∙ flat-map unitText (λ (u : FormulaUnit Written). unitMap shortened (unitMap filled u)) us
 

@@ -3,11 +3,13 @@ use Prim.Native.Nat.{ℕ}
 use mathlib.Core.Bool.{cond}
 use mathlib.Core.List.{List, [], _++_}
 use lib.Dec.{eqb, leb}
+use lib.ListN.{take}
 use Rattle.rules.specs.Numbers.{digits}
 use Rattle.rules.specs.Texts.{inBrackets}
 use Rattle.elements.specs.Numbers.{word, lettersOf}
 use Rattle.terms.specs.declared.UnitRead.{UnitRead}
-use Rattle.terms.specs.Units.{unitOf}
+use Rattle.terms.specs.declared.UnitSpan.{UnitSpan}
+use Rattle.terms.specs.Units.{spanOf}
 use Rattle.terms.specs.Formulas.{unitSize}
 use Rattle.formulas.specs.Chains.{chain}
 use Rattle.formulas.specs.Records.{storedUnit}
@@ -26,9 +28,17 @@ labelledText u = inBrackets (digits (u .nucleons) ++ (symbolText (u .element) ++
 unfoldable pub preferredUnit : UnitRead → List ℕ
 preferredUnit u = cond (eqb (u .nucleons) 0) (plainText u) (labelledText u)
 
+-- how many bytes of a unit stand in its preferred text: all, but for a 1 that is left out
+unfoldable pub keptOf : UnitSpan → ℕ
+keptOf u = cond (eqb (u .nucleons) 0) (cond (leb (u .count) 1) (u .«count_at») (u .len)) (u .len)
+
+-- the preferred text of the unit that bytes begin with, as it stands there
+unfoldable pub keptUnit : List ℕ → List ℕ
+keptUnit r = take (keptOf (spanOf r)) r
+
 -- of the first n units that bytes begin with, and of the n units whose records they begin with
 abbrev pub preferredUnits : ℕ → List ℕ → List ℕ
-preferredUnits n s = chain (λ r. preferredUnit (unitOf r)) unitSize n s
+preferredUnits n s = chain keptUnit unitSize n s
 
 abbrev pub printedUnits : ℕ → List ℕ → List ℕ
 printedUnits n t = chain (λ r. preferredUnit (storedUnit r)) (λ r. 6) n t

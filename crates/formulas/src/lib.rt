@@ -3,14 +3,18 @@ ghost use mathlib.Core.Path.{_≡_};
 ghost use Prim.Native.Nat.{_+_, min};
 ghost use Rattle.puts.specs.Puts.{Put};
 ghost use Rattle.formulas.specs.Records.{recordOf, recordsOf, wordOf, storedUnit};
-ghost use Rattle.formulas.specs.Preferred.{symbolText, plainText, labelledText, preferredUnit, preferredUnits, printedUnits};
+ghost use Rattle.formulas.specs.Preferred.{symbolText, plainText, labelledText, preferredUnit, keptOf, preferredUnits, printedUnits};
 use elements::letters_of;
 use numbers::put_number;
 use puts::put_le;
+use puts::put_run;
 use puts::put8;
 use terms::UnitRead;
+use terms::UnitSpan;
+use terms::first_of;
 use terms::rest;
 use terms::unit;
+use terms::unit_span;
 
 // n bytes further in a part of `all` bytes, as far as it goes.
 fn ahead(at: usize, n: usize, all: usize) -> usize
@@ -101,7 +105,20 @@ pub fn put_unit(out: &mut [u8], at: usize, u: UnitRead) -> usize
     put_labelled(out, at, u)
 }
 
-// The preferred text of the first n units of a part.
+// How many bytes of a unit stand in its preferred text: a 1 is left out where there is no nucleon number.
+fn kept(span: UnitSpan) -> usize
+    ensures { λ r. ⌜ r ≡ keptOf span ⌝ }
+{
+    if span.nucleons != 0 {
+        return span.len;
+    }
+    if span.count <= 1 {
+        return span.count_at;
+    }
+    span.len
+}
+
+// The preferred text of the first n units of a part: it is what stands there, but for a 1.
 pub fn put_preferred(out: &mut [u8], at: usize, s: &[u8], n: usize) -> usize
     ensures { λ r. ⌜ Put (now (out .entry)) at (preferredUnits n (now (s .entry))) (now (out .exit)) r ⌝ }
 {
@@ -109,8 +126,9 @@ pub fn put_preferred(out: &mut [u8], at: usize, s: &[u8], n: usize) -> usize
     let mut from: usize = 0;
     let mut i: usize = 0;
     while i < n {
-        let u = unit(rest(s, from));
-        to = put_unit(out, to, u);
+        let t = rest(s, from);
+        let u = unit_span(t);
+        to = put_run(out, to, first_of(t, kept(u)));
         from = ahead(from, u.len, s.len());
         i += 1;
     }

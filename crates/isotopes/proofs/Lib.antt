@@ -7,3 +7,4 @@ pub mod Limits
 pub mod Rows
 pub mod Laws
 pub mod Stores
+pub mod Respelled

@@ -1,21 +1,26 @@
 -- What the code finds of an isotope is what its model says. Assumes nothing.
-use Prim.Native.Nat.{ℕ, _+_, _≤_, min}
+use Prim.Native.Nat.{ℕ, _+_, _-_, _≤_, min}
 use mathlib.Core.Path.{_≡_, sym, ap, ap₂, _∙_}
 use mathlib.Core.Bool.{true, false}
 use mathlib.Core.List.{List, [], _∷_}
 use native.Mathlib.Omega.{arith}
-use lib.ListN.{length, drop}
+use lib.ListN.{length, take, drop}
 use Rattle.rules.specs.Bytes.{bytes, digit}
 use Rattle.rules.specs.Texts.{firstIn, startsWith}
 use Rattle.rules.specs.Stored.{little}
+use Rattle.puts.specs.Puts.{Put}
+use Rattle.puts.proofs.Laws.{put-then, put-as}
 use Rattle.numbers.specs.declared.Number.{Number}
 use Rattle.numbers.specs.Leading.{numberOf}
 use Rattle.elements.specs.declared.Element.{Element}
 use Rattle.elements.specs.Symbols.{elementOf}
 use Rattle.terms.specs.declared.Fault.{Fault}
+use Rattle.heads.specs.Heads.{headText}
 use Rattle.openings.specs.declared.Head.{Head}
 use Rattle.openings.specs.Heads.{headOf}
+use Rattle.isotopes.specs.declared.IsotopeRead.{IsotopeRead}
 use Rattle.isotopes.specs.Isotopes.{isotopeFault, isotopeWith, isotopeIn, isotopeOf}
+use Rattle.isotopes.specs.Spelled.{isotopeSpelled}
 
 -- a byte as a field of one byte
 pub byte-kept : (n : ℕ) → n ≤ 255 → n ∷ [] ≡ little 1 n
@@ -58,3 +63,12 @@ module _ (i end : ℕ) (s : List ℕ) (f : Fault) {h : Head} {at : ℕ} {t : Lis
 
   pub plain-is : {g : Fault} → firstIn digit t ≡ false → startsWith (bytes "A") t ≡ false → g ≡ isotopeFault i h 0 at end (length s) f → isotopeWith h 0 0 0 at g ≡ isotopeOf i end s f
   plain-is d a pg = ap (isotopeWith h 0 0 0 at) pg ∙ sym (in-plain i end s h at f (rw pt at d) (rw pt at a)) ∙ as-read
+
+-- what the code puts of an isotope that is spelled anew
+pub spelled-is : (s : List ℕ) (x : IsotopeRead) {h : Head} {n : ℕ} {w d e f : List ℕ} {to at r : ℕ}
+    → h ≡ headOf s → n ≡ x .len - h .len → w ≡ take n (drop (h .len) s)
+    → Put d to (headText (x .sign) (x .count)) e at → Put e at w f r → Put d to (isotopeSpelled s x) f r
+unfolding isotopeSpelled
+spelled-is s x {h} ph pn pw u v =
+    let e = ap (λ (n : ℕ). take n (drop (h .len) s)) pn ∙ ap (λ (h : Head). take (x .len - h .len) (drop (h .len) s)) ph in
+    put-then u (put-as v (pw ∙ e))

@@ -23,7 +23,7 @@ use Rattle.terms.specs.declared.Fault.{Fault}
 use Rattle.terms.proofs.Spelled.{told}
 use Rattle.openings.specs.declared.Head.{Head}
 use Rattle.openings.specs.Heads.{headOf, beginsIsotope, beginsPiece}
-use Rattle.openings.proofs.Laws.{countTold, head-read, isotope-begins, sign-long}
+use Rattle.openings.proofs.Laws.{countTold, drop-read, head-read, isotope-begins, sign-long}
 use Rattle.isotopes.specs.declared.IsotopeRead.{IsotopeRead}
 use Rattle.isotopes.specs.Isotopes.{isotopeFault, isotopeWith, isotopeIn, isotopeOf}
 use Rattle.isotopes.proofs.Parts.{in-specific, in-average, in-plain}
@@ -37,7 +37,7 @@ pub shift-long : (x : Shift Written) → length (shiftText x) ≡ 1 + length (wr
 shift-long x = simp length-append (omega (arith, sign-long (x .sign)))
 
 module _ (x : Shift Written) (t : List ℕ) where
-  shift-text : shiftText x ++ t ≡ signText (x .sign) ++ (writtenText (x .count) ++ (105 ∷ t))
+  pub shift-text : shiftText x ++ t ≡ signText (x .sign) ++ (writtenText (x .count) ++ (105 ∷ t))
   shift-text = simp append-assoc
 
   pub shift-begins : (beginsIsotope (shiftText x ++ t) ≡ true) × (beginsPiece (shiftText x ++ t) ≡ false)
@@ -45,15 +45,22 @@ module _ (x : Shift Written) (t : List ℕ) where
       let b = isotope-begins (x .sign) (x .count) (105 ∷ t) refl refl in
       (ap beginsIsotope shift-text ∙ b .0, ap beginsPiece shift-text ∙ b .1)
 
+  pub shift-head : headOf (shiftText x ++ t) ≡ headRead x
+  shift-head = ap headOf shift-text ∙ head-read (x .sign) (x .count) (105 ∷ t) refl
+
   shift-read : (i end : ℕ) (f : Fault) → isotopeOf i end (shiftText x ++ t) f ≡ isotopeIn i end (shiftText x ++ t) (headRead x) (length (shiftText x)) f
   unfolding isotopeOf
   shift-read i end f =
       let s = shiftText x ++ t in
       let l : min (1 + length (writtenText (x .count)) + 1) (length s) ≡ length (shiftText x) = omega (arith, shift-long x, length-append (shiftText x) t) in
-      ap (λ (h : Head). isotopeIn i end s h (min (h .len + 1) (length s)) f) (ap headOf shift-text ∙ head-read (x .sign) (x .count) (105 ∷ t) refl)
+      ap (λ (h : Head). isotopeIn i end s h (min (h .len + 1) (length s)) f) shift-head
       ∙ ap (λ (n : ℕ). isotopeIn i end s (headRead x) n f) l
 
-  -- what stands behind
+  -- what stands behind the count
+  pub behind-count : drop (1 + length (writtenText (x .count))) (shiftText x ++ t) ≡ 105 ∷ t
+  behind-count = ap (drop (1 + length (writtenText (x .count)))) shift-text ∙ drop-read (x .sign) (x .count) (105 ∷ t)
+
+  -- what stands behind the `i`
   behind-shift : drop (length (shiftText x)) (shiftText x ++ t) ≡ t
   behind-shift = drop-append-seam (shiftText x) t
 

@@ -70,7 +70,7 @@ kept-told (specific-isotopes xs) at k = λ x i. let r = row-each specificText sp
 
 -- ---- records
 
-count-filled : (c : Written) → filled c .value ≤ 1000000 → countTold c ≡ filled c .value
+pub count-filled : (c : Written) → filled c .value ≤ 1000000 → countTold c ≡ filled c .value
 count-filled silent h = refl
 count-filled (written n) h = omega arith
 

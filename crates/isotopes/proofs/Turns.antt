@@ -18,6 +18,7 @@ use Rattle.isotopes.specs.declared.IsotopeRead.{IsotopeRead}
 use Rattle.isotopes.specs.Isotopes.{isotopeOf}
 use Rattle.isotopes.specs.Rows.{isotopeSize, countIsotope, isotopesOf}
 use Rattle.isotopes.specs.Records.{recordOf, Filed, fileIsotope, filedIsotopes, StoresIsotopes}
+use Rattle.isotopes.specs.Spelled.{isotopeSpelled, spellIsotope, spelledIsotopes, SpellsIsotopes}
 use Rattle.isotopes.proofs.Measures.{isotope-len, isotope-moves}
 
 -- the first `at` bytes are n isotopes, and b is known after them where a was known before
@@ -57,8 +58,9 @@ module _ {S : Type 0} {step : S → List ℕ → S} {s : List ℕ} {a : S} {at n
   stops : beginsIsotope r ≡ false → walk beginsIsotope isotopeSize step s a ≡ walked (drop at s) b
   stops e = p .is ∙ walk-ends beginsIsotope isotopeSize step isotope-moves (drop at s) b (rw pr at e)
 
-  behind : length s - length (drop at s) ≡ at
-  behind = let i = p .inside in omega (arith, length-drop at s)
+  -- how far the walk went
+  long-all : beginsIsotope r ≡ false → length s - length (walk beginsIsotope isotopeSize step s a .rest) ≡ at
+  long-all e = let i = p .inside in ap (λ (w : Walked S). length s - length (w .rest)) (stops e) ∙ omega (arith, length-drop at s)
 
 -- ---- measured
 
@@ -70,7 +72,29 @@ module _ (end : ℕ) {s : List ℕ} {f : Fault} {at n : ℕ} {g : Fault} (p : Pa
 
   pub counted-all : beginsIsotope r ≡ false → record { n = n; len = at; fault = g } ≡ isotopesOf end s f
   unfolding isotopesOf
-  counted-all e = sym (rw (stops p pr e) (ap (λ (k : ℕ). record { n = n; len = k; fault = g }) (behind p pr)))
+  counted-all e = sym (rw (long-all p pr e, stops p pr e))
+
+-- ---- bytes put for each
+
+-- the bytes for the first n isotopes are put; `known` is what is known after n isotopes for which certain bytes were put
+pub record Putting {S : Type 0} (step : S → List ℕ → S) (known : ℕ → List ℕ → S) (s d : List ℕ) (to at n : ℕ) (e : List ℕ) (next : ℕ) : Type 0 where
+  pub done : List ℕ
+  pub passed : Passed step s (known 0 []) at n (known n done)
+  pub put : Put d to done e next
+
+pub puts-none : {S : Type 0} {step : S → List ℕ → S} {known : ℕ → List ℕ → S} {s d : List ℕ} {to : ℕ} → length d ≤ maxPlace → to ≤ maxPlace
+    → Putting step known s d to 0 0 d to
+puts-none h g = record { done = []; passed = begin; put = put-none h g }
+
+-- w is what is put for the isotope that stands here
+puts-one : {S : Type 0} {step : S → List ℕ → S} {known : ℕ → List ℕ → S} {s d : List ℕ} {to at n : ℕ} {e : List ℕ} {next : ℕ}
+    → (p : Putting step known s d to at n e next)
+    → {r q w : List ℕ} {x : IsotopeRead} {e₂ : List ℕ} {next₂ : ℕ} → r ≡ drop at s → beginsIsotope r ≡ true → q ≡ drop at s → x ≡ isotopeOf 0 0 q (fault 0 0)
+    → known (n + 1) (p .done ++ w) ≡ step (known n (p .done)) (drop at s) → Put e next w e₂ next₂ → Putting step known s d to (at + x .len) (n + 1) e₂ next₂
+puts-one p {w} pr b pq px k u = record { done = p .done ++ w; passed = turn (p .passed) pr 0 0 (fault 0 0) b pq px k; put = put-then (p .put) u }
+
+read-here : {q t : List ℕ} {x : IsotopeRead} → q ≡ t → x ≡ isotopeOf 0 0 q (fault 0 0) → x ≡ isotopeOf 0 0 t (fault 0 0)
+read-here pq px = px ∙ ap (λ (q : List ℕ). isotopeOf 0 0 q (fault 0 0)) pq
 
 -- ---- stored
 
@@ -78,25 +102,14 @@ abbrev pub filed : ℕ → List ℕ → Filed
 filed n b = record { n = n; bytes = b }
 
 -- the records of the first isotopes are put
-pub record Filing (s d : List ℕ) (to at n : ℕ) (e : List ℕ) (next : ℕ) : Type 0 where
-  pub done : List ℕ
-  pub passed : Passed fileIsotope s (filed 0 []) at n (filed n done)
-  pub put : Put d to done e next
-
-pub files-none : {s d : List ℕ} {to : ℕ} → length d ≤ maxPlace → to ≤ maxPlace → Filing s d to 0 0 d to
-files-none h g = record { done = []; passed = begin; put = put-none h g }
+abbrev pub Filing : List ℕ → List ℕ → ℕ → ℕ → ℕ → List ℕ → ℕ → Type 0
+Filing = Putting fileIsotope filed
 
 module _ {s d : List ℕ} {to at n : ℕ} {e : List ℕ} {next : ℕ} (p : Filing s d to at n e next) {r : List ℕ} (pr : r ≡ drop at s) where
   pub files : {q : List ℕ} {x : IsotopeRead} {e₂ : List ℕ} {next₂ : ℕ} → beginsIsotope r ≡ true → q ≡ drop at s → x ≡ isotopeOf 0 0 q (fault 0 0) → Put e next (recordOf x) e₂ next₂
       → Filing s d to (at + x .len) (n + 1) e₂ next₂
   unfolding fileIsotope
-  files {q} {x} b pq px u =
-      let y = px ∙ ap (λ (q : List ℕ). isotopeOf 0 0 q (fault 0 0)) pq in
-      record {
-        done = p .done ++ recordOf x;
-        passed = turn (p .passed) pr 0 0 (fault 0 0) b pq px (ap (λ (x : IsotopeRead). filed (n + 1) (p .done ++ recordOf x)) y);
-        put = put-then (p .put) u;
-      }
+  files b pq px u = puts-one p pr b pq px (ap (λ (x : IsotopeRead). filed (n + 1) (p .done ++ recordOf x)) (read-here pq px)) u
 
   pub filed-all : beginsIsotope r ≡ false → StoresIsotopes s d to e (record { n = n; len = at; next = next })
   unfolding filedIsotopes
@@ -104,6 +117,34 @@ module _ {s d : List ℕ} {to at n : ℕ} {e : List ℕ} {next : ℕ} (p : Filin
       let w = stops (p .passed) pr b in
       record {
         n = sym (ap (λ (w : Walked Filed). w .known .n) w);
-        len = sym (ap (λ (w : Walked Filed). length s - length (w .rest)) w ∙ behind (p .passed) pr);
+        len = sym (long-all (p .passed) pr b);
         put = put-as (p .put) (sym (ap (λ (w : Walked Filed). w .known .bytes) w));
       }
+
+-- ---- spelled anew
+
+-- what is known is what was put, however many there were
+abbrev spelled : ℕ → List ℕ → List ℕ
+spelled n b = b
+
+-- the first isotopes are spelled
+pub record Spelling (s d : List ℕ) (to at : ℕ) (e : List ℕ) (next : ℕ) : Type 0 where
+  pub n : ℕ
+  pub puts : Putting spellIsotope spelled s d to at n e next
+
+pub spells-none : {s d : List ℕ} {to : ℕ} → length d ≤ maxPlace → to ≤ maxPlace → Spelling s d to 0 d to
+spells-none h g = record { n = 0; puts = puts-none h g }
+
+module _ {s d : List ℕ} {to at : ℕ} {e : List ℕ} {next : ℕ} (p : Spelling s d to at e next) {r : List ℕ} (pr : r ≡ drop at s) where
+  pub spells : {q t : List ℕ} {x : IsotopeRead} {e₂ : List ℕ} {next₂ : ℕ} → beginsIsotope r ≡ true → q ≡ drop at s → x ≡ isotopeOf 0 0 q (fault 0 0)
+      → t ≡ drop at s → Put e next (isotopeSpelled t x) e₂ next₂ → Spelling s d to (at + x .len) e₂ next₂
+  unfolding spellIsotope
+  spells b pq px pt u =
+      let k = ap₂ (λ (t : List ℕ) (x : IsotopeRead). p .puts .done ++ isotopeSpelled t x) pt (read-here pq px) in
+      record { n = p .n + 1; puts = puts-one (p .puts) pr b pq px k u }
+
+  pub spelled-all : beginsIsotope r ≡ false → SpellsIsotopes s d to e (record { to = next; len = at })
+  unfolding spelledIsotopes
+  spelled-all b =
+      let w = stops (p .puts .passed) pr b in
+      record { len = sym (long-all (p .puts .passed) pr b); put = put-as (p .puts .put) (sym (ap (λ (w : Walked (List ℕ)). w .known) w)) }

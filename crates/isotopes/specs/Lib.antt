@@ -1,3 +1,4 @@
 pub mod Isotopes
 pub mod Rows
 pub mod Records
+pub mod Spelled

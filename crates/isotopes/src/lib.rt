@@ -1,16 +1,20 @@
-// Isotopes, read from the rest of a line: measured, and stored.
+// Isotopes, read from the rest of a line: measured, stored, and spelled anew.
 ghost use mathlib.Core.Path.{_≡_};
 ghost use Rattle.puts.specs.Puts.{Put};
 ghost use Rattle.isotopes.specs.Isotopes.{isotopeFault, isotopeOf};
 ghost use Rattle.isotopes.specs.Rows.{isotopesOf};
 ghost use Rattle.isotopes.specs.Records.{recordOf, StoresIsotopes};
+ghost use Rattle.isotopes.specs.Spelled.{isotopeSpelled, SpellsIsotopes};
 use elements::read_element;
+use heads::Respelled;
+use heads::put_head;
 use numbers::read_number;
 use openings::Head;
 use openings::ahead;
 use openings::begins_isotope;
 use openings::read_head;
 use puts::put_le;
+use puts::put_run;
 use puts::put8;
 use terms::Fault;
 use terms::MAX_COUNT;
@@ -18,6 +22,7 @@ use terms::begins_in;
 use terms::begins_with;
 use terms::less;
 use terms::many;
+use terms::part;
 use terms::past;
 use terms::rest;
 
@@ -154,4 +159,31 @@ pub fn store_isotopes(s: &[u8], out: &mut [u8], to: usize) -> IsotopesStored
         n += 1;
     }
     IsotopesStored { n, len: at, next }
+}
+
+// The isotope that a part begins with, of which x was read, in preferred spelling: what stands behind its count stays as it is.
+fn spell_isotope(out: &mut [u8], to: usize, s: &[u8], x: IsotopeRead) -> usize
+    ensures { λ r. ⌜ Put (now (out .entry)) to (isotopeSpelled (now (s .entry)) x) (now (out .exit)) r ⌝ }
+{
+    let h = read_head(s);
+    let at = put_head(out, to, x.sign, x.count);
+    put_run(out, at, part(s, h.len, less(x.len, h.len)))
+}
+
+// All isotopes that a part begins with.
+pub fn spell_isotopes(out: &mut [u8], to: usize, s: &[u8]) -> Respelled
+    ensures { λ r. ⌜ SpellsIsotopes (now (s .entry)) (now (out .entry)) to (now (out .exit)) r ⌝ }
+{
+    let none = Fault {
+        number: 0,
+        place: 0,
+    };
+    let mut len: usize = 0;
+    let mut end = to;
+    while begins_isotope(rest(s, len)) {
+        let x = isotope(0, rest(s, len), 0, none);
+        end = spell_isotope(out, end, rest(s, len), x);
+        len += x.len;
+    }
+    Respelled { to: end, len }
 }

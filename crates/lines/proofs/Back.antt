@@ -16,7 +16,8 @@ use Rattle.shape.proofs.Unambiguous.{reads-one}
 use Rattle.writing.proofs.Prefers.{preferred-kept, preferred-rules, preferred-sum}
 use Rattle.writing.proofs.Shorter.{preferred-shorter}
 use Rattle.writing.proofs.Holds.{take-given}
-use Rattle.lines.specs.Relabels.{Relabels, refused, relabelled}
+use Rattle.lines.specs.Relabels.{maxTable, Relabels, refused, relabelled}
+use Rattle.lines.proofs.Enough.{delivers-enough, read-enough}
 use Rattle.lines.proofs.Right.{reads-table, bytes-read}
 
 -- ---- reading what was written
@@ -59,6 +60,7 @@ pub record Written (line bytes : List ℕ) : Type 0 where
   pub table : Table
   pub spells : Spells table line
   pub is : stored table ≡ bytes
+  pub shorter : length (preferred table) ≤ length line
   pub writes : (room : ℕ) (b : Answer) → Writes bytes room b → Delivers room (preferred table) b
 
 pub write-back : (line : List ℕ) {room : ℕ} {a : Answer} → Reads line room a → a .number ≡ 0 → Written line (take (a .size) (a .out))
@@ -66,9 +68,10 @@ write-back line {room} {a} r e =
     let x = reads-table line room r e in
     let t = x .table in
     let q = bytes-read line room x in
-    let l : length (preferred t) ≤ maxLine = omega (arith, preferred-shorter (x .says), ap length (x .text), x .short) in
+    let k : length (preferred t) ≤ length line = omega (arith, preferred-shorter (x .says), ap length (x .text)) in
+    let l : length (preferred t) ≤ maxLine = omega (arith, x .short) in
     let h : Holds (take (a .size) (a .out)) t = record { sound = x .sound; is = sym q } in
-    record { table = t; spells = record { spelling = x .spelling; text = x .text; says = x .says }; is = sym q; writes = λ room b w. writes-delivers t h l w }
+    record { table = t; spells = record { spelling = x .spelling; text = x .text; says = x .says }; is = sym q; shorter = k; writes = λ room b w. writes-delivers t h l w }
 
 -- ---- both
 
@@ -82,19 +85,25 @@ given : (t : Table) (room : ℕ) {b : Answer} → Delivers room (preferred t) b 
 given t room (no-room h) e = absurd (omega arith)
 given t room (done h) e = refl
 
-pub relabels-preferred : (line : List ℕ) {tableRoom room : ℕ} {table : List ℕ} {b : Answer} → Relabels line tableRoom room table b → b .number ≡ 0 → Relabelled line room b
+pub relabels-preferred : (line : List ℕ) {room : ℕ} {b : Answer} → Relabels line room b → b .number ≡ 0 → Relabelled line room b
 relabels-preferred line (refused r h) e = absurd (h e)
-relabels-preferred line {room = room} {b = b} (relabelled r n w) e =
+relabels-preferred line {room} {b} (relabelled r n w) e =
     let x = write-back line r n in
     record { table = x .table; spells = x .spells; is = given (x .table) room (x .writes room b w) e }
 
--- two answers are equal, and so are the bytes of the table
-pub relabels-one : (line : List ℕ) {tableRoom room : ℕ} {s t : List ℕ} {a b : Answer} → Relabels line tableRoom room s a → Relabels line tableRoom room t b
-    → (s ≡ t) × (a ≡ b)
-relabels-one line {room = room} (refused x h) (refused y g) =
-    let q = reads-one x y in (ap (λ (a : Answer). a .out) q, ap (λ (a : Answer). refuses room (a .number) (a .place)) q)
+-- an output as long as the line is never too short
+pub relabel-enough : (line : List ℕ) {room : ℕ} {b : Answer} → Relabels line room b → (length line ≤ maxLine → length line ≤ room) → b .number ≡ 8 → ⊥
+relabel-enough line (refused r h) large e = read-enough line r (omega arith) e
+relabel-enough line {room} {b} (relabelled r n w) large e =
+    let x = reads-table line maxTable r n in
+    let y = write-back line r n in
+    let k = large (x .short) in
+    delivers-enough (y .writes room b w) (omega (arith, y .shorter)) e
+
+-- two answers are equal
+pub relabels-one : (line : List ℕ) {room : ℕ} {a b : Answer} → Relabels line room a → Relabels line room b → a ≡ b
+relabels-one line {room} (refused x h) (refused y g) = ap (λ (a : Answer). refuses room (a .number) (a .place)) (reads-one x y)
 relabels-one line (refused x h) (relabelled y n w) = absurd (h (ap (λ (a : Answer). a .number) (reads-one x y) ∙ n))
 relabels-one line (relabelled x n w) (refused y g) = absurd (g (ap (λ (a : Answer). a .number) (reads-one y x) ∙ n))
-relabels-one line {room = room} (relabelled x n w) (relabelled {b = b} y m v) =
-    let q = reads-one y x in
-    (ap (λ (a : Answer). a .out) (sym q), writes-one w (subst (λ (a : Answer). Writes (take (a .size) (a .out)) room b) q v))
+relabels-one line {room} (relabelled x n w) (relabelled {b = b} y m v) =
+    let q = reads-one y x in writes-one w (subst (λ (a : Answer). Writes (take (a .size) (a .out)) room b) q v)

@@ -1,4 +1,4 @@
--- Outputs as long as a table and a line may be are never too short. Assumes nothing.
+-- An output as long as a table may be is never too short. Assumes nothing.
 use Prim.Native.Nat.{ℕ, _≤_}
 use mathlib.Core.Path.{_≡_, ap}
 use mathlib.Core.List.{List}
@@ -9,12 +9,12 @@ use Rattle.lang.specs.Mark.{Kept}
 use Rattle.rules.specs.Lines.{Spelling, lineText, Misshapen}
 use Rattle.rules.specs.Limits.{maxLine, lineMarks}
 use Rattle.rules.specs.House.{firstBreach}
-use Rattle.rules.specs.Answers.{Answer, Delivers, no-room, done, Reads, ReadsSpelling, ReadsRules, ReadsSum, Writes}
+use Rattle.rules.specs.Answers.{Answer, Delivers, no-room, done, Reads, ReadsSpelling, ReadsRules, ReadsSum}
 use Rattle.rules.proofs.Rises.{line-rises}
-use Rattle.lines.specs.Relabels.{maxTable, Relabels, refused, relabelled}
+use Rattle.lines.specs.Relabels.{maxTable}
 use Rattle.lines.proofs.Small.{table-small}
 
-delivers-enough : {room : ℕ} {w : List ℕ} {a : Answer} → Delivers room w a → length w ≤ room → a .number ≡ 8 → ⊥
+pub delivers-enough : {room : ℕ} {w : List ℕ} {a : Answer} → Delivers room w a → length w ≤ room → a .number ≡ 8 → ⊥
 delivers-enough (no-room h) g e = omega arith
 delivers-enough (done h) g e = omega arith
 
@@ -44,17 +44,3 @@ pub read-enough : (line : List ℕ) {room : ℕ} {a : Answer} → Reads line roo
 read-enough line (Reads.long h) g e = omega arith
 read-enough line (Reads.misshapen h x) g e = misshapen-enough x e
 read-enough line {room} (Reads.spelled h s q r) g e = spelling-enough s room (omega (arith, ap length q)) g r e
-
--- ---- a line, which is written only within its bound
-
-write-enough : {bytes : List ℕ} {room : ℕ} {a : Answer} → Writes bytes room a → maxLine ≤ room → a .number ≡ 8 → ⊥
-write-enough (Writes.no-table h) g e = omega arith
-write-enough (Writes.long t h l) g e = omega arith
-write-enough (Writes.fits t h l d) g e = delivers-enough d (omega arith) e
-
--- ---- both
-
-pub relabel-enough : (line : List ℕ) {tableRoom room : ℕ} {table : List ℕ} {b : Answer} → Relabels line tableRoom room table b
-    → maxTable ≤ tableRoom → maxLine ≤ room → b .number ≡ 8 → ⊥
-relabel-enough line (refused r h) wide large e = read-enough line r wide e
-relabel-enough line (relabelled r n w) wide large e = write-enough w large e

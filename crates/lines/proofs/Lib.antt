@@ -1,5 +1,6 @@
 pub mod Plain
 pub mod Given
+pub mod Spelling
 pub mod Relabelled
 pub mod Right
 pub mod Back

@@ -1,56 +1,45 @@
--- Document 01, "One table, several spellings": a line without losses, isotopes, adducts and formulas is its own preferred spelling.
--- Counts whose 1 may be left out stand in these alone, and so does all that may stand in another order. Assumes nothing.
-use mathlib.Core.Path.{_≡_, refl, ap, ap₂, _∙_, subst}
+-- A line without losses, isotopes, adduct items and units is the preferred one of what it spells. Assumes nothing.
+use Prim.Native.Nat.{_≤_}
+use mathlib.Core.Path.{_≡_, refl, ap, ap₂, _∙_}
 use mathlib.Core.Bool.{true}
 use mathlib.Core.List.{List, [], _∷_, _++_, map}
 use native.Mathlib.Omega.{arith}
-use lib.Dec.{T, eqb}
+use lib.Dec.{eqb}
 use lib.ListN.{length, length-append}
 use borrow.Author.Tests.{eqb-true}
 use Rattle.lang.specs.Parts.{flat}
 use Rattle.lang.specs.Order.{Perm, Each, none, next}
-use Rattle.lang.proofs.Deriv.{and-0, and-1}
 use Rattle.lang.proofs.Tests.{is-t, t-is}
+use Rattle.lang.proofs.Deriv.{and-0, and-1}
 use Rattle.rules.specs.Numbers.{Number}
 use Rattle.rules.specs.Formulas.{Written}
-use Rattle.rules.specs.Ions.{Ion, series, internal, immonium, precursor, reference, named, composed, smiles, unknown, ionMap}
+use Rattle.rules.specs.Ions.{Ion, ionMap}
 use Rattle.rules.specs.Losses.{lossMap}
 use Rattle.rules.specs.Isotopes.{Isotopes, no-isotope, plain-isotope, average-isotope, specific-isotopes, isotopesMap}
 use Rattle.rules.specs.Adducts.{itemMap}
 use Rattle.rules.specs.Annotations.{Annotation, annotationMap}
 use Rattle.rules.specs.Lines.{Spelling, lineText}
-use Rattle.rules.specs.Preferred.{shortened, preferredSpelling, preferred}
 use Rattle.rules.specs.Fields.{Table, filled, Says}
-use Rattle.rules.specs.Stored.{ionFields, lostUnits, addedUnits, isotopeRecords, annotationUnits, stored}
-use Rattle.rules.specs.Answers.{Sound}
-use Rattle.rules.proofs.Totals.{perm-length}
-use Rattle.pages.specs.declared.Counts.{Counts}
-use Rattle.pages.specs.Headers.{countsOf}
-use Rattle.print_lines.proofs.Sections.{counts-stored}
-use Rattle.lines.specs.Plain.{noneOf, isPlain}
+use Rattle.rules.specs.Preferred.{shortened, preferredSpelling, preferred}
+use Rattle.rules.specs.Stored.{ionFields, lostUnits, addedUnits, isotopeRecords}
+use Rattle.rules.proofs.Totals.{perm-length, total}
+use Rattle.puts.specs.Puts.{maxPlace}
+use Rattle.respells.proofs.Kept.{ion-filled}
+use Rattle.reading.specs.declared.Totals.{Totals}
+use Rattle.reading.specs.Totals.{nothing, totalsOf}
+use Rattle.reading.proofs.Through.{lossesIn, isotopesIn, itemsIn, unitsIn, Counts, totals-read}
+use Rattle.lines.specs.Plain.{isPlain}
 
 -- ---- the parts of an annotation, as a table has them
 
 -- of none in any order, none
-none-said : {A B : Type 0} (f : A → B) (g : B → A) (l : List A) (m : List B) → Perm (map f l) m → length m ≡ 0 → l ≡ map g m
+none-said : {A B : Type 0} (f : A → B) (g : B → A) (l : List A) (m : List B) → Perm (map f l) m → length l ≡ 0 → l ≡ map g m
 none-said f g [] [] p e = refl
-none-said f g (x ∷ l) [] p e = let q = perm-length p in absurd (omega arith)
-none-said f g l (y ∷ m) p e = absurd (omega arith)
+none-said f g [] (y ∷ m) p e = let q = perm-length p in absurd (omega arith)
+none-said f g (x ∷ l) m p e = absurd (omega arith)
 
--- an ion that is no formula has no free count
-ion-filled : (x : Ion Written) → length (ionFields (ionMap filled x) .units) ≡ 0 → x ≡ ionMap shortened (ionMap filled x)
-ion-filled (series s n t) e = refl
-ion-filled (internal m n t) e = refl
-ion-filled (immonium a m) e = refl
-ion-filled precursor e = refl
-ion-filled (reference n) e = refl
-ion-filled (named t) e = refl
-ion-filled (composed f) e = absurd (omega arith)
-ion-filled (smiles t) e = refl
-ion-filled (unknown n) e = refl
-
-ion-said : (x : Ion Written) (y : Ion Number) → ionMap filled x ≡ y → length (ionFields y .units) ≡ 0 → x ≡ ionMap shortened y
-ion-said x y q e = ion-filled x (ap (λ (z : Ion Number). length (ionFields z .units)) q ∙ e) ∙ ap (ionMap shortened) q
+ion-said : (x : Ion Written) (y : Ion Number) → ionMap filled x ≡ y → length (ionFields (ionMap filled x) .units) ≡ 0 → x ≡ ionMap shortened y
+ion-said x y q e = ion-filled x e ∙ ap (ionMap shortened) q
 
 isotopes-filled : (x : Isotopes Written) → length (isotopeRecords (isotopesMap filled x)) ≡ 0 → x ≡ isotopesMap shortened (isotopesMap filled x)
 isotopes-filled no-isotope e = refl
@@ -58,47 +47,28 @@ isotopes-filled (plain-isotope x) e = absurd (omega arith)
 isotopes-filled (average-isotope x) e = absurd (omega arith)
 isotopes-filled (specific-isotopes xs) e = absurd (omega arith)
 
-isotopes-said : (x : Isotopes Written) (y : Isotopes Number) → isotopesMap filled x ≡ y → length (isotopeRecords y) ≡ 0 → x ≡ isotopesMap shortened y
-isotopes-said x y q e = isotopes-filled x (ap (λ (z : Isotopes Number). length (isotopeRecords z)) q ∙ e) ∙ ap (isotopesMap shortened) q
-
 -- ---- annotations and lines
 
--- no losses, isotopes, adduct items and units in a table, or in a part of one
-pub record Plain (t : Table) : Type 0 where
-  pub losses : length (flat (λ a. a .losses) t) ≡ 0
-  pub isotopes : length (flat (λ a. isotopeRecords (a .isotopes)) t) ≡ 0
-  pub items : length (flat (λ a. a .adduct) t) ≡ 0
-  pub units : length (flat annotationUnits t) ≡ 0
+-- none of the four in a spelling, or in a part of one
+record Plain (s : Spelling) : Type 0 where
+  losses : total lossesIn s ≡ 0
+  isotopes : total isotopesIn s ≡ 0
+  items : total itemsIn s ≡ 0
+  units : total unitsIn s ≡ 0
 
--- none in all is none in the first, and none in the others
-first-none : {A B : Type 0} (f : A → List B) (x : A) (xs : List A) → length (flat f (x ∷ xs)) ≡ 0 → length (f x) ≡ 0
-first-none f x xs e = omega (arith, length-append (f x) (flat f xs))
-
-others-none : {A B : Type 0} (f : A → List B) (x : A) (xs : List A) → length (flat f (x ∷ xs)) ≡ 0 → length (flat f xs) ≡ 0
-others-none f x xs e = omega (arith, length-append (f x) (flat f xs))
-
-others-plain : (b : Annotation Number) (t : Table) → Plain (b ∷ t) → Plain t
-others-plain b t p =
-    record {
-      losses = others-none (λ a. a .losses) b t (p .losses);
-      isotopes = others-none (λ a. isotopeRecords (a .isotopes)) b t (p .isotopes);
-      items = others-none (λ a. a .adduct) b t (p .items);
-      units = others-none annotationUnits b t (p .units);
-    }
-
-ion-plain : (b : Annotation Number) (t : Table) → Plain (b ∷ t) → length (ionFields (b .ion) .units) ≡ 0
-ion-plain b t p =
-    let of-ion = ionFields (b .ion) .units in
+ion-plain : (a : Annotation Written) → unitsIn a ≡ 0 → length (ionFields (ionMap filled (a .ion)) .units) ≡ 0
+ion-plain a e =
+    let b = annotationMap filled a in
     let others = flat (λ l. lostUnits (l .what)) (b .losses) ++ flat (λ x. addedUnits (x .what)) (b .adduct) in
-    omega (arith, first-none annotationUnits b t (p .units), length-append of-ion others)
+    omega (arith, e, length-append (ionFields (b .ion) .units) others)
 
-first-said : (a : Annotation Written) (b : Annotation Number) (t : Table) → Says a b → Plain (b ∷ t) → a ≡ annotationMap shortened b
-first-said a b t s p =
+first-said : (a : Annotation Written) (more : Spelling) (b : Annotation Number) → Says a b → Plain (a ∷ more) → a ≡ annotationMap shortened b
+first-said a more b s p =
     let e = s .fields in
-    let ion = ion-said (a .ion) (b .ion) (e .ion) (ion-plain b t p) in
-    let losses = none-said (lossMap filled) (lossMap shortened) (a .losses) (b .losses) (e .losses) (first-none (λ c. c .losses) b t (p .losses)) in
-    let isotopes = isotopes-said (a .isotopes) (b .isotopes) (e .isotopes) (first-none (λ c. isotopeRecords (c .isotopes)) b t (p .isotopes)) in
-    let adduct = none-said (itemMap filled) (itemMap shortened) (a .adduct) (b .adduct) (e .adduct) (first-none (λ c. c .adduct) b t (p .items)) in
+    let ion = ion-said (a .ion) (b .ion) (e .ion) (ion-plain a (omega (arith, p .units))) in
+    let losses = none-said (lossMap filled) (lossMap shortened) (a .losses) (b .losses) (e .losses) (omega (arith, p .losses)) in
+    let isotopes = isotopes-filled (a .isotopes) (omega (arith, p .isotopes)) ∙ ap (isotopesMap shortened) (e .isotopes) in
+    let adduct = none-said (itemMap filled) (itemMap shortened) (a .adduct) (b .adduct) (e .adduct) (omega (arith, p .items)) in
     λ i. record {
       marked = e .marked i;
       analyte = e .analyte i;
@@ -111,31 +81,37 @@ first-said a b t s p =
       confidence = e .confidence i;
     }
 
--- a spelling of a plain table is the preferred one
-pub plain-one : {s : Spelling} {t : Table} → Each Says s t → Plain t → s ≡ preferredSpelling t
-plain-one none p = refl
-plain-one (next {a = a} {b = b} {m = t} x e) p = ap₂ _∷_ (first-said a b t x p) (plain-one e (others-plain b t p))
-
-pub plain-preferred : {s : Spelling} {t : Table} → Each Says s t → Plain t → lineText s ≡ preferred t
-plain-preferred e p = ap lineText (plain-one e p)
-
--- ---- the header
-
-none-plain : (t : Table) → T (noneOf (countsOf t)) → Plain t
-none-plain t h =
-    let n = countsOf t in
-    let losses = eqb (n .losses) 0 in
-    let isotopes = eqb (n .isotopes) 0 in
-    let items = eqb (n .items) 0 in
-    let units = eqb (n .units) 0 in
+others-plain : (a : Annotation Written) (more : Spelling) → Plain (a ∷ more) → Plain more
+others-plain a more p =
     record {
-      losses = eqb-true (n .losses) 0 (t-is losses (and-0 losses _ h));
-      isotopes = eqb-true (n .isotopes) 0 (t-is isotopes (and-0 isotopes _ (and-1 losses _ h)));
-      items = eqb-true (n .items) 0 (t-is items (and-0 items units (and-1 isotopes _ (and-1 losses _ h))));
-      units = eqb-true (n .units) 0 (t-is units (and-1 items units (and-1 isotopes _ (and-1 losses _ h))));
+      losses = omega (arith, p .losses);
+      isotopes = omega (arith, p .isotopes);
+      items = omega (arith, p .items);
+      units = omega (arith, p .units);
     }
 
--- what the header of a stored table tells of it is so
-pub plain-stored : (t : Table) → Sound t → isPlain (stored t) ≡ true → Plain t
+-- a plain spelling is the preferred one
+plain-one : {s : Spelling} {t : Table} → Each Says s t → Plain s → s ≡ preferredSpelling t
+plain-one none p = refl
+plain-one (next {a = a} {b = b} {l = more} x e) p = ap₂ _∷_ (first-said a more b x p) (plain-one e (others-plain a more p))
+
+-- ---- by what was counted
+
+counted-plain : (s : Spelling) (t : Totals) → Counts s nothing t → isPlain t ≡ true → Plain s
 unfolding isPlain
-plain-stored t s h = none-plain t (subst (λ (n : Counts). T (noneOf n)) (counts-stored t s) (is-t h))
+counted-plain s t c e =
+    let losses = eqb (t .losses) 0 in
+    let isotopes = eqb (t .isotopes) 0 in
+    let items = eqb (t .items) 0 in
+    let units = eqb (t .units) 0 in
+    let h = is-t e in
+    record {
+      losses = omega (arith, c .losses, eqb-true (t .losses) 0 (t-is losses (and-0 losses _ h)));
+      isotopes = omega (arith, c .isotopes, eqb-true (t .isotopes) 0 (t-is isotopes (and-0 isotopes _ (and-1 losses _ h))));
+      items = omega (arith, c .items, eqb-true (t .items) 0 (t-is items (and-0 items units (and-1 isotopes _ (and-1 losses _ h)))));
+      units = omega (arith, c .units, eqb-true (t .units) 0 (t-is units (and-1 items units (and-1 isotopes _ (and-1 losses _ h)))));
+    }
+
+pub plain-preferred : (s : Spelling) {t : Table} → length (lineText s) ≤ maxPlace → Each Says s t → isPlain (totalsOf (lineText s)) ≡ true
+    → lineText s ≡ preferred t
+plain-preferred s h says e = ap lineText (plain-one says (counted-plain s (totalsOf (lineText s)) (totals-read s h .counts) e))

@@ -1,21 +1,29 @@
--- The code's answers to a line that is read and written are those of the model. Assumes nothing.
+-- The code's answers to a line that is spelled anew are those of the model. Assumes nothing.
 use Prim.Native.Nat.{ℕ, _<_, _≤_}
-use mathlib.Core.Path.{_≡_, ap, _∙_}
+use mathlib.Core.Path.{_≡_, ap, ap₂, _∙_}
+use mathlib.Core.Bool.{cond}
 use mathlib.Core.List.{List}
 use native.Mathlib.Omega.{arith}
-use lib.ListN.{length, take, replicate}
-use borrow.Author.Tests.{ne-eqb}
+use lib.Dec.{eqb}
+use lib.ListN.{length, replicate}
+use borrow.Author.Tests.{eq-eqb, ne-eqb, lt-ltb, le-ltb}
 use Rattle.rules.specs.Limits.{maxLine}
 use Rattle.rules.specs.Answers as rules
+use Rattle.rules.specs.Answers.{refuses}
 use Rattle.puts.specs.Puts.{Put}
 use Rattle.puts.proofs.Laws.{put-length}
 use Rattle.shape.specs.declared.Verdict.{Verdict}
+use Rattle.shape.specs.declared.Verdict.the-variants.{Fine, Short, Stray}
+use Rattle.terms.specs.declared.Fault.{Fault}
+use Rattle.annotations.specs.declared.Parts.{Parts}
 use Rattle.reading.specs.declared.Answer.{Answer}
-use Rattle.reading.specs.Readings.{answered, refusedOf, readOf}
+use Rattle.reading.specs.declared.Totals.{Totals}
+use Rattle.reading.specs.Totals.{partsAt, totalsBy}
+use Rattle.reading.specs.Readings.{answered, refusedOf, firstOf}
 use Rattle.writing.specs.Writings.{cleared, lineOver}
 use Rattle.writing.proofs.Lines.{line-cleared, line-long, line-no-room, line-fits}
 use Rattle.lines.specs.Plain.{spellingOf}
-use Rattle.lines.specs.Relabels.{relabelledFrom, RelabelsBy}
+use Rattle.lines.specs.Relabels.{relabelledWith, relabelledOver, relabelledOf}
 
 -- ---- the line that is put
 
@@ -41,20 +49,44 @@ module _ {d e w : List ℕ} {n : ℕ} (put : Put d 0 w e n) where
       let k : length w ≤ length d = omega (arith, put-length put) in
       ap (λ (m : ℕ). answered (record { number = 0; place = 0; len = m }) out) l ∙ line-fits w (length d) (omega arith) k (line-cleared put k (z ∙ ap (cleared e) l))
 
--- ---- the line that was read
+-- ---- a line with a shape
 
-module _ (v : Verdict) (line : List ℕ) (tableRoom room : ℕ) {table : List ℕ} {a : Answer} (q : answered a table ≡ readOf v line tableRoom) where
-  table-is : table ≡ readOf v line tableRoom .out
-  table-is = ap (λ (x : rules.Answer). x .out) q
+module _ (line : List ℕ) (room : ℕ) {t : Totals} {p : Parts} {f : Fault} (pp : p ≡ partsAt line 0) (pt : t ≡ totalsBy line p) (pf : f ≡ firstOf t) where
+  -- what was counted and read is what is counted and read of the line
+  over-is : relabelledWith line room t p ≡ relabelledOver line room
+  unfolding relabelledOver
+  over-is = ap₂ (relabelledWith line room) (pt ∙ ap (totalsBy line) pp) pp
 
-  pub refused-by : {out : List ℕ} {r : Answer} → (a .number ≡ 0 → ⊥) → out ≡ replicate room 0 → r ≡ refusedOf (a .number) (a .place)
-      → RelabelsBy v line tableRoom room table (answered r out)
-  refused-by {out} {r} h z e =
-      let w : answered r out ≡ relabelledFrom line (answered a table) room = rw (ne-eqb (a .number) 0 h, e, z) in
-      record { table-is = table-is; is = w ∙ ap (λ (x : rules.Answer). relabelledFrom line x room) q }
+  abbrev answerBy : Fault → rules.Answer
+  answerBy g = cond (eqb (g .number) 0) (lineOver (spellingOf line t p) room) (refuses room (g .number) (g .place))
 
-  pub relabelled-by : {b : rules.Answer} {p : List ℕ} → a .number ≡ 0 → p ≡ take (a .len) table → b ≡ lineOver (spellingOf line p) room
-      → RelabelsBy v line tableRoom room table b
-  relabelled-by {b} {p} h e f =
-      let w : b ≡ relabelledFrom line (answered a table) room = f ∙ ap (λ (x : List ℕ). lineOver (spellingOf line x) room) e ∙ rw h in
-      record { table-is = table-is; is = w ∙ ap (λ (x : rules.Answer). relabelledFrom line x room) q }
+  pub refused-over : {out : List ℕ} {r : Answer} → (f .number ≡ 0 → ⊥) → out ≡ replicate room 0 → r ≡ refusedOf (f .number) (f .place)
+      → answered r out ≡ relabelledOver line room
+  refused-over {out} {r} h z e =
+      let w : answered r out ≡ answerBy f = rw (ne-eqb (f .number) 0 h, e, z) in w ∙ ap answerBy pf ∙ over-is
+
+  pub given-over : {b : rules.Answer} → f .number ≡ 0 → b ≡ lineOver (spellingOf line t p) room → b ≡ relabelledOver line room
+  given-over {b} h e = let w : b ≡ answerBy f = rw (eq-eqb (f .number) 0 h) e in w ∙ ap answerBy pf ∙ over-is
+
+-- ---- any line
+
+module _ (line : List ℕ) (room : ℕ) where
+  pub long-of : (v : Verdict) {out : List ℕ} {r : Answer} → maxLine < length line → out ≡ replicate room 0 → r ≡ refusedOf 1 maxLine
+      → answered r out ≡ relabelledOf v line room
+  unfolding relabelledOf
+  long-of v h z e = rw (lt-ltb maxLine (length line) h, e, z)
+
+  module _ (short : length line ≤ maxLine) {v : Verdict} where
+    pub fine-of : {b : rules.Answer} → v ≡ Fine → b ≡ relabelledOver line room → b ≡ relabelledOf v line room
+    unfolding relabelledOf
+    fine-of q e = rw (le-ltb maxLine (length line) short, q) e
+
+    pub short-of : {out : List ℕ} {r : Answer} → v ≡ Short → out ≡ replicate room 0 → r ≡ refusedOf 3 (length line)
+        → answered r out ≡ relabelledOf v line room
+    unfolding relabelledOf
+    short-of q z e = rw (le-ltb maxLine (length line) short, q, e, z)
+
+    pub stray-of : {place : ℕ} {out : List ℕ} {r : Answer} → v ≡ Stray place → out ≡ replicate room 0 → r ≡ refusedOf 2 place
+        → answered r out ≡ relabelledOf v line room
+    unfolding relabelledOf
+    stray-of q z e = rw (le-ltb maxLine (length line) short, q, e, z)

@@ -1,42 +1,58 @@
--- A line read and its table written, by the machine's bytes, is what the rules say; and what was read is what the line spells.
--- Assumes nothing.
+-- The preferred spelling of a line, by the machine's bytes, is what the rules say: what the writer gives for the table that the reader
+-- gives. Assumes nothing.
 use Prim.Native.Nat.{ℕ, _<_, _≤_, _^_}
-use mathlib.Core.Path.{_≡_, refl, sym, ap, _∙_, subst, subst₂}
+use mathlib.Core.Path.{_≡_, refl, sym, ap, _∙_, subst}
 use mathlib.Core.Bool.{Bool, true, false, cond}
-use mathlib.Core.List.{List}
+use mathlib.Core.List.{List, _++_}
 use native.Mathlib.Omega.{arith}
-use lib.Dec.{eqb}
-use lib.ListN.{length, getD, take}
+use lib.Dec.{eqb, ltb}
+use lib.ListN.{length, getD, take, replicate}
 use borrow.Author.Tests.{eqb-true, eqb-false}
+use Rattle.lang.specs.Mark.{Kept}
 use Rattle.lang.specs.Order.{Each}
+use Rattle.rules.specs.Bytes.{bytes}
 use Rattle.rules.specs.Lines.{Spelling, lineText}
 use Rattle.rules.specs.Fields.{Table, Says}
-use Rattle.rules.specs.Limits.{maxLine}
+use Rattle.rules.specs.Limits.{maxLine, lineMarks}
 use Rattle.rules.specs.Preferred.{preferred}
 use Rattle.rules.specs.Stored.{stored}
 use Rattle.rules.specs.Answers.{Answer, refuses, gives, Sound, Holds, Reads}
+use Rattle.rules.proofs.OneTable as OneTable
 use Rattle.puts.specs.Puts.{maxPlace}
 use Rattle.shape.specs.declared.Verdict.{Verdict}
+use Rattle.shape.specs.declared.Verdict.the-variants.{Fine, Short, Stray}
 use Rattle.shape.specs.Steps.{machineBytes, scannedBy}
 use Rattle.shape.specs.Verdicts.{JudgedBy}
 use Rattle.shape.proofs.Scans.{by-machine}
-use Rattle.print_lines.specs.Tables.{printedTable}
-use Rattle.reading.specs.Readings.{readOf}
+use Rattle.shape.proofs.OneSpelling.{one-spelling}
+use Rattle.annotations.proofs.Worded.{firstWord, nextWord, Worded}
+use Rattle.respells.specs.Annotations.{annotationSpelled}
+use Rattle.respells.proofs.Laws.{annotation-worded}
+use Rattle.pages.specs.Headers.{endAt}
+use Rattle.reading.specs.declared.Totals.{Totals}
+use Rattle.reading.specs.Totals.{partsAt, totalsOf}
+use Rattle.reading.specs.Readings.{firstOf, countsIn, tableOver, spelledOver, anyOver, readOf}
+use Rattle.reading.proofs.Given.{Gives, line-given}
+use Rattle.reading.proofs.Worded.{line-worded}
 use Rattle.reading.proofs.Right.{read-right}
 use Rattle.writing.specs.Writings.{lineOver}
 use Rattle.writing.proofs.Holds.{spelling-as, no-number, take-given}
-use Rattle.writing.proofs.Right.{line-right, printed-is}
-use Rattle.lines.specs.Plain.{isPlain, spellingOf}
-use Rattle.lines.specs.Relabels.{Relabels, refused, relabelled, RelabelsBy}
-use Rattle.lines.proofs.Plain.{plain-preferred, plain-stored}
+use Rattle.writing.proofs.Right.{line-right}
+use Rattle.lines.specs.Plain.{isPlain, nextSpelled, lineSpelled, spellingOf}
+use Rattle.lines.specs.Relabels.{maxTable, Relabels, refused, relabelled, relabelledOver, relabelledAs, relabelledOf}
+use Rattle.lines.proofs.Plain.{plain-preferred}
+use Rattle.lines.proofs.Enough.{read-enough}
 
--- what was read with number 0: a table that the line spells, sound, its stored bytes and zeros behind them
+-- ---- what was read
+
+-- with number 0: a table that the line spells, sound, its stored bytes and zeros behind them
 pub record Read (line : List ℕ) (room : ℕ) (a : Answer) : Type 0 where
   pub table : Table
   pub spelling : Spelling
   pub text : lineText spelling ≡ line
   pub short : length line ≤ maxLine
   pub says : Each Says spelling table
+  pub limits : Kept (lineMarks spelling)
   pub sound : Sound table
   pub is : a ≡ gives room (stored table)
 
@@ -45,7 +61,7 @@ reads-table line room (Reads.long h) e = absurd (omega arith)
 reads-table line room (Reads.misshapen h x) e = absurd (no-number x e)
 reads-table line room (Reads.spelled h s q r) e =
     let y = spelling-as s room r e in
-    record { table = y .table; spelling = s; text = q; short = h; says = y .says; sound = y .sound; is = y .is }
+    record { table = y .table; spelling = s; text = q; short = h; says = y .says; limits = y .limits; sound = y .sound; is = y .is }
 
 -- what stands in the output is the table's
 pub bytes-read : (line : List ℕ) (room : ℕ) {a : Answer} (x : Read line room a) → take (a .size) (a .out) ≡ stored (x .table)
@@ -54,55 +70,102 @@ bytes-read line room {a} x = ap (λ (y : Answer). take (y .size) (y .out)) (x .i
 holds-read : (line : List ℕ) (room : ℕ) {a : Answer} (x : Read line room a) → Holds (take (a .size) (a .out)) (x .table)
 holds-read line room x = record { sound = x .sound; is = sym (bytes-read line room x) }
 
--- ---- lines with one spelling
+-- ---- what is spelled for it
 
--- what was read is plain: the line is the preferred one
-plain-read : (line : List ℕ) (room : ℕ) {a : Answer} (x : Read line room a) → isPlain (take (a .size) (a .out)) ≡ true → line ≡ preferred (x .table)
-plain-read line room x h =
-    let t = x .table in
-    sym (x .text) ∙ plain-preferred (x .says) (plain-stored t (x .sound) (ap isPlain (sym (bytes-read line room x)) ∙ h))
+-- a comma before each annotation but the first
+next-worded : Gives nextSpelled (Worded nextWord)
+next-worded a k end i at e kept h small =
+    let x = annotation-worded a k end i at e kept h small in
+    record { table = x .table; says = x .says; is = ap (λ (w : List ℕ). bytes "," ++ w) (x .is) }
 
--- a line that is read to a table without losses, isotopes, adduct items and units is what is printed of the table
-pub plain-printed : (line : List ℕ) {room : ℕ} {a : Answer} → Reads line room a → a .number ≡ 0
-    → isPlain (take (a .size) (a .out)) ≡ true → printedTable (take (a .size) (a .out)) ≡ line
-plain-printed line {room} {a} r e h =
-    let x = reads-table line room r e in
-    printed-is (take (a .size) (a .out)) (x .table) (holds-read line room x) ∙ sym (plain-read line room x h)
+-- annotation by annotation
+anew-preferred : (s : Spelling) (t : Table) → length (lineText s) ≤ maxPlace → Each Says s t → Kept (lineMarks s)
+    → lineSpelled (lineText s) (partsAt (lineText s) 0) ≡ preferred t
+anew-preferred s t small says kept =
+    let g = line-given annotationSpelled nextSpelled (Worded firstWord) (Worded nextWord) annotation-worded next-worded s small kept in
+    let x = line-worded g in
+    x .is ∙ ap preferred (OneTable.one-table one-spelling (x .says) says)
 
--- so what is given for a line is what is printed of its table
-spelling-printed : (line : List ℕ) {room : ℕ} {a : Answer} → Reads line room a → a .number ≡ 0
-    → spellingOf line (take (a .size) (a .out)) ≡ printedTable (take (a .size) (a .out))
+-- either way
+spelling-preferred : (s : Spelling) (t : Table) → length (lineText s) ≤ maxPlace → Each Says s t → Kept (lineMarks s)
+    → spellingOf (lineText s) (totalsOf (lineText s)) (partsAt (lineText s) 0) ≡ preferred t
 unfolding spellingOf
-spelling-printed line {room} {a} r e = by (isPlain (take (a .size) (a .out))) refl
+spelling-preferred s t small says kept = by (isPlain (totalsOf (lineText s))) refl
   where
-    by : (b : Bool) → isPlain (take (a .size) (a .out)) ≡ b
-        → cond b line (printedTable (take (a .size) (a .out))) ≡ printedTable (take (a .size) (a .out))
-    by true h = sym (plain-printed line r e h)
-    by false h = refl
+    by : (b : Bool) → isPlain (totalsOf (lineText s)) ≡ b → cond b (lineText s) (lineSpelled (lineText s) (partsAt (lineText s) 0)) ≡ preferred t
+    by true e = plain-preferred s small says e
+    by false e = anew-preferred s t small says kept
+
+spelled-read : (line : List ℕ) (room : ℕ) {a : Answer} (x : Read line room a) → spellingOf line (totalsOf line) (partsAt line 0) ≡ preferred (x .table)
+spelled-read line room x =
+    let s = x .spelling in
+    ap (λ (w : List ℕ). spellingOf w (totalsOf w) (partsAt w 0)) (sym (x .text))
+    ∙ spelling-preferred s (x .table) (omega (arith, x .short, ap length (x .text))) (x .says) (x .limits)
+
+-- ---- the same refusals
+
+-- what reading answers, with the spelling in the place of the table
+abbrev answerBy : List ℕ → ℕ → Answer → Answer
+answerBy line room a =
+    cond (eqb (a .number) 0) (lineOver (spellingOf line (totalsOf line) (partsAt line 0)) room) (refuses room (a .number) (a .place))
+
+module _ (line : List ℕ) (room : ℕ) where
+  abbrev zeros : List ℕ
+  zeros = replicate maxTable 0
+
+  abbrev t : Totals
+  t = totalsOf line
+
+  over-is : (spelledOver zeros line .number ≡ 8 → ⊥) → relabelledOver line room ≡ answerBy line room (spelledOver zeros line)
+  unfolding relabelledOver spelledOver
+  over-is h = by (eqb (firstOf t .number) 0) refl (ltb (length zeros) (endAt (countsIn t))) refl h
+    where
+      w : Answer
+      w = lineOver (spellingOf line t (partsAt line 0)) room
+
+      stored-by : Bool → Answer
+      stored-by c = cond c (record { number = 8; place = endAt (countsIn t); size = 0; out = zeros }) (record { number = 0; place = 0; size = endAt (countsIn t); out = tableOver zeros line (countsIn t) })
+
+      read-by : Bool → Bool → Answer
+      read-by b c = cond b (stored-by c) (record { number = firstOf t .number; place = firstOf t .place; size = 0; out = zeros })
+
+      by : (b : Bool) → eqb (firstOf t .number) 0 ≡ b → (c : Bool) → ltb (length zeros) (endAt (countsIn t)) ≡ c → (read-by b c .number ≡ 8 → ⊥)
+          → cond b w (refuses room (firstOf t .number) (firstOf t .place)) ≡ answerBy line room (read-by b c)
+      by true e true f n = absurd (n refl)
+      by true e false f n = refl
+      by false e c f n = rw e
+
+  any-is : (v : Verdict) → (readOf v line maxTable .number ≡ 8 → ⊥) → relabelledOf v line room ≡ answerBy line room (readOf v line maxTable)
+  unfolding relabelledOf readOf
+  any-is v h = by (ltb maxLine (length line)) v h
+    where
+      by : (b : Bool) (v : Verdict) → (cond b (refuses maxTable 1 maxLine) (anyOver zeros v line) .number ≡ 8 → ⊥)
+          → cond b (refuses room 1 maxLine) (relabelledAs v line room) ≡ answerBy line room (cond b (refuses maxTable 1 maxLine) (anyOver zeros v line))
+      by true v n = refl
+      by false Fine n = over-is n
+      by false Short n = refl
+      by false (Stray p) n = refl
 
 -- ---- by the rules
 
-relabel-from : (line : List ℕ) (tableRoom room : ℕ) (a : Answer) → Reads line tableRoom a → (b : Bool) → eqb (a .number) 0 ≡ b
-    → Relabels line tableRoom room (a .out) (cond b (lineOver (spellingOf line (take (a .size) (a .out))) room) (refuses room (a .number) (a .place)))
-relabel-from line tableRoom room a r true e =
+relabel-from : (line : List ℕ) (room : ℕ) (a : Answer) → Reads line maxTable a → (b : Bool) → eqb (a .number) 0 ≡ b
+    → Relabels line room (cond b (lineOver (spellingOf line (totalsOf line) (partsAt line 0)) room) (refuses room (a .number) (a .place)))
+relabel-from line room a r true e =
     let n = eqb-true (a .number) 0 e in
-    let x = reads-table line tableRoom r n in
-    let w = take (a .size) (a .out) in
-    let h = holds-read line tableRoom x in
-    relabelled r n (line-right w room (x .table) h (spellingOf line w) (spelling-printed line r n ∙ printed-is w (x .table) h))
-relabel-from line tableRoom room a r false e = refused r (eqb-false (a .number) 0 e)
+    let x = reads-table line maxTable r n in
+    relabelled r n
+    (line-right (take (a .size) (a .out)) room (x .table) (holds-read line maxTable x) (spellingOf line (totalsOf line) (partsAt line 0)) (spelled-read line maxTable x))
+relabel-from line room a r false e = refused r (eqb-false (a .number) 0 e)
 
-pub relabel-right : (v : Verdict) (line : List ℕ) (tableRoom room : ℕ) {table : List ℕ} {r : Answer} → tableRoom ≤ maxPlace → JudgedBy line v
-    → RelabelsBy v line tableRoom room table r → Relabels line tableRoom room table r
-relabel-right v line tableRoom room small j h =
-    let a = readOf v line tableRoom in
-    subst₂ (λ (t : List ℕ) (x : Answer). Relabels line tableRoom room t x) (sym (h .table-is)) (sym (h .is))
-    (relabel-from line tableRoom room a (read-right line tableRoom small v j) (eqb (a .number) 0) refl)
+pub relabel-right : (v : Verdict) (line : List ℕ) (room : ℕ) → JudgedBy line v → Relabels line room (relabelledOf v line room)
+relabel-right v line room j =
+    let a = readOf v line maxTable in
+    let r = read-right line maxTable (omega arith) v j in
+    subst (Relabels line room) (sym (any-is line room v (λ e. read-enough line r (omega arith) e))) (relabel-from line room a r (eqb (a .number) 0) refl)
 
 -- by the machine that was made
-pub relabel-made : (line : List ℕ) (tableRoom room : ℕ) (m : List ℕ) {table : List ℕ} {r : Answer} → m ≡ machineBytes → tableRoom ≤ maxPlace
-    → ((i : ℕ) → i < length line → getD line i 0 < 256) → length line < 2 ^ 64
-    → RelabelsBy (scannedBy m line) line tableRoom room table r → Relabels line tableRoom room table r
-relabel-made line tableRoom room m {table} {r} e small bytes h x =
-    relabel-right (scannedBy machineBytes line) line tableRoom room small (by-machine line bytes h)
-    (subst (λ (m : List ℕ). RelabelsBy (scannedBy m line) line tableRoom room table r) e x)
+pub relabel-made : (line : List ℕ) (room : ℕ) (m : List ℕ) {r : Answer} → m ≡ machineBytes
+    → ((i : ℕ) → i < length line → getD line i 0 < 256) → length line < 2 ^ 64 → r ≡ relabelledOf (scannedBy m line) line room → Relabels line room r
+relabel-made line room m e bytes h x =
+    subst (Relabels line room) (sym (x ∙ ap (λ (m : List ℕ). relabelledOf (scannedBy m line) line room) e))
+    (relabel-right (scannedBy machineBytes line) line room (by-machine line bytes h))

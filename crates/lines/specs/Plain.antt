@@ -1,19 +1,26 @@
--- Tables in which nothing may be written in two ways, as the header tells, and the line that is given for a table. Assumes nothing.
+-- Lines in which nothing may be written in two ways, as what was counted of them tells, and what is given for a line. Assumes nothing.
 use Prim.Native.Nat.{ℕ}
 use mathlib.Core.Bool.{Bool, _&&_, cond}
-use mathlib.Core.List.{List}
+use mathlib.Core.List.{List, _++_}
 use lib.Dec.{eqb}
-use Rattle.pages.specs.declared.Counts.{Counts}
-use Rattle.print_lines.specs.Parts.{countsAt}
-use Rattle.print_lines.specs.Tables.{printedTable}
+use Rattle.rules.specs.Bytes.{bytes}
+use Rattle.annotations.specs.declared.Parts.{Parts}
+use Rattle.respells.specs.Annotations.{annotationSpelled}
+use Rattle.reading.specs.declared.Totals.{Totals}
+use Rattle.reading.specs.Walks.{lineGivenBy}
 
 -- no losses, no isotopes, no adduct items, and no units
-abbrev pub noneOf : Counts → Bool
-noneOf n = eqb (n .losses) 0 && (eqb (n .isotopes) 0 && (eqb (n .items) 0 && eqb (n .units) 0))
+unfoldable pub isPlain : Totals → Bool
+isPlain t = eqb (t .losses) 0 && (eqb (t .isotopes) 0 && (eqb (t .items) 0 && eqb (t .units) 0))
 
-unfoldable pub isPlain : List ℕ → Bool
-isPlain table = noneOf (countsAt table)
+-- an annotation behind a comma
+abbrev pub nextSpelled : List ℕ → Parts → List ℕ
+nextSpelled s p = bytes "," ++ annotationSpelled s p
 
--- of a line and the table that was read of it
-unfoldable pub spellingOf : List ℕ → List ℕ → List ℕ
-spellingOf line table = cond (isPlain table) line (printedTable table)
+-- all annotations of a line, of which the first was read
+abbrev pub lineSpelled : List ℕ → Parts → List ℕ
+lineSpelled line p = lineGivenBy annotationSpelled nextSpelled line p
+
+-- the line itself, or spelled anew, where t was counted of it and p read of its first annotation
+unfoldable pub spellingOf : List ℕ → Totals → Parts → List ℕ
+spellingOf line t p = cond (isPlain t) line (lineSpelled line p)

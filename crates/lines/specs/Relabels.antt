@@ -1,13 +1,18 @@
--- A line read and its table written. Assumes nothing.
+-- The preferred spelling of a line. Assumes nothing.
 use Prim.Native.Nat.{ℕ}
 use mathlib.Core.Path.{_≡_}
 use mathlib.Core.Bool.{cond}
 use mathlib.Core.List.{List}
-use lib.Dec.{eqb}
-use lib.ListN.{take}
+use lib.Dec.{eqb, ltb}
+use lib.ListN.{length, take}
+use Rattle.rules.specs.Limits.{maxLine}
 use Rattle.rules.specs.Answers.{Answer, refuses, Reads, Writes}
 use Rattle.shape.specs.declared.Verdict.{Verdict}
-use Rattle.reading.specs.Readings.{readOf}
+use Rattle.shape.specs.declared.Verdict.the-variants.{Fine, Short, Stray}
+use Rattle.annotations.specs.declared.Parts.{Parts}
+use Rattle.reading.specs.declared.Totals.{Totals}
+use Rattle.reading.specs.Totals.{partsAt, totalsOf}
+use Rattle.reading.specs.Readings.{firstOf}
 use Rattle.writing.specs.Writings.{lineOver}
 use Rattle.lines.specs.Plain.{spellingOf}
 
@@ -15,17 +20,26 @@ use Rattle.lines.specs.Plain.{spellingOf}
 abbrev pub maxTable : ℕ
 maxTable = 21340
 
--- read into an output of tableRoom bytes, which are then `table`; what was read is written, or the refusal told again
-pub data Relabels (line : List ℕ) (tableRoom room : ℕ) : List ℕ → Answer → Type 0 where
-  refused : {a : Answer} → Reads line tableRoom a → (a .number ≡ 0 → ⊥) → Relabels line tableRoom room (a .out) (refuses room (a .number) (a .place))
-  relabelled : {a b : Answer} → Reads line tableRoom a → a .number ≡ 0 → Writes (take (a .size) (a .out)) room b → Relabels line tableRoom room (a .out) b
+-- what reading the line and writing its table answer: the refusal of the reader, or what the writer gives for the table that was read
+pub data Relabels (line : List ℕ) (room : ℕ) : Answer → Type 0 where
+  refused : {a : Answer} → Reads line maxTable a → (a .number ≡ 0 → ⊥) → Relabels line room (refuses room (a .number) (a .place))
+  relabelled : {a b : Answer} → Reads line maxTable a → a .number ≡ 0 → Writes (take (a .size) (a .out)) room b → Relabels line room b
 
 -- ---- what the code means, for a machine of any bytes
 
--- the line, and what was answered to it
-abbrev pub relabelledFrom : List ℕ → Answer → ℕ → Answer
-relabelledFrom line a room = cond (eqb (a .number) 0) (lineOver (spellingOf line (take (a .size) (a .out))) room) (refuses room (a .number) (a .place))
+-- of a line with a shape, of which t was counted and p read
+abbrev pub relabelledWith : List ℕ → ℕ → Totals → Parts → Answer
+relabelledWith line room t p =
+    let f = firstOf t in cond (eqb (f .number) 0) (lineOver (spellingOf line t p) room) (refuses room (f .number) (f .place))
 
-pub record RelabelsBy (v : Verdict) (line : List ℕ) (tableRoom room : ℕ) (table : List ℕ) (r : Answer) : Type 0 where
-  pub table-is : table ≡ readOf v line tableRoom .out
-  pub is : r ≡ relabelledFrom line (readOf v line tableRoom) room
+unfoldable pub relabelledOver : List ℕ → ℕ → Answer
+relabelledOver line room = relabelledWith line room (totalsOf line) (partsAt line 0)
+
+-- of a line whose shape was judged
+abbrev pub relabelledAs : Verdict → List ℕ → ℕ → Answer
+relabelledAs Fine line room = relabelledOver line room
+relabelledAs Short line room = refuses room 3 (length line)
+relabelledAs (Stray place) line room = refuses room 2 place
+
+unfoldable pub relabelledOf : Verdict → List ℕ → ℕ → Answer
+relabelledOf v line room = cond (ltb maxLine (length line)) (refuses room 1 maxLine) (relabelledAs v line room)

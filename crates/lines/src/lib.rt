@@ -1,22 +1,30 @@
-// Lines and tables: the reader, the writer, and both one after the other. Document 01, "Numbers of refusal".
+// Lines and tables: the reader, the writer, and the preferred spelling of a line. Document 01, "Numbers of refusal".
 ghost use mathlib.Core.Path.{_≡_};
 ghost use lib.ListN.{length};
 ghost use Rattle.rules.specs.Answers.{Reads, Writes};
 ghost use Rattle.puts.specs.Puts.{Put};
 ghost use Rattle.shape.specs.Steps.{scannedBy};
 ghost use Rattle.reading.specs.Readings.{answered};
-ghost use Rattle.lines.specs.Plain.{isPlain, spellingOf};
-ghost use Rattle.lines.specs.Relabels.{Relabels, RelabelsBy};
-use formulas::word_at;
-use print_lines::print_table;
-use prints::first_of;
+ghost use Rattle.lines.specs.Plain.{isPlain, lineSpelled, spellingOf};
+ghost use Rattle.lines.specs.Relabels.{Relabels, relabelledOver, relabelledOf};
+use annotations::Parts;
+use openings::ahead;
 use puts::clear;
 use puts::put_run;
+use puts::put8;
 use reading::Answer;
 use reading::MAX_LINE;
+use reading::Totals;
+use reading::first_refusal;
+use reading::read_at;
 use reading::read_by;
 use reading::refuse;
+use reading::total;
+use respells::spell_annotation;
+use shape::Verdict;
 use shape::machine;
+use shape::scan_by;
+use terms::begins_with;
 use terms::rest;
 use writing::clear_from;
 use writing::write_by;
@@ -37,45 +45,68 @@ pub fn write(table: &[u8], out: &mut [u8]) -> Answer
     write_by(&made, table, out)
 }
 
-// Whether the header of a table tells no losses, no isotopes, no adduct items and no units: nothing else may be written in two ways, so
-// such a table has one line.
-fn is_plain(table: &[u8]) -> bool
-    ensures { λ r. ⌜ r ≡ isPlain (now (table .entry)) ⌝ }
+// ---- the preferred spelling of a line
+
+// Whether no losses, isotopes, adduct items and units were counted: nothing else may be written in two ways, so such a line is the
+// preferred one.
+fn is_plain(t: Totals) -> bool
+    ensures { λ r. ⌜ r ≡ isPlain t ⌝ }
 {
-    if word_at(rest(table, 8)) != 0 {
+    if t.losses != 0 {
         return false;
     }
-    if word_at(rest(table, 12)) != 0 {
+    if t.isotopes != 0 {
         return false;
     }
-    if word_at(rest(table, 16)) != 0 {
+    if t.items != 0 {
         return false;
     }
-    word_at(rest(table, 20)) == 0
+    t.units == 0
 }
 
-// The preferred spelling of a line that was read into `table`: the line itself where it has one spelling, as most lines have, for bytes
-// are copied sooner than printed.
-fn put_spelling(out: &mut [u8], line: &[u8], table: &[u8]) -> usize
-    ensures { λ r. ⌜ Put (now (out .entry)) 0 (spellingOf (now (line .entry)) (now (table .entry))) (now (out .exit)) r ⌝ }
+// All annotations of a line, of which the first was read; the place behind them.
+fn spell_line(out: &mut [u8], line: &[u8], first: Parts) -> usize
+    ensures { λ r. ⌜ Put (now (out .entry)) 0 (lineSpelled (now (line .entry)) first) (now (out .exit)) r ⌝ }
 {
-    if is_plain(table) {
+    if line.len() < 1 {
+        return 0;
+    }
+    let x = spell_annotation(out, 0, line, first);
+    let mut to = x.to;
+    let mut at = ahead(0, x.len, line.len());
+    while begins_with(rest(line, at), b',') {
+        let from = ahead(at, 1, line.len());
+        let p = read_at(line, from);
+        let begin = put8(out, to, b',');
+        let y = spell_annotation(out, begin, rest(line, from), p);
+        to = y.to;
+        at = ahead(from, y.len, line.len());
+    }
+    to
+}
+
+// A line of which t was counted, and the first annotation read: the line itself where it has one spelling, as most lines have.
+fn put_spelling(out: &mut [u8], line: &[u8], t: Totals, first: Parts) -> usize
+    ensures { λ r. ⌜ Put (now (out .entry)) 0 (spellingOf (now (line .entry)) t first) (now (out .exit)) r ⌝ }
+{
+    if is_plain(t) {
         return put_run(out, 0, line);
     }
-    print_table(out, 0, table)
+    spell_line(out, line, first)
 }
 
-// The preferred spelling of a line, by a lent machine: the line is read into `table`, and copied or the table printed. What was read is
-// a table, so it need not be read again to be known for one.
-pub fn relabel_by(machine: &[u8], line: &[u8], table: &mut [u8], out: &mut [u8]) -> Answer
-    ensures { λ r. ⌜ RelabelsBy (scannedBy (now (machine .entry)) (now (line .entry))) (now (line .entry)) (length (now (table .entry))) (length (now (out .entry))) (now (table .exit)) (answered r (now (out .exit))) ⌝ }
+// A line with a shape.
+fn relabel_spelled(line: &[u8], out: &mut [u8]) -> Answer
+    ensures { λ r. ⌜ answered r (now (out .exit)) ≡ relabelledOver (now (line .entry)) (length (now (out .entry))) ⌝ }
 {
-    let a = read_by(machine, line, table);
-    if a.number != 0 {
+    let first = read_at(line, 0);
+    let t = total(line, first);
+    let found = first_refusal(t);
+    if found.number != 0 {
         clear(out);
-        return refuse(a.number, a.place);
+        return refuse(found.number, found.place);
     }
-    let n = put_spelling(out, line, first_of(table, a.len));
+    let n = put_spelling(out, line, t, first);
     if MAX_LINE < n {
         clear(out);
         return refuse(1, MAX_LINE);
@@ -92,10 +123,32 @@ pub fn relabel_by(machine: &[u8], line: &[u8], table: &mut [u8], out: &mut [u8])
     }
 }
 
+// The preferred spelling of a line, by a lent machine: whoever has many lines makes the machine once. It is spelled from the line itself;
+// that this is what the writer gives for the table that the reader would give is proved, so that no table need be made.
+pub fn relabel_by(machine: &[u8], line: &[u8], out: &mut [u8]) -> Answer
+    ensures { λ r. ⌜ answered r (now (out .exit)) ≡ relabelledOf (scannedBy (now (machine .entry)) (now (line .entry))) (now (line .entry)) (length (now (out .entry))) ⌝ }
+{
+    if MAX_LINE < line.len() {
+        clear(out);
+        return refuse(1, MAX_LINE);
+    }
+    match scan_by(machine, line) {
+        Verdict::Fine => relabel_spelled(line, out),
+        Verdict::Short => {
+            clear(out);
+            refuse(3, line.len())
+        }
+        Verdict::Stray(place) => {
+            clear(out);
+            refuse(2, place)
+        }
+    }
+}
+
 // The preferred spelling of a line, or why there is none.
-pub fn relabel_line(line: &[u8], table: &mut [u8], out: &mut [u8]) -> Answer
-    ensures { λ r. ⌜ Relabels (now (line .entry)) (length (now (table .entry))) (length (now (out .entry))) (now (table .exit)) (answered r (now (out .exit))) ⌝ }
+pub fn relabel_line(line: &[u8], out: &mut [u8]) -> Answer
+    ensures { λ r. ⌜ Relabels (now (line .entry)) (length (now (out .entry))) (answered r (now (out .exit))) ⌝ }
 {
     let made = machine();
-    relabel_by(&made, line, table, out)
+    relabel_by(&made, line, out)
 }

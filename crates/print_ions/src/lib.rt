@@ -10,9 +10,9 @@ use formulas::word_at;
 use numbers::put_number;
 use prints::at_most;
 use prints::byte_of;
-use prints::first_of;
 use puts::put_run;
 use puts::put8;
+use terms::first_of;
 use terms::rest;
 
 // ---- pieces of text

@@ -20,9 +20,10 @@ use Rattle.formulas.specs.Preferred.{symbolText}
 use Rattle.formulas.specs.Chains.{chain}
 use Rattle.formulas.proofs.Chains.{chain-spelled, flat-map}
 use Rattle.formulas.proofs.Laws.{symbol-text}
-use Rattle.prints.specs.Numbers.{countText}
+use Rattle.heads.specs.Heads.{countText}
+use Rattle.heads.proofs.Laws.{number-text}
 use Rattle.prints.specs.Isotopes.{whichText, isotopeText, isotopesText}
-use Rattle.prints.proofs.Words.{word-stored, number-text}
+use Rattle.prints.proofs.Words.{word-stored}
 use Rattle.prints.proofs.Rows.{all-in, sign-told}
 
 -- numbers fit the fields of the record

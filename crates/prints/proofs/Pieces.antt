@@ -2,7 +2,7 @@
 use Prim.Native.Nat.{ℕ, _+_, _-_, _*_, _<_, _≤_, min}
 use mathlib.Core.Path.{_≡_, sym, ap, ap₂, _∙_}
 use mathlib.Core.Bool.{Bool, cond}
-use mathlib.Core.List.{List, [], _++_, append-nil}
+use mathlib.Core.List.{List, [], _++_, append-assoc, append-nil}
 use native.Mathlib.Omega.{arith}
 use lib.ListN.{getD, drop, take}
 use borrow.Author.Tests.{eq-eqb, ne-eqb, le-leb, lt-leb, lt-ltb, le-ltb}
@@ -13,8 +13,9 @@ use Rattle.rules.specs.Limits.{maxUnits, maxText}
 use Rattle.rules.specs.Decimals.{decimalText}
 use Rattle.formulas.specs.Records.{wordOf}
 use Rattle.formulas.specs.Preferred.{symbolText, printedUnits}
-use Rattle.prints.specs.Numbers.{quadOf, octOf, countText}
-use Rattle.prints.specs.Pieces.{signBytes, pieceUnits, pieceName, whatText, pieceText}
+use Rattle.heads.specs.Heads.{signBytes, countText, headText}
+use Rattle.prints.specs.Numbers.{quadOf, octOf}
+use Rattle.prints.specs.Pieces.{pieceUnits, pieceName, whatText, pieceText}
 use Rattle.prints.specs.Isotopes.{whichText, isotopeText}
 use Rattle.prints.specs.Tails.{chargeText, signedSize, signedText, deviationText, confidenceText}
 
@@ -29,21 +30,7 @@ pub oct-made : (s t : List ℕ) {a b : ℕ} → a ≡ quadOf s → b ≡ quadOf 
 unfolding octOf
 oct-made s t p q e = ap₂ (λ (a b : ℕ). a + 4294967296 * b) p (q ∙ ap quadOf e)
 
-pub count-one : (n : ℕ) → n ≤ 1 → [] ≡ countText n
-unfolding countText
-count-one n h = rw (le-leb n 1 h)
-
-pub count-more : (n : ℕ) → 1 < n → digits n ≡ countText n
-unfolding countText
-count-more n h = rw (lt-leb n 1 h)
-
 -- ---- losses and adduct items
-
-pub sign-minus : (sign : ℕ) → sign ≡ 0 → bytes "-" ≡ signBytes sign
-sign-minus sign h = rw (eq-eqb sign 0 h)
-
-pub sign-plus : (sign : ℕ) → (sign ≡ 0 → ⊥) → bytes "+" ≡ signBytes sign
-sign-plus sign h = rw (ne-eqb sign 0 h)
 
 module _ (l : List ℕ) {kind : ℕ} (is : kind ≡ getD l 1 0) where
   at-word : {t : List ℕ} {w n : ℕ} (m : ℕ) → t ≡ drop 4 l → w ≡ wordOf t → n ≡ min w m → n ≡ min (wordOf (drop 4 l)) m
@@ -80,14 +67,14 @@ module _ (l : List ℕ) {kind : ℕ} (is : kind ≡ getD l 1 0) where
 
 -- sign and count, of a loss, an item or an isotope
 module _ (s : List ℕ) {t : List ℕ} {sign count : ℕ} (a : sign ≡ getD s 0 0) (e : t ≡ drop 2 s) (b : count ≡ wordOf t) where
-  opening : (w : List ℕ) → signBytes sign ++ (countText count ++ w) ≡ signBytes (getD s 0 0) ++ (countText (wordOf (drop 2 s)) ++ w)
-  opening w = ap₂ (λ (x y : ℕ). signBytes x ++ (countText y ++ w)) a (b ∙ ap wordOf e)
+  opening : (w : List ℕ) → headText sign count ++ w ≡ signBytes (getD s 0 0) ++ (countText (wordOf (drop 2 s)) ++ w)
+  opening w = append-assoc (signBytes sign) (countText count) w ∙ ap₂ (λ (x y : ℕ). signBytes x ++ (countText y ++ w)) a (b ∙ ap wordOf e)
 
-  pub piece-made : (u t : List ℕ) → signBytes sign ++ (countText count ++ whatText s u t) ≡ pieceText s u t
+  pub piece-made : (u t : List ℕ) → headText sign count ++ whatText s u t ≡ pieceText s u t
   unfolding pieceText
   piece-made u t = opening (whatText s u t)
 
-  pub isotope-made : signBytes sign ++ (countText count ++ (bytes "i" ++ whichText s)) ≡ isotopeText s
+  pub isotope-made : headText sign count ++ (bytes "i" ++ whichText s) ≡ isotopeText s
   unfolding isotopeText
   isotope-made = opening (bytes "i" ++ whichText s)
 

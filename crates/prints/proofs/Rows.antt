@@ -19,8 +19,8 @@ use Rattle.formulas.specs.Preferred.{printedUnits}
 use Rattle.formulas.proofs.Chains.{AllOf, all-none, all-more}
 use Rattle.formulas.proofs.Laws.{UnitUpTo, printed-read}
 use Rattle.rules.proofs.Lengths.{unit-length}
-use Rattle.prints.specs.Numbers.{countText}
-use Rattle.prints.specs.Pieces.{signBytes, pieceUnits, pieceName, whatText, pieceText, piecesText, unitBytes, nameBytes}
+use Rattle.heads.specs.Heads.{signBytes, countText}
+use Rattle.prints.specs.Pieces.{pieceUnits, pieceName, whatText, pieceText, piecesText, unitBytes, nameBytes}
 use Rattle.prints.proofs.Words.{word-stored}
 
 -- ---- lists

@@ -14,8 +14,8 @@ use Rattle.rules.specs.Preferred.{shortened, signRank, countOr1}
 use Rattle.rules.specs.Stored.{stores, lostKind, lostUnits, lostName, lossRecord, addedKind, addedUnits, itemRecord}
 use Rattle.formulas.proofs.Chains.{flat-map}
 use Rattle.formulas.proofs.Laws.{UnitUpTo}
-use Rattle.prints.specs.Numbers.{countText}
-use Rattle.prints.proofs.Words.{count-text, number-text}
+use Rattle.heads.specs.Heads.{countText}
+use Rattle.heads.proofs.Laws.{count-text, number-text}
 use Rattle.prints.proofs.Rows.{all-in, unitRows, Tells, pieceRecord, formula-told, name-told, electron-told, Printed, pieces-printed}
 
 -- numbers, units and name fit the fields of the record

@@ -1,18 +1,11 @@
--- Numbers that were stored, read again, and counts of which a 1 is left out. Assumes nothing.
+-- Numbers that were stored, read again. Assumes nothing.
 use Prim.Native.Nat.{ℕ, _+_, _*_, _/_, _%_, _^_, _<_, _≤_}
-use mathlib.Core.Path.{_≡_, refl, ap₂, _∙_}
-use mathlib.Core.Bool.{Bool, true, false, cond}
-use mathlib.Core.List.{List, [], _++_}
+use mathlib.Core.Path.{_≡_, ap₂, _∙_}
+use mathlib.Core.List.{List, _++_}
 use native.Mathlib.Omega.{arith}
-use lib.Dec.{leb, leb→le}
-use borrow.Author.Tests.{lt-leb}
-use Rattle.lang.specs.Parts.{Opt, silent, written, optText}
-use Rattle.rules.specs.Numbers.{digits, From, Number, numberText}
-use Rattle.rules.specs.Formulas.{writtenText}
-use Rattle.rules.specs.Preferred.{shortened, countOr1}
 use Rattle.rules.specs.Stored.{little}
 use Rattle.formulas.specs.Records.{wordOf}
-use Rattle.prints.specs.Numbers.{quadOf, octOf, countText}
+use Rattle.prints.specs.Numbers.{quadOf, octOf}
 
 -- ---- words
 
@@ -39,18 +32,3 @@ unfolding octOf
 oct-stored v k h =
     let high = v / 256 / 256 / 256 / 256 in
     ap₂ (λ (a b : ℕ). a + 4294967296 * b) (quad-low v (little 4 high ++ k)) (quad-low high k) ∙ omega arith
-
--- ---- counts
-
-pub count-text : (c : Opt (From 2)) → countText (countOr1 c) ≡ optText numberText c
-unfolding countText
-count-text silent = refl
-count-text (written n) = let h : 1 < n .value = omega (arith, leb→le 2 (n .value) (n .least)) in rw (lt-leb (n .value) 1 h)
-
-pub number-text : (n : Number) → countText (n .value) ≡ writtenText (shortened n)
-unfolding countText
-number-text n = by (leb (n .value) 1)
-  where
-    by : (t : Bool) → cond t [] (digits (n .value)) ≡ writtenText (elim t [ true ↦ silent | false ↦ written n ])
-    by true = refl
-    by false = refl

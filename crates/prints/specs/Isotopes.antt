@@ -9,8 +9,7 @@ use Rattle.rules.specs.Numbers.{digits}
 use Rattle.formulas.specs.Chains.{chain}
 use Rattle.formulas.specs.Records.{wordOf}
 use Rattle.formulas.specs.Preferred.{symbolText}
-use Rattle.prints.specs.Numbers.{countText}
-use Rattle.prints.specs.Pieces.{signBytes}
+use Rattle.heads.specs.Heads.{signBytes, countText}
 
 -- plain, average, or nucleons and symbol
 unfoldable pub whichText : List ℕ → List ℕ

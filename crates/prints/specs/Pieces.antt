@@ -11,11 +11,9 @@ use Rattle.rules.specs.Limits.{maxUnits, maxText}
 use Rattle.puts.specs.Puts.{Put}
 use Rattle.formulas.specs.Records.{wordOf}
 use Rattle.formulas.specs.Preferred.{printedUnits}
+use Rattle.heads.specs.Heads.{signBytes, countText}
 use Rattle.prints.specs.declared.Run.{Run}
-use Rattle.prints.specs.Numbers.{upTo, countText}
-
-abbrev pub signBytes : ℕ → List ℕ
-signBytes sign = cond (eqb sign 0) (bytes "-") (bytes "+")
+use Rattle.prints.specs.Numbers.{upTo}
 
 -- how many units, and how many bytes of a name; no more than the limits allow
 unfoldable pub pieceUnits : List ℕ → ℕ

@@ -2,21 +2,23 @@
 // as it stands: whether the bytes are a table is told by reading what was printed. No more is printed than a table within the limits
 // has, so that bytes that are none cost no more time than a table.
 ghost use mathlib.Core.Path.{_≡_};
-ghost use lib.ListN.{getD, take};
+ghost use lib.ListN.{getD};
 ghost use Rattle.puts.specs.Puts.{Put};
-ghost use Rattle.prints.specs.Numbers.{quadOf, octOf, upTo, countText};
-ghost use Rattle.prints.specs.Pieces.{signBytes, pieceUnits, pieceName, whatText, pieceText, PrintsPieces};
+ghost use Rattle.prints.specs.Numbers.{quadOf, octOf, upTo};
+ghost use Rattle.prints.specs.Pieces.{pieceUnits, pieceName, whatText, pieceText, PrintsPieces};
 ghost use Rattle.prints.specs.Isotopes.{whichText, isotopeText, isotopesText};
 ghost use Rattle.prints.specs.Tails.{chargeText, signedSize, signedText, deviationText, confidenceText, tailText};
 use formulas::print_units;
 use formulas::put_symbol;
 use formulas::word_at;
+use heads::put_head;
 use numbers::Decimal;
 use numbers::put_decimal;
 use numbers::put_number;
 use openings::ahead;
 use puts::put_run;
 use puts::put8;
+use terms::first_of;
 use terms::rest;
 
 // Where printing has come to: in the output, and how many bytes of the units' and the text's sections were printed.
@@ -67,36 +69,7 @@ pub fn at_most(n: u16, most: usize) -> usize
     m
 }
 
-// The first n bytes of a part, as far as it goes.
-pub fn first_of<'a>(s: &'a [u8], n: usize) -> &'a [u8]
-    ensures { λ r. ⌜ now r ≡ take n (now (s .entry)) ⌝ }
-{
-    if n < s.len() {
-        return &s[..n];
-    }
-    s
-}
-
-// A count; a 1 is left out.
-fn put_count(out: &mut [u8], to: usize, n: u16) -> usize
-    ensures { λ r. ⌜ Put (now (out .entry)) to (countText n) (now (out .exit)) r ⌝ }
-{
-    if n <= 1 {
-        return to;
-    }
-    put_number(out, to, n as u64)
-}
-
 // ---- losses and adduct items
-
-fn put_sign(out: &mut [u8], to: usize, sign: u8) -> usize
-    ensures { λ r. ⌜ Put (now (out .entry)) to (signBytes sign) (now (out .exit)) r ⌝ }
-{
-    if sign == 0 {
-        return put8(out, to, b'-');
-    }
-    put8(out, to, b'+')
-}
 
 // How many units a loss or an adduct item has.
 pub fn units_of(l: &[u8]) -> usize
@@ -138,9 +111,8 @@ fn print_what(out: &mut [u8], to: usize, l: &[u8], u: &[u8], t: &[u8]) -> usize
 pub fn print_piece(out: &mut [u8], to: usize, l: &[u8], u: &[u8], t: &[u8]) -> usize
     ensures { λ r. ⌜ Put (now (out .entry)) to (pieceText (now (l .entry)) (now (u .entry)) (now (t .entry))) (now (out .exit)) r ⌝ }
 {
-    let a = put_sign(out, to, byte_of(l, 0));
-    let b = put_count(out, a, word_at(rest(l, 2)));
-    print_what(out, b, l, u, t)
+    let a = put_head(out, to, byte_of(l, 0), word_at(rest(l, 2)) as u32);
+    print_what(out, a, l, u, t)
 }
 
 // n of them.
@@ -188,10 +160,9 @@ fn print_which(out: &mut [u8], to: usize, s: &[u8]) -> usize
 fn print_isotope(out: &mut [u8], to: usize, s: &[u8]) -> usize
     ensures { λ r. ⌜ Put (now (out .entry)) to (isotopeText (now (s .entry))) (now (out .exit)) r ⌝ }
 {
-    let a = put_sign(out, to, byte_of(s, 0));
-    let b = put_count(out, a, word_at(rest(s, 2)));
-    let c = put8(out, b, b'i');
-    print_which(out, c, s)
+    let a = put_head(out, to, byte_of(s, 0), word_at(rest(s, 2)) as u32);
+    let b = put8(out, a, b'i');
+    print_which(out, b, s)
 }
 
 // n of them.

@@ -1,12 +1,15 @@
 pub mod Loops
 pub mod Firsts
+pub mod Steps
 pub mod Turns
+pub mod Walking
 pub mod Storing
 pub mod Answered
-pub mod Steps
 pub mod Folds
 pub mod Through
+pub mod Given
 pub mod Filled
+pub mod Worded
 pub mod Numbered
 pub mod Counted
 pub mod Right

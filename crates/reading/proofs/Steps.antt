@@ -8,9 +8,10 @@ use lib.ListN.{length, drop, length-drop}
 use Rattle.lang.proofs.Tests.{not-t}
 use Rattle.rules.specs.Bytes.{bytes}
 use Rattle.rules.specs.Texts.{startsWith}
+use Rattle.annotations.specs.declared.Parts.{Parts}
 use Rattle.reading.specs.declared.Totals.{Totals}
 use Rattle.reading.specs.Totals.{goesOn, addOf, addNext}
-use Rattle.reading.specs.Stores.{Done, doneNext}
+use Rattle.reading.specs.Walks.{Done, doneNext}
 
 comma-some : (s : List ℕ) → startsWith (bytes ",") s ≡ true → 1 ≤ length s
 comma-some [] e = absurd (not-t {x = true} (sym e) tt)
@@ -24,5 +25,6 @@ pub add-falls : (line : List ℕ) (t : Totals) → goesOn line (t .at) ≡ true 
 unfolding addOf
 add-falls line t e = let h = goes-inside line (t .at) e in omega arith
 
-pub done-falls : (line : List ℕ) (a : Done) → goesOn line (a .at) ≡ true → length line - doneNext line a .at < length line - a .at
-done-falls line a e = let h = goes-inside line (a .at) e in omega arith
+pub done-falls : {X : Type 0} (give : List ℕ → Parts → List X) (line : List ℕ) (a : Done X) → goesOn line (a .at) ≡ true
+    → length line - doneNext give line a .at < length line - a .at
+done-falls give line a e = let h = goes-inside line (a .at) e in omega arith

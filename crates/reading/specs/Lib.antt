@@ -1,4 +1,5 @@
 pub mod Loops
 pub mod Totals
+pub mod Walks
 pub mod Stores
 pub mod Readings

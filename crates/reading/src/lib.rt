@@ -104,7 +104,7 @@ fn sum_of(sum: u64, share: u64) -> u64
 }
 
 // The annotation that begins at a place, read as the first of its line: no limit was broken before it.
-fn read_at(line: &[u8], from: usize) -> Parts
+pub fn read_at(line: &[u8], from: usize) -> Parts
     ensures { λ r. ⌜ r ≡ partsAt (now (line .entry)) from ⌝ }
 {
     let none = Fault {
@@ -150,15 +150,40 @@ fn add_next(t: Totals, line: &[u8]) -> Totals
     add(t, line, from, p)
 }
 
+// The first annotation, which was read: there is nothing before it, so that no sum is needed.
+fn add_first(line: &[u8], p: Parts) -> Totals
+    ensures { λ r. ⌜ r ≡ addedBy (now (line .entry)) nothing 0 p ⌝ }
+{
+    let none = Fault {
+        number: 0,
+        place: 0,
+    };
+    let m = measure(line, p);
+    let fault = m.fault;
+    Totals {
+        annotations: 1,
+        losses: m.losses,
+        isotopes: m.isotopes,
+        items: m.items,
+        units: m.units,
+        text: m.text,
+        sum: m.share,
+        limit: fault,
+        breach: note(none, 6, 0, m.kept),
+        excess: note(none, 7, 0, m.share <= ONE),
+        at: ahead(0, m.len, line.len()),
+    }
+}
+
 // All annotations of a line, of which the first was read.
-fn total(line: &[u8], first: Parts) -> Totals
+pub fn total(line: &[u8], first: Parts) -> Totals
     ensures { λ r. ⌜ r ≡ totalsBy (now (line .entry)) first ⌝ }
 {
     let none = before_all();
     if line.len() < 1 {
         return none;
     }
-    let mut t = add(none, line, 0, first);
+    let mut t = add_first(line, first);
     while begins_with(rest(line, t.at), b',') {
         let more = add_next(t, line);
         t = more;
@@ -210,7 +235,7 @@ pub fn refuse(number: usize, place: usize) -> Answer
 }
 
 // The first refusal by 4 to 7 of what was counted.
-fn first_refusal(t: Totals) -> Fault
+pub fn first_refusal(t: Totals) -> Fault
     ensures { λ r. ⌜ r ≡ firstOf t ⌝ }
 {
     let limit = t.limit;

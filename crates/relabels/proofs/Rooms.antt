@@ -1,15 +1,14 @@
 -- An answer other than 8 is the answer for every larger room, and a result is no longer than its room. Assumes nothing.
 use Prim.Native.Nat.{ℕ, _-_, _≤_}
-use mathlib.Core.Path.{_≡_, refl, sym, _∙_, subst}
+use mathlib.Core.Path.{_≡_, refl, sym, _∙_}
 use mathlib.Core.List.{List}
 use native.Mathlib.Omega.{arith}
 use lib.ListN.{length, take, replicate, length-append, length-replicate}
 use lib.Seq.{take-append-seam}
-use Rattle.rules.specs.Lines.{Spelling}
 use Rattle.rules.specs.Limits.{maxLine}
-use Rattle.rules.specs.Answers.{Answer, refuses, gives, Delivers, no-room, done, Reads, ReadsSpelling, ReadsRules, ReadsSum, Writes}
-use Rattle.lines.specs.Relabels.{maxTable, Relabels, refused, relabelled}
-use Rattle.lines.proofs.Enough.{relabel-enough}
+use Rattle.rules.specs.Answers.{Answer, refuses, gives, Delivers, no-room, done, Writes}
+use Rattle.lines.specs.Relabels.{Relabels, refused, relabelled}
+use Rattle.lines.proofs.Back.{relabel-enough}
 use Rattle.relabels.specs.Spelled.{Answers}
 
 -- ---- the same but for the zeros behind the result
@@ -47,24 +46,7 @@ module _ {room room′ : ℕ} (larger : room ≤ room′) where
   delivers-also (no-room h) n = absurd (n refl)
   delivers-also {w} (done h) n = gives-also room room′ w (done (omega arith))
 
-  sum-also : {s : Spelling} {a : Answer} → ReadsSum s room a → (a .number ≡ 8 → ⊥) → Also (ReadsSum s room′) a
-  sum-also (ReadsSum.excess p e) n = refuses-also room room′ (ReadsSum.excess p e)
-  sum-also (ReadsSum.kept e t x d) n = also-as (λ b y. ReadsSum.kept e t x y) (delivers-also d n)
-
-  rules-also : {s : Spelling} {a : Answer} → ReadsRules s room a → (a .number ≡ 8 → ⊥) → Also (ReadsRules s room′) a
-  rules-also (ReadsRules.breach p e) n = refuses-also room room′ (ReadsRules.breach p e)
-  rules-also (ReadsRules.kept e x) n = also-as (λ b y. ReadsRules.kept e y) (sum-also x n)
-
-  spelling-also : {s : Spelling} {a : Answer} → ReadsSpelling s room a → (a .number ≡ 8 → ⊥) → Also (ReadsSpelling s room′) a
-  spelling-also (ReadsSpelling.limit m w) n = refuses-also room room′ (ReadsSpelling.limit m w)
-  spelling-also (ReadsSpelling.kept k x) n = also-as (λ b y. ReadsSpelling.kept k y) (rules-also x n)
-
-  pub reads-also : {line : List ℕ} {a : Answer} → Reads line room a → (a .number ≡ 8 → ⊥) → Also (Reads line room′) a
-  reads-also (Reads.long h) n = refuses-also room room′ (Reads.long h)
-  reads-also (Reads.misshapen h m) n = refuses-also room room′ (Reads.misshapen h m)
-  reads-also (Reads.spelled h s t x) n = also-as (λ b y. Reads.spelled h s t y) (spelling-also x n)
-
-  pub writes-also : {bytes : List ℕ} {a : Answer} → Writes bytes room a → (a .number ≡ 8 → ⊥) → Also (Writes bytes room′) a
+  writes-also : {bytes : List ℕ} {a : Answer} → Writes bytes room a → (a .number ≡ 8 → ⊥) → Also (Writes bytes room′) a
   writes-also (Writes.no-table h) n = refuses-also room room′ (Writes.no-table h)
   writes-also (Writes.long t h l) n = refuses-also room room′ (Writes.long t h l)
   writes-also (Writes.fits t h l d) n = also-as (λ b y. Writes.fits t h l y) (delivers-also d n)
@@ -90,31 +72,15 @@ writes-roomy {room = room} (Writes.no-table h) = refuses-roomy room 9 0
 writes-roomy {room = room} (Writes.long t h l) = refuses-roomy room 1 maxLine
 writes-roomy (Writes.fits t h l d) = delivers-roomy d
 
-pub relabels-roomy : {line table : List ℕ} {tableRoom room : ℕ} {a : Answer} → Relabels line tableRoom room table a → Roomy room a
+pub relabels-roomy : {line : List ℕ} {room : ℕ} {a : Answer} → Relabels line room a → Roomy room a
 relabels-roomy {room = room} (refused {a} r n) = refuses-roomy room (a .number) (a .place)
 relabels-roomy (relabelled r n w) = writes-roomy w
 
 -- ---- read and written
 
-pub answers-by : {line table : List ℕ} {a : Answer} → Relabels line maxTable maxLine table a → Answers line a
-answers-by {line} {table} r = record { table = table; relabels = r; enough = relabel-enough line r (omega arith) (omega arith) }
+answers-by : {line : List ℕ} {a : Answer} → Relabels line maxLine a → Answers line a
+answers-by {line} r = record { relabels = r; enough = relabel-enough line r (λ h. h) }
 
-module _ {line : List ℕ} {tableRoom room : ℕ} (wide : tableRoom ≤ maxTable) (large : room ≤ maxLine) where
-  refused-also : {a : Answer} → Also (Reads line maxTable) a → (a .number ≡ 0 → ⊥) → Also (Answers line) (refuses room (a .number) (a .place))
-  refused-also x n =
-      let b = x .answer in
-      record {
-        answer = refuses maxLine (b .number) (b .place);
-        is = answers-by (refused (x .is) (λ e. n (x .same .number ∙ e)));
-        same = record { number = x .same .number; place = x .same .place; size = refl; result = refl };
-      }
-
-  relabelled-also : {a b : Answer} → Also (Reads line maxTable) a → a .number ≡ 0 → Also (Writes (take (a .size) (a .out)) maxLine) b → Also (Answers line) b
-  relabelled-also x n y =
-      let r = x .answer in
-      let w = subst (λ (l : List ℕ). Writes l maxLine (y .answer)) (x .same .result) (y .is) in
-      record { answer = y .answer; is = answers-by (relabelled (x .is) (sym (x .same .number) ∙ n) w); same = y .same }
-
-  pub relabels-also : {table : List ℕ} {a : Answer} → Relabels line tableRoom room table a → (a .number ≡ 8 → ⊥) → Also (Answers line) a
-  relabels-also (refused r n) h = refused-also (reads-also wide r h) n
-  relabels-also (relabelled r n w) h = relabelled-also (reads-also wide r (λ e. absurd (omega arith))) n (writes-also large w h)
+pub relabels-also : {line : List ℕ} {room : ℕ} {a : Answer} → room ≤ maxLine → Relabels line room a → (a .number ≡ 8 → ⊥) → Also (Answers line) a
+relabels-also {room = room} large (refused r n) h = refuses-also room maxLine (answers-by (refused r n))
+relabels-also large (relabelled r n w) h = also-as (λ b y. answers-by (relabelled r n y)) (writes-also large w h)

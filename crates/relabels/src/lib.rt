@@ -6,9 +6,8 @@ ghost use mathlib.Core.Path.{_≡_};
 ghost use lib.ListN.{length, take, drop};
 ghost use Rattle.rules.specs.Limits.{maxLine};
 ghost use Rattle.shape.specs.Steps.{machineBytes};
-ghost use Rattle.lines.specs.Relabels.{maxTable};
 ghost use Rattle.relabels.specs.Answered.{Answered};
-ghost use Rattle.relabels.specs.Spelled.{Within, Spelled};
+ghost use Rattle.relabels.specs.Spelled.{Spelled};
 ghost use Rattle.relabels.specs.Told.{Told};
 use feeds::behind;
 use feeds::stretch;
@@ -24,27 +23,17 @@ use streams::next_line;
 use streams::room;
 use tells::put_field;
 
-// How many bytes a table needs at most.
-const TABLE: usize = 21340;
-
-// The header and sixteen annotations of a table. What else it has takes no more than SHARE bytes for each byte of the line: 6 for a unit
-// and for the sign of a loss or an adduct item, 8 for an isotope, which has two bytes at least, 1 for a byte of text.
-const FIXED: usize = 28 + 16 * 36;
-
-const SHARE: usize = 6;
-
 // All lines of standard input.
 pub fn relabel_lines() {
     let machine = shape::machine();
     let mut buf = io::large_buffer();
     let mut out = io::large_buffer();
-    let mut table = [0u8; TABLE];
-    all(&machine, &mut buf, &mut out, &mut table);
+    all(&machine, &mut buf, &mut out);
 }
 
 // Line after line, until none comes. A proved loop has to end, so it counts down from a number that no run uses up.
-fn all(machine: &[u8], buf: &mut [u8], out: &mut [u8], table: &mut [u8])
-    requires { ⌜ (now machine ≡ machineBytes) × (maxTable ≤ length (now table)) × (maxLine + 1 ≤ length (now out)) ⌝ }
+fn all(machine: &[u8], buf: &mut [u8], out: &mut [u8])
+    requires { ⌜ (now machine ≡ machineBytes) × (maxLine + 1 ≤ length (now out)) ⌝ }
 {
     let mut s = next_line(buf, out, Stream::begin());
     let mut turns = u64::MAX;
@@ -53,55 +42,32 @@ fn all(machine: &[u8], buf: &mut [u8], out: &mut [u8], table: &mut [u8])
             flush(out, s.waiting);
             return;
         }
-        let said = one_line(machine, buf, out, table, s);
+        let said = one_line(machine, buf, out, s);
         s = next_line(buf, out, said);
         turns -= 1;
     }
 }
 
 // The line that was found is answered, behind the answers that wait; a line feed ends its own.
-fn one_line(machine: &[u8], buf: &[u8], out: &mut [u8], table: &mut [u8], s: Stream) -> Stream
-    requires { ⌜ (now machine ≡ machineBytes) × (maxTable ≤ length (now table)) × (maxLine + 1 ≤ length (now out)) ⌝ }
+fn one_line(machine: &[u8], buf: &[u8], out: &mut [u8], s: Stream) -> Stream
+    requires { ⌜ (now machine ≡ machineBytes) × (maxLine + 1 ≤ length (now out)) ⌝ }
     ensures { λ r. ⌜ Answered (take (s .len) (drop (s .from) (now (buf .entry)))) s (now (out .entry)) (now (out .exit)) r ⌝ }
 {
     let at = room(out, s.waiting, MAX_LINE + 1);
     let line = stretch(buf, s.from, s.len);
-    let a = spell(machine, line, table, out, at);
+    let a = spell(machine, line, out, at);
     let end = put_told(out, at, a);
     s.answered(put8(out, end, b'\n'))
 }
 
-// The preferred spelling at a place of the output. What is lent is cleared, and clearing all that any line might need would cost more than
-// reading most lines: so as much is lent as this line might need, its spelling being no longer than itself. That this suffices is not
-// proved: where it does not, all is lent, which is proved to suffice. Either way the answer is proved to be the one that all would give,
-// and so never 8.
-fn spell(machine: &[u8], line: &[u8], table: &mut [u8], out: &mut [u8], at: usize) -> Answer
-    requires { ⌜ (now machine ≡ machineBytes) × (maxTable ≤ length (now table)) × (at + maxLine ≤ length (now out)) ⌝ }
+// The preferred spelling at a place of the output. It is no longer than the line, so that as many bytes as the line has are lent, and the
+// answer is never 8.
+fn spell(machine: &[u8], line: &[u8], out: &mut [u8], at: usize) -> Answer
+    requires { ⌜ (now machine ≡ machineBytes) × (at + maxLine ≤ length (now out)) ⌝ }
     ensures { λ r. ⌜ Spelled (now (line .entry)) (now (out .entry)) at (now (out .exit)) r ⌝ }
 {
     let n = behind(line.len(), 0, MAX_LINE);
-    let few = behind(FIXED + SHARE * n, 0, TABLE);
-    let a = spell_within(machine, line, table, few, out, at, n);
-    if a.number != 8 {
-        return a;
-    }
-    spell_within(machine, line, table, TABLE, out, at, MAX_LINE)
-}
-
-// By a table of so many bytes, into so many bytes of the output.
-fn spell_within(
-    machine: &[u8],
-    line: &[u8],
-    table: &mut [u8],
-    bytes: usize,
-    out: &mut [u8],
-    at: usize,
-    most: usize,
-) -> Answer
-    requires { ⌜ (bytes ≤ length (now table)) × (at + most ≤ length (now out)) ⌝ }
-    ensures { λ r. ⌜ Within (now (machine .entry)) (now (line .entry)) bytes (now (out .entry)) at most (now (out .exit)) r ⌝ }
-{
-    relabel_by(machine, line, &mut table[..bytes], &mut out[at..at + most])
+    relabel_by(machine, line, &mut out[at..at + n])
 }
 
 // The place behind a spelling that stands at a place already, or behind the refusal that is put there.

@@ -1,26 +1,23 @@
 -- What is stored of an ion that is spelled. Assumes nothing.
 use Prim.Native.Nat.{ℕ}
 use mathlib.Core.Path.{_≡_, refl, ap, _∙_}
-use mathlib.Core.List.{List, [], _∷_, _++_, append-nil}
-use native.Mathlib.Omega.{arith}
+use mathlib.Core.List.{List, _∷_, _++_, append-nil}
 use lib.ListN.{length, drop}
-use Rattle.lang.specs.Parts.{items, flat, wordOf}
+use Rattle.lang.specs.Parts.{items, flat}
 use Rattle.lang.specs.Mark.{Kept, here, later, marksOf}
-use Rattle.rules.specs.Bytes.{bytes}
-use Rattle.rules.specs.Formulas.{Written, FormulaUnit, plain, labelled, unitText}
+use Rattle.rules.specs.Formulas.{Written}
 use Rattle.rules.specs.Ions.{Ion, series, internal, immonium, precursor, reference, named, composed, smiles, unknown, ionText, ionMap}
 use Rattle.rules.specs.Fields.{filled}
-use Rattle.rules.specs.Limits.{maxPosition, maxCount, bare, optPart, numberPart, unitMarks, formulaPart, ionParts}
+use Rattle.rules.specs.Limits.{maxPosition, optPart, numberPart, formulaPart, ionParts}
 use Rattle.rules.specs.Stored.{stores, unitRecord, kind, ionFields}
-use Rattle.rules.proofs.Keeps.{kept-tail, kept-part, row-each}
-use Rattle.rules.proofs.FitParts.{number-within, filled-within}
+use Rattle.rules.proofs.Keeps.{kept-part}
 use Rattle.terms.specs.declared.Fault.{Fault}
 use Rattle.formulas.specs.Chains.{chain}
 use Rattle.formulas.specs.Records.{recordsOf}
-use Rattle.formulas.proofs.Laws.{UnitTold, records-read}
+use Rattle.formulas.proofs.Laws.{records-read}
 use Rattle.pages.specs.Pages.{bytesOf}
 use Rattle.ions.proofs.Laws.{ionRead, ion-spelled-text, ion-spelled-formula}
-use Rattle.arrange.proofs.Fits.{all-in}
+use Rattle.arrange.proofs.Fits.{units-told}
 use Rattle.store.specs.Events.{ionEvents}
 use Rattle.annotations.proofs.Ions.{told-within}
 use Rattle.store.proofs.Numbers.{label-told}
@@ -53,17 +50,6 @@ ion-stored (unknown n) at g k =
 
 -- ---- its units
 
-unit-told : (i : ℕ) (u : FormulaUnit Written) (at : ℕ) → Kept (unitMarks i u at) → UnitTold u
-unit-told i (plain s c) at k =
-    let count = optPart (numberPart maxCount) c in
-    let p = kept-part at (bare (wordOf s) ∷ count ∷ []) (kept-tail k) count (later here) in
-    omega (arith, filled-within c (p .0) (p .1))
-unit-told i (labelled a s c) at k =
-    let ps = bare (bytes "[") ∷ numberPart maxCount a ∷ bare (wordOf s) ∷ numberPart maxCount c ∷ [] in
-    let p = kept-part at ps (kept-tail k) (numberPart maxCount a) (later here) in
-    let q = kept-part at ps (kept-tail k) (numberPart maxCount c) (later (later (later here))) in
-    (omega (arith, number-within maxCount a (p .0) (p .1)), omega (arith, number-within maxCount c (q .0) (q .1)))
-
 -- the records of its units, where it has any
 ion-records : (x : Ion Written) (k : List ℕ) (at : ℕ) (g : Fault) → Kept (marksOf at (ionParts x))
     → recordsOf (ionRead x g .units) (drop (ionRead x g .start) (ionText x ++ k)) ≡ flat (λ u. stores (unitRecord u)) (ionFields (ionMap filled x) .units)
@@ -77,8 +63,8 @@ ion-records (named t) k at g h = refl
 ion-records (composed f) k at g h =
     let us = items f in
     let p = kept-part at (ionParts (composed f)) h (formulaPart f) (later here) in
-    let told = all-in UnitTold us (λ u i. let c = row-each unitText unitMarks 0 us (p .0) (p .1) u i in unit-told (c .0) u (c .1) (c .2)) in
-    ap (recordsOf (length us)) (ion-spelled-formula f k g) ∙ records-read us (125 ∷ k) told (record { no-digit = refl; no-small = refl })
+    ap (recordsOf (length us)) (ion-spelled-formula f k g)
+    ∙ records-read us (125 ∷ k) (units-told us (p .0) (p .1)) (record { no-digit = refl; no-small = refl })
 ion-records (smiles t) k at g h = refl
 ion-records (unknown n) k at g h = refl
 

@@ -35,18 +35,17 @@ use Rattle.annotations.specs.Measured.{partsOf}
 use Rattle.annotations.proofs.Laws.{EndsAnnotation, first, second, text-is, parts-read}
 use Rattle.store.specs.declared.Rows.{Rows}
 use Rattle.store.specs.Records.{recordBytes}
-use Rattle.store.specs.Events.{ionEvents, adductCount, adductEvents, annotationEvents, annotationSize}
+use Rattle.store.specs.Events.{ionEvents, adductCount, adductEvents, annotationEvents}
 use Rattle.store.proofs.Ions.{ion-units, ion-name}
 use Rattle.store.proofs.Records.{tableOf, seen, ionSeen, record-stored}
 use Rattle.store.proofs.Rests.{isotopesOn, adductOn, ion-at, losses-are, isotopes-are, adduct-is}
-use Rattle.store.proofs.Sections.{share-all, events-are, size-is}
+use Rattle.store.proofs.Sections.{share-all, events-are}
 
--- what the bytes s that begin with an annotation store, where p was read of them
-pub record StoresRead (a : Annotation Written) (s : List ℕ) (p : Parts) : Type 0 where
+-- events that store what an annotation says
+pub record StoresRead (a : Annotation Written) (es : List Event) : Type 0 where
   pub table : Annotation Number
   pub says : Says a table
-  pub size : annotationSize s p ≡ length (annotationText a)
-  pub fills : Fills (table ∷ []) (annotationEvents s p)
+  pub fills : Fills (table ∷ []) es
 
 both : (x y : Bool) → T x → T y → T (x && y)
 both true y p q = q
@@ -156,20 +155,19 @@ module _ (a : Annotation Written) (k : List ℕ) (nth end : ℕ) (f : Fault) (e 
       section 5 (sym (ion-other 5) ∙ ion-name (a .ion) (second a k) (ionSeen a k nth end f)) (l .text) refl (x .text)
       ∙ ap (λ (z : List ℕ). ionFields (ionMap filled (a .ion)) .text ++ z) (append-nil (flat (λ l. lostName (l .what)) lost))
 
-  first-stored : StoresRead a (first a k) read
+  first-stored : StoresRead a (annotationEvents (first a k) read)
   first-stored =
       record {
         table = table;
         says = table-says;
-        size = size-is a k nth end f;
         fills = fills-one table annotations-are losses-section isotopes-section items-section units-section text-section;
       }
 
 -- whichever of a line it was read as, from whichever fault on: a fault is not stored
 pub store-read : (a : Annotation Written) (k : List ℕ) (nth end : ℕ) (f : Fault) (i at : ℕ) → EndsAnnotation k → Kept (annotationMarks i a at) → length (annotationText a ++ k) ≤ end
-    → StoresRead a (annotationText a ++ k) (partsOf nth end (annotationText a ++ k) f)
+    → StoresRead a (annotationEvents (annotationText a ++ k) (partsOf nth end (annotationText a ++ k) f))
 store-read a k nth end f i at e kept h =
     let t = text-is a k in
     let g : length (first a k) ≤ end = subst (λ (s : List ℕ). length s ≤ end) t h in
-    subst (λ (s : List ℕ). StoresRead a s (partsOf nth end s f)) (sym t)
-    (subst (StoresRead a (first a k)) (parts-read a k nth end f e g) (first-stored a k nth end f e i at kept))
+    subst (λ (s : List ℕ). StoresRead a (annotationEvents s (partsOf nth end s f))) (sym t)
+    (subst (λ (p : Parts). StoresRead a (annotationEvents (first a k) p)) (parts-read a k nth end f e g) (first-stored a k nth end f e i at kept))

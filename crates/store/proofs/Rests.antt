@@ -1,19 +1,18 @@
 -- What is stored of each part of an annotation that is spelled, and what is left behind it. Assumes nothing.
 use Prim.Native.Nat.{ℕ, _-_}
-use mathlib.Core.Path.{_≡_, sym, ap, _∙_}
-use mathlib.Core.List.{List, _++_, map, append-assoc}
+use mathlib.Core.Path.{_≡_, ap}
+use mathlib.Core.List.{List, _++_, map}
 use native.Mathlib.Omega.{arith}
 use lib.ListN.{length, drop, length-append}
-use Rattle.lang.specs.Parts.{optText, flat}
+use Rattle.lang.specs.Parts.{flat}
 use Rattle.lang.specs.Mark.{Kept, here, later}
 use Rattle.lang.specs.Walk.{Walked}
-use Rattle.rules.specs.Bytes.{bytes}
 use Rattle.rules.specs.Formulas.{Written}
 use Rattle.rules.specs.Ions.{ionText}
 use Rattle.rules.specs.Losses.{lossText, lossMap}
 use Rattle.rules.specs.Isotopes.{isotopesText, isotopesMap}
 use Rattle.rules.specs.Adducts.{adductText}
-use Rattle.rules.specs.Annotations.{Annotation, flagText, analyteText}
+use Rattle.rules.specs.Annotations.{Annotation}
 use Rattle.rules.specs.Fields.{filled}
 use Rattle.rules.specs.Limits.{part, rowPart, lossMarks, isotopesMarks, adductMarks, annotationParts, annotationMarks}
 use Rattle.rules.specs.Stored.{stores, isotopeRecords}
@@ -23,7 +22,7 @@ use Rattle.isotopes.proofs.Stores.{isotopes-stored, kept-told}
 use Rattle.arrange.proofs.Laws.{LossesStored, losses-stored}
 use Rattle.arrange.proofs.Fits.{losses-fit}
 use Rattle.annotations.proofs.Chains.{drop-is}
-use Rattle.annotations.proofs.Laws.{EndsAnnotation, prefixLength, first, second, third, ends-middle, losses-ends, adduct-ends}
+use Rattle.annotations.proofs.Laws.{EndsAnnotation, prefixLength, first, second, third, ends-middle, losses-ends, adduct-ends, behind-prefix}
 use Rattle.store.specs.Events.{behindLosses, behindIsotopes}
 use Rattle.store.proofs.Adducts.{AdductStored, adduct-stored}
 
@@ -37,11 +36,7 @@ module _ (a : Annotation Written) (k : List ℕ) where
 
   -- what is left behind the prefix
   pub ion-at : drop (prefixLength (a .marked) (a .analyte)) (first a k) ≡ ionText (a .ion) ++ second a k
-  ion-at =
-      let m = flagText (bytes "&") (a .marked) in
-      let n = optText analyteText (a .analyte) in
-      let t = ionText (a .ion) ++ second a k in
-      ap (drop (prefixLength (a .marked) (a .analyte))) (sym (append-assoc m n t)) ∙ drop-is (m ++ n) t (sym (length-append m n))
+  ion-at = behind-prefix (a .marked) (a .analyte) (a .ion) (second a k)
 
   module _ (e : EndsAnnotation k) (i at : ℕ) (kept : Kept (annotationMarks i a at)) where
     pub losses-are : LossesStored (map (lossMap filled) (a .losses)) (second a k) (length (flat lossText (a .losses)))

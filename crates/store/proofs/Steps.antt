@@ -26,7 +26,8 @@ use Rattle.annotations.specs.declared.Parts.{Parts}
 use Rattle.store.specs.declared.Added.{Added}
 use Rattle.store.specs.declared.Rows.{Rows}
 use Rattle.store.specs.Records.{signedOf, frontBytes, tailBytes, countBytes, recordBytes}
-use Rattle.store.specs.Events.{ionEvents, adductCount, adductEvents, StoresAdduct, behindLosses, behindIsotopes, s1, annotationEvents, annotationSize, StoresAnnotation}
+use Rattle.annotations.specs.Measured.{behindIon, annotationSize}
+use Rattle.store.specs.Events.{ionEvents, adductCount, adductEvents, StoresAdduct, behindLosses, behindIsotopes, annotationEvents, StoresAnnotation}
 
 -- ---- a number with its sign
 
@@ -83,14 +84,14 @@ module _ {s d : List ℕ} {p : Parts} {c : Cursors} {l : Arranged} {y : Isotopes
       → u ≡ drop (p .middle .len) t1 → r ≡ drop (p .tail .len) u → len ≡ length s - length r → StoresAnnotation s p d c e (record { len = len; cursors = k })
   unfolding annotationEvents annotationSize
   annotation-stored eta ion q1 losses e2 en isotopes e3 f3 adduct eo put ek eu er el =
-      let z2 : l .len ≡ gathered noKeys (s1 s p) .at = losses .len ∙ (λ j. gathered noKeys (q1 j) .at) in
-      let q2 : t2 ≡ behindLosses (s1 s p) = e2 ∙ (λ j. drop (z2 j) (q1 j)) in
-      let z3 : y .len ≡ length (behindLosses (s1 s p)) - length (filedIsotopes (behindLosses (s1 s p)) .rest) =
+      let z2 : l .len ≡ gathered noKeys (behindIon s p) .at = losses .len ∙ (λ j. gathered noKeys (q1 j) .at) in
+      let q2 : t2 ≡ behindLosses (behindIon s p) = e2 ∙ (λ j. drop (z2 j) (q1 j)) in
+      let z3 : y .len ≡ length (behindLosses (behindIon s p)) - length (filedIsotopes (behindLosses (behindIon s p)) .rest) =
       isotopes .len ∙ (λ j. length (q2 j) - length (filedIsotopes (q2 j) .rest)) in
-      let q3 : t3 ≡ behindIsotopes (behindLosses (s1 s p)) = f3 ∙ (λ j. drop (z3 j) (q2 j)) in
-      let pl : l .n ≡ length (gathered noKeys (s1 s p) .slots) = losses .n ∙ (λ j. length (gathered noKeys (q1 j) .slots)) in
-      let py : y .n ≡ filedIsotopes (behindLosses (s1 s p)) .known .n = isotopes .n ∙ (λ j. filedIsotopes (q2 j) .known .n) in
-      let pi : i .n ≡ adductCount (behindIsotopes (behindLosses (s1 s p))) = adduct .n ∙ ap adductCount q3 in
+      let q3 : t3 ≡ behindIsotopes (behindLosses (behindIon s p)) = f3 ∙ (λ j. drop (z3 j) (q2 j)) in
+      let pl : l .n ≡ length (gathered noKeys (behindIon s p) .slots) = losses .n ∙ (λ j. length (gathered noKeys (q1 j) .slots)) in
+      let py : y .n ≡ filedIsotopes (behindLosses (behindIon s p)) .known .n = isotopes .n ∙ (λ j. filedIsotopes (q2 j) .known .n) in
+      let pi : i .n ≡ adductCount (behindIsotopes (behindLosses (behindIon s p))) = adduct .n ∙ ap adductCount q3 in
       record {
         len = el ∙ ap (λ (r : List ℕ). length s - length r) (er ∙ ap (drop (p .tail .len)) (eu ∙ ap (drop (p .middle .len)) q1));
         ran =

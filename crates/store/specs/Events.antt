@@ -16,7 +16,7 @@ use Rattle.arrange.specs.Events.{noKeys, pieceEvents}
 use Rattle.annotations.specs.declared.Front.{Front}
 use Rattle.annotations.specs.declared.Tail.{Tail}
 use Rattle.annotations.specs.declared.Parts.{Parts}
-use Rattle.annotations.specs.Groups.{before}
+use Rattle.annotations.specs.Measured.{behindIon, annotationSize}
 use Rattle.store.specs.declared.Rows.{Rows}
 use Rattle.store.specs.declared.Added.{Added}
 use Rattle.store.specs.declared.Stored.{Stored}
@@ -53,14 +53,8 @@ eventsWith s s1 s2 s3 a b =
     ionEvents (drop (a .at) s) (a .ion)
     ++ (pieceEvents 1 s1 ++ ((2, filedIsotopes s2 .known .bytes) ∷ (adductEvents s3 ++ ((0, recordBytes a b n) ∷ []))))
 
-abbrev pub s1 : List ℕ → Parts → List ℕ
-s1 s p = drop (p .front .len) s
-
 unfoldable pub annotationEvents : List ℕ → Parts → List Event
-annotationEvents s p = eventsWith s (s1 s p) (behindLosses (s1 s p)) (behindIsotopes (behindLosses (s1 s p))) (p .front) (p .tail)
-
-unfoldable pub annotationSize : List ℕ → Parts → ℕ
-annotationSize s p = before s (drop (p .tail .len) (drop (p .middle .len) (s1 s p)))
+annotationEvents s p = eventsWith s (behindIon s p) (behindLosses (behindIon s p)) (behindIsotopes (behindLosses (behindIon s p))) (p .front) (p .tail)
 
 pub record StoresAnnotation (s : List ℕ) (p : Parts) (d : List ℕ) (c : Cursors) (e : List ℕ) (r : Stored) : Type 0 where
   pub len : r .len ≡ annotationSize s p

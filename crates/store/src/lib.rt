@@ -19,6 +19,7 @@ use puts::put_le;
 use puts::put_run;
 use puts::put8;
 use terms::less;
+use terms::part;
 use terms::rest;
 
 // How many losses, isotopes and adduct items an annotation has.
@@ -121,7 +122,7 @@ fn put_ion(out: &mut [u8], c: Cursors, s: &[u8], x: IonRead) -> Cursors
     let t = rest(s, x.start);
     let u = put_records(out, cursor(c, 4), t, x.units);
     let d = with_cursor(c, 4, u);
-    let v = put_run(out, cursor(d, 5), arrange::part(t, 1, x.text));
+    let v = put_run(out, cursor(d, 5), part(t, 1, x.text));
     with_cursor(d, 5, v)
 }
 

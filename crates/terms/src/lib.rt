@@ -2,7 +2,7 @@
 ghost use mathlib.Core.Path.{_≡_};
 ghost use mathlib.Core.List.{_∷_, []};
 ghost use Prim.Native.Nat.{_+_, _-_, min};
-ghost use lib.ListN.{drop};
+ghost use lib.ListN.{take, drop};
 ghost use Rattle.lang.specs.Re.{rng};
 ghost use Rattle.rules.specs.Limits.{numberMark, manyMark};
 ghost use Rattle.rules.specs.Texts.{firstIn, startsWith};
@@ -71,6 +71,23 @@ pub fn rest<'a>(s: &'a [u8], n: usize) -> &'a [u8]
 {
     let from = within(n, s.len());
     &s[from..]
+}
+
+// The first n bytes of a part, as far as it goes.
+pub fn first_of<'a>(s: &'a [u8], n: usize) -> &'a [u8]
+    ensures { λ r. ⌜ now r ≡ take n (now (s .entry)) ⌝ }
+{
+    if n < s.len() {
+        return &s[..n];
+    }
+    s
+}
+
+// The n bytes of a part that begin at a place, as far as they are there.
+pub fn part<'a>(s: &'a [u8], at: usize, n: usize) -> &'a [u8]
+    ensures { λ r. ⌜ now r ≡ take n (drop at (now (s .entry))) ⌝ }
+{
+    first_of(rest(s, at), n)
 }
 
 // Whether a part begins with a byte.
@@ -202,7 +219,7 @@ fn labelled_span(s: &[u8]) -> UnitSpan
 }
 
 // What is measured of the unit that a part begins with. No symbol is looked up, as only who keeps the unit asks for its element.
-fn unit_span(s: &[u8]) -> UnitSpan
+pub fn unit_span(s: &[u8]) -> UnitSpan
     ensures { λ r. ⌜ r ≡ spanOf (now (s .entry)) ⌝ }
 {
     if begins_with(s, b'[') {

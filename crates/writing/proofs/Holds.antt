@@ -52,16 +52,17 @@ written-silent {p} e = subst There e tt
 pub record ReadAs (s : Spelling) (room : ℕ) (a : Answer) : Type 0 where
   pub table : Table
   pub says : Each Says s table
+  pub limits : Kept (lineMarks s)
   pub sound : Sound table
   pub is : a ≡ gives room (stored table)
 
-delivered : (s : Spelling) (room : ℕ) (t : Table) → Each Says s t → Sound t → {a : Answer} → Delivers room (stored t) a → a .number ≡ 0 → ReadAs s room a
-delivered s room t y w (no-room h) e = absurd (omega arith)
-delivered s room t y w (done h) e = record { table = t; says = y; sound = w; is = refl }
+delivered : (s : Spelling) (room : ℕ) (t : Table) → Each Says s t → Kept (lineMarks s) → Sound t → {a : Answer} → Delivers room (stored t) a → a .number ≡ 0 → ReadAs s room a
+delivered s room t y k w (no-room h) e = absurd (omega arith)
+delivered s room t y k w (done h) e = record { table = t; says = y; limits = k; sound = w; is = refl }
 
 sum-as : (s : Spelling) (room : ℕ) → Kept (lineMarks s) → firstBreach 0 s ≡ silent → {a : Answer} → ReadsSum s room a → a .number ≡ 0 → ReadAs s room a
 sum-as s room k r (ReadsSum.excess p z) e = absurd (omega arith)
-sum-as s room k r (ReadsSum.kept z t y d) e = delivered s room t y (record { spelling = s; says = y; limits = k; rules = r; sum = z }) d e
+sum-as s room k r (ReadsSum.kept z t y d) e = delivered s room t y k (record { spelling = s; says = y; limits = k; rules = r; sum = z }) d e
 
 rules-as : (s : Spelling) (room : ℕ) → Kept (lineMarks s) → {a : Answer} → ReadsRules s room a → a .number ≡ 0 → ReadAs s room a
 rules-as s room k (ReadsRules.breach p z) e = absurd (omega arith)

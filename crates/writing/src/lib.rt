@@ -1,20 +1,20 @@
 // A stored table written: its line is printed, read again, and what it reads to is held against the table. So the reader alone decides
 // which bytes are a table. Document 01, "Numbers of refusal": writing tests 9, 1, 8.
 ghost use mathlib.Core.Path.{_≡_};
-ghost use lib.ListN.{length, take};
+ghost use lib.ListN.{length};
 ghost use Rattle.shape.specs.Steps.{scannedBy};
 ghost use Rattle.writing.specs.Same.{sameBytes};
 ghost use Rattle.print_lines.specs.Tables.{printedTable};
 ghost use Rattle.reading.specs.Readings.{answered};
 ghost use Rattle.writing.specs.Writings.{cleared, readsTo, lineOver, foundIn, longest, largest, zeros, writtenOf};
 use print_lines::print_table;
-use prints::first_of;
 use puts::clear;
 use puts::put_run;
 use reading::Answer;
 use reading::MAX_LINE;
 use reading::read_any;
 use reading::refuse;
+use terms::first_of;
 
 // Bytes that suffice for most tables and for their lines.
 pub const FEW: usize = 1024;

@@ -1,7 +1,16 @@
 use Rattle.annotations.proofs.Groups.{middle-is}
+use Rattle.annotations.proofs.Nones.{middle-none}
+use mathlib.Core.Path.{sym, _∙_}
+use borrow.Author.Tests.{not-true}
 use borrow.Author.Needs.{needs}
 use Rattle.annotations.proofs.read_middle.Statement.{statement}
 use Rattle.annotations.proofs.read_middle.Tie as tie
+
+begins-middle-requires : tie.Need-begins-middle-requires
+begins-middle-requires c κs = search needs
+
+returns : tie.Need-returns
+returns c = middle-none (c .before .before .before .args .end) (c .before .before .before .args .s .now) (c .before .before .before .args .f) (sym (c .before .begins-middle .ensures) ∙ not-true _ (c .if1 .taken))
 
 read-pieces-requires : tie.Need-read-pieces-requires
 read-pieces-requires c κs = search needs
@@ -27,13 +36,15 @@ rest-requires-3 c κs = search needs
 less-requires : tie.Need-less-requires
 less-requires c κs = search needs
 
-returns : tie.Need-returns
-returns c = middle-is (c .before .before .before .before .before .before .before .before .before .before .before .before .args .end) (c .before .before .before .before .before .before .before .before .before .before .before .before .args .s .now) (c .before .before .before .before .before .before .before .before .before .before .before .before .args .f) (c .before .before .before .before .before .before .before .before .before .before .read-pieces .ensures) (c .before .before .before .before .before .before .before .before .rest .ensures) (c .before .before .before .before .before .before .before .isotopes .ensures) (c .before .before .before .before .before .rest2 .ensures) (c .before .before .before .before .read-adduct .ensures) (c .before .before .ahead .ensures) (c .before .rest3 .ensures) (c .less .ensures)
+returns-2 : tie.Need-returns-2
+returns-2 c = middle-is (c .before .before .before .before .before .before .before .before .before .before .before .before .before .before .args .end) (c .before .before .before .before .before .before .before .before .before .before .before .before .before .before .args .s .now) (c .before .before .before .before .before .before .before .before .before .before .before .before .before .before .args .f) (c .before .before .before .before .before .before .before .before .before .before .read-pieces .ensures) (c .before .before .before .before .before .before .before .before .rest .ensures) (c .before .before .before .before .before .before .before .isotopes .ensures) (c .before .before .before .before .before .rest2 .ensures) (c .before .before .before .before .read-adduct .ensures) (c .before .before .ahead .ensures) (c .before .rest3 .ensures) (c .less .ensures)
 
 pub read-middle-spec : {M : Type 1} → statement M
 read-middle-spec =
     tie.close
     (tie.spec
+    begins-middle-requires
+    returns
     read-pieces-requires
     rest-requires
     isotopes-requires
@@ -42,4 +53,4 @@ read-middle-spec =
     ahead-requires
     rest-requires-3
     less-requires
-    returns)
+    returns-2)

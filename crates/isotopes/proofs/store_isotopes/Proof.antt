@@ -1,4 +1,4 @@
-use Rattle.isotopes.proofs.Turns.{Filing, moves, files-none, files, filed-all}
+use Rattle.isotopes.proofs.Turns.{Filing, moves, puts-none, files, filed-all}
 use Rattle.terms.specs.Faults.{fault}
 use Rattle.puts.proofs.Laws.{put-length}
 use lib.ListN.{length}
@@ -16,7 +16,7 @@ abbrev μ-loop : tie.MeasureT-loop
 μ-loop s out₀ to none at₀ n₀ next₀ out at n next = length s - at
 
 loop-holds : tie.Need-loop-holds Inv-loop μ-loop
-loop-holds c = files-none (omega arith) (omega arith)
+loop-holds c = puts-none (omega arith) (omega arith)
 
 rest-requires : tie.Need-rest-requires Inv-loop μ-loop
 rest-requires c κs = search needs

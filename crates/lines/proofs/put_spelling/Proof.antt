@@ -1,4 +1,5 @@
-use Rattle.lines.proofs.Given.{copied, printed}
+-- `lines::put_spelling` meets its contract. Assumes nothing.
+use Rattle.lines.proofs.Given.{copied, anew}
 use borrow.Author.Needs.{needs}
 use Rattle.lines.proofs.put_spelling.Statement.{statement}
 use Rattle.lines.proofs.put_spelling.Tie as tie
@@ -13,16 +14,16 @@ same-length : tie.Need-same-length
 same-length c = search needs
 
 returns : tie.Need-returns
-returns c = copied _ _ (c .before .before .before .before .before .is-plain .ensures) (c .before .before .before .before .if1 .taken) (c .before .before .put-run .ensures)
+returns c = copied _ _ _ (c .before .before .before .before .before .is-plain .ensures) (c .before .before .before .before .if1 .taken) (c .before .before .put-run .ensures)
 
-print-table-requires : tie.Need-print-table-requires
-print-table-requires c κs = search needs
+spell-line-requires : tie.Need-spell-line-requires
+spell-line-requires c κs = search needs
 
 same-length-2 : tie.Need-same-length-2
 same-length-2 c = search needs
 
 returns-2 : tie.Need-returns-2
-returns-2 c = printed _ _ (c .before .before .before .before .before .is-plain .ensures) (c .before .before .before .before .if1 .left) (c .before .before .print-table .ensures)
+returns-2 c = anew _ _ _ (c .before .before .before .before .before .is-plain .ensures) (c .before .before .before .before .if1 .left) (c .before .before .spell-line .ensures)
 
 pub put-spelling-spec : {M : Type 1} → statement M
 put-spelling-spec =
@@ -32,6 +33,6 @@ put-spelling-spec =
     put-run-requires
     same-length
     returns
-    print-table-requires
+    spell-line-requires
     same-length-2
     returns-2)

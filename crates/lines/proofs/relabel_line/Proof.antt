@@ -1,5 +1,6 @@
-use native.Mathlib.Omega.{arith}
+-- `lines::relabel_line` meets its contract. Assumes nothing.
 use Rattle.lines.proofs.Right.{relabel-made}
+use native.Mathlib.Omega.{arith}
 use borrow.Author.Needs.{needs}
 use Rattle.lines.proofs.relabel_line.Statement.{statement}
 use Rattle.lines.proofs.relabel_line.Tie as tie
@@ -16,20 +17,10 @@ relabel-by-requires c κs = search needs
 same-length : tie.Need-same-length
 same-length c = search needs
 
-same-length-2 : tie.Need-same-length-2
-same-length-2 c = search needs
-
 returns : tie.Need-returns
-returns c =
-    relabel-made _ _ _ _ (c .before .before .before .before .before .before .before .before .machine .ensures) (omega arith) (λ i h. c .before .before .before .before .before .before .before .before .before .before .before .shared-slice-known .given i .fits) (omega arith) (c .before .before .before .before .relabel-by .ensures)
+returns c = relabel-made _ _ _ (c .before .before .before .before .before .machine .ensures) (λ i h. c .before .before .before .before .before .before .before .shared-slice-known .given i .fits) (omega arith) (c .before .before .relabel-by .ensures)
 
 pub relabel-line-spec : {M : Type 1} → statement M
 relabel-line-spec =
     tie.close
-    (tie.spec
-    machine-requires
-    slice-aggregate-relabel-by
-    relabel-by-requires
-    same-length
-    same-length-2
-    returns)
+    (tie.spec machine-requires slice-aggregate-relabel-by relabel-by-requires same-length returns)

@@ -1,6 +1,6 @@
 -- `prints::print_isotope` meets its contract. Assumes nothing.
-use Rattle.puts.proofs.Laws.{put-then, put-as}
 use Rattle.prints.proofs.Pieces.{isotope-made}
+use Rattle.puts.proofs.Laws.{put-then, put-as}
 use borrow.Author.Needs.{needs}
 use Rattle.prints.proofs.print_isotope.Statement.{statement}
 use Rattle.prints.proofs.print_isotope.Tie as tie
@@ -8,17 +8,17 @@ use Rattle.prints.proofs.print_isotope.Tie as tie
 byte-of-requires : tie.Need-byte-of-requires
 byte-of-requires c κs = search needs
 
-put-sign-requires : tie.Need-put-sign-requires
-put-sign-requires c κs = search needs
-
 rest-requires : tie.Need-rest-requires
 rest-requires c κs = search needs
 
 word-at-requires : tie.Need-word-at-requires
 word-at-requires c κs = search needs
 
-put-count-requires : tie.Need-put-count-requires
-put-count-requires c κs = search needs
+cast-put-head : tie.Need-cast-put-head
+cast-put-head c = search needs
+
+put-head-requires : tie.Need-put-head-requires
+put-head-requires c κs = search needs
 
 put8-requires : tie.Need-put8-requires
 put8-requires c κs = search needs
@@ -30,17 +30,17 @@ same-length : tie.Need-same-length
 same-length c = search needs
 
 returns : tie.Need-returns
-returns c = put-as (put-then (c .before .before .before .before .before .before .before .before .before .before .before .before .before .before .before .before .put-sign .ensures) (put-then (c .before .before .before .before .before .before .before .before .before .before .put-count .ensures) (put-then (c .before .before .before .before .before .before .put8 .ensures) (c .before .before .print-which .ensures)))) (isotope-made (c .before .before .before .before .before .before .before .before .before .before .before .before .before .before .before .before .before .before .before .before .before .args .s .now) (c .before .before .before .before .before .before .before .before .before .before .before .before .before .before .before .before .before .byte-of .ensures) (c .before .before .before .before .before .before .before .before .before .before .before .before .rest .ensures) (c .before .before .before .before .before .before .before .before .before .before .before .word-at .ensures))
+returns c = put-as (put-then (c .before .before .before .before .before .before .before .before .before .before .put-head .ensures) (put-then (c .before .before .before .before .before .before .put8 .ensures) (c .before .before .print-which .ensures))) (isotope-made (c .before .before .before .before .before .before .before .before .before .before .before .before .before .before .before .before .before .args .s .now) (c .before .before .before .before .before .before .before .before .before .before .before .before .before .byte-of .ensures) (c .before .before .before .before .before .before .before .before .before .before .before .before .rest .ensures) (c .before .before .before .before .before .before .before .before .before .before .before .word-at .ensures))
 
 pub print-isotope-spec : {M : Type 1} → statement M
 print-isotope-spec =
     tie.close
     (tie.spec
     byte-of-requires
-    put-sign-requires
     rest-requires
     word-at-requires
-    put-count-requires
+    cast-put-head
+    put-head-requires
     put8-requires
     print-which-requires
     same-length

@@ -1,6 +1,6 @@
 -- `prints::print_piece` meets its contract. Assumes nothing.
-use Rattle.puts.proofs.Laws.{put-then, put-as}
 use Rattle.prints.proofs.Pieces.{piece-made}
+use Rattle.puts.proofs.Laws.{put-then, put-as}
 use borrow.Author.Needs.{needs}
 use Rattle.prints.proofs.print_piece.Statement.{statement}
 use Rattle.prints.proofs.print_piece.Tie as tie
@@ -8,17 +8,17 @@ use Rattle.prints.proofs.print_piece.Tie as tie
 byte-of-requires : tie.Need-byte-of-requires
 byte-of-requires c κs = search needs
 
-put-sign-requires : tie.Need-put-sign-requires
-put-sign-requires c κs = search needs
-
 rest-requires : tie.Need-rest-requires
 rest-requires c κs = search needs
 
 word-at-requires : tie.Need-word-at-requires
 word-at-requires c κs = search needs
 
-put-count-requires : tie.Need-put-count-requires
-put-count-requires c κs = search needs
+cast-put-head : tie.Need-cast-put-head
+cast-put-head c = search needs
+
+put-head-requires : tie.Need-put-head-requires
+put-head-requires c κs = search needs
 
 print-what-requires : tie.Need-print-what-requires
 print-what-requires c κs = search needs
@@ -27,17 +27,17 @@ same-length : tie.Need-same-length
 same-length c = search needs
 
 returns : tie.Need-returns
-returns c = put-as (put-then (c .before .before .before .before .before .before .before .before .before .before .before .before .put-sign .ensures) (put-then (c .before .before .before .before .before .before .put-count .ensures) (c .before .before .print-what .ensures))) (piece-made (c .before .before .before .before .before .before .before .before .before .before .before .before .before .before .before .before .before .before .before .args .l .now) (c .before .before .before .before .before .before .before .before .before .before .before .before .before .byte-of .ensures) (c .before .before .before .before .before .before .before .before .rest .ensures) (c .before .before .before .before .before .before .before .word-at .ensures) (c .before .before .before .before .before .before .before .before .before .before .before .before .before .before .before .before .before .before .before .args .u .now) (c .before .before .before .before .before .before .before .before .before .before .before .before .before .before .before .before .before .before .before .args .t .now))
+returns c = put-as (put-then (c .before .before .before .before .before .before .put-head .ensures) (c .before .before .print-what .ensures)) (piece-made (c .before .before .before .before .before .before .before .before .before .before .before .before .before .before .before .args .l .now) (c .before .before .before .before .before .before .before .before .before .byte-of .ensures) (c .before .before .before .before .before .before .before .before .rest .ensures) (c .before .before .before .before .before .before .before .word-at .ensures) (c .before .before .before .before .before .before .before .before .before .before .before .before .before .before .before .args .u .now) (c .before .before .before .before .before .before .before .before .before .before .before .before .before .before .before .args .t .now))
 
 pub print-piece-spec : {M : Type 1} → statement M
 print-piece-spec =
     tie.close
     (tie.spec
     byte-of-requires
-    put-sign-requires
     rest-requires
     word-at-requires
-    put-count-requires
+    cast-put-head
+    put-head-requires
     print-what-requires
     same-length
     returns)

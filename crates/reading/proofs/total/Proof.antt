@@ -18,8 +18,8 @@ before-all-requires c κs = search needs
 returns : tie.Need-returns Inv-loop μ-loop
 returns c = empty-totals _ _ (c .if1 .taken) (c .before .before-all .ensures)
 
-add-requires : tie.Need-add-requires Inv-loop μ-loop
-add-requires c κs = search needs
+add-first-requires : tie.Need-add-first-requires Inv-loop μ-loop
+add-first-requires c κs = search needs
 
 loop-holds : tie.Need-loop-holds Inv-loop μ-loop
 loop-holds c = counting-begins _ _
@@ -40,7 +40,7 @@ loop-again : tie.Need-loop-again Inv-loop μ-loop
 loop-again c = counting-turns _ (c .before .before .before .before .loop .inv) (c .before .before .before .rest .ensures) (sym (c .before .before .begins-with .ensures) ∙ c .before .if2 .taken) (c .add-next .ensures)
 
 returns-2 : tie.Need-returns-2 Inv-loop μ-loop
-returns-2 c = counting-ends _ (c .before .before .before .loop .inv) (c .before .before .rest .ensures) (c .before .before .before .before .before .before .before .before .args .first) (c .before .before .before .before .before .if1 .left) (c .before .before .before .before .before .before .before-all .ensures) (c .before .before .before .before .add .ensures) (sym (c .before .begins-with .ensures) ∙ c .if2 .left)
+returns-2 c = counting-ends _ (c .before .before .before .loop .inv) (c .before .before .rest .ensures) (c .before .before .before .before .before .before .before .before .args .first) (c .before .before .before .before .before .if1 .left) (c .before .before .before .before .add-first .ensures) (sym (c .before .begins-with .ensures) ∙ c .if2 .left)
 
 pub total-spec : {M : Type 1} → statement M
 total-spec =
@@ -50,7 +50,7 @@ total-spec =
     μ-loop
     before-all-requires
     returns
-    add-requires
+    add-first-requires
     loop-holds
     rest-requires
     begins-with-requires

@@ -1,16 +1,16 @@
--- `relabel::all` is safe and ends. Assumes nothing.
+-- `relabels::all` meets its contract. Assumes nothing.
 use borrow.Author.Needs.{needs}
-use mathlib.Core.Path.{_≡_, refl}
-use lib.ListN.{length}
 use native.Mathlib.Omega.{arith}
+use lib.ListN.{length}
+use mathlib.Core.Path.{_≡_, refl}
 use Rattle.relabels.proofs.all.Statement.{statement}
 use Rattle.relabels.proofs.all.Tie as tie
 
 abbrev Inv-loop : tie.InvT-loop
-Inv-loop machine buf₀ out₀ table₀ s₀ turns₀ buf out table s turns = (length buf ≡ length buf₀) × ((length out ≡ length out₀) × (length table ≡ length table₀))
+Inv-loop machine buf₀ out₀ s₀ turns₀ buf out s turns = (length buf ≡ length buf₀) × (length out ≡ length out₀)
 
 abbrev μ-loop : tie.MeasureT-loop
-μ-loop machine buf₀ out₀ table₀ s₀ turns₀ buf out table s turns = turns
+μ-loop machine buf₀ out₀ s₀ turns₀ buf out s turns = turns
 
 begin-requires : tie.Need-begin-requires Inv-loop μ-loop
 begin-requires c κs = search needs
@@ -19,7 +19,7 @@ next-line-requires : tie.Need-next-line-requires Inv-loop μ-loop
 next-line-requires c κs = search needs
 
 loop-holds : tie.Need-loop-holds Inv-loop μ-loop
-loop-holds c = (search needs, (refl, refl))
+loop-holds c = (search needs, refl)
 
 flush-requires : tie.Need-flush-requires Inv-loop μ-loop
 flush-requires c κs = search needs
@@ -30,14 +30,11 @@ same-length c = omega arith
 same-length-2 : tie.Need-same-length-2 Inv-loop μ-loop
 same-length-2 c = omega arith
 
-same-length-3 : tie.Need-same-length-3 Inv-loop μ-loop
-same-length-3 c = omega arith
-
 returns : tie.Need-returns Inv-loop μ-loop
 returns c = tt
 
 one-line-requires : tie.Need-one-line-requires Inv-loop μ-loop
-one-line-requires c κs = (c .before .before .before .before .before .before .before .before .before .before .before .before .before .before .before .before .before .pre .0, omega (arith, c .before .before .before .before .before .before .before .before .before .before .before .before .before .before .before .before .before .pre .1), omega (arith, c .before .before .before .before .before .before .before .before .before .before .before .before .before .before .before .before .before .pre .2))
+one-line-requires c κs = (c .before .before .before .before .before .before .before .before .before .before .before .before .before .before .before .pre .0, omega (arith, c .before .before .before .before .before .before .before .before .before .before .before .before .before .before .before .pre .1))
 
 next-line-requires-2 : tie.Need-next-line-requires-2 Inv-loop μ-loop
 next-line-requires-2 c κs = search needs
@@ -49,16 +46,13 @@ loop-less : tie.Need-loop-less Inv-loop μ-loop
 loop-less c = search needs
 
 loop-again : tie.Need-loop-again Inv-loop μ-loop
-loop-again c = (omega arith, (omega arith, omega arith))
+loop-again c = (omega arith, omega arith)
+
+same-length-3 : tie.Need-same-length-3 Inv-loop μ-loop
+same-length-3 c = omega arith
 
 same-length-4 : tie.Need-same-length-4 Inv-loop μ-loop
 same-length-4 c = omega arith
-
-same-length-5 : tie.Need-same-length-5 Inv-loop μ-loop
-same-length-5 c = omega arith
-
-same-length-6 : tie.Need-same-length-6 Inv-loop μ-loop
-same-length-6 c = omega arith
 
 returns-2 : tie.Need-returns-2 Inv-loop μ-loop
 returns-2 c = tt
@@ -75,14 +69,12 @@ all-spec =
     flush-requires
     same-length
     same-length-2
-    same-length-3
     returns
     one-line-requires
     next-line-requires-2
     sub-turns
     loop-less
     loop-again
+    same-length-3
     same-length-4
-    same-length-5
-    same-length-6
     returns-2)

@@ -1,8 +1,8 @@
 -- `relabels::one_line` meets its contract. Assumes nothing.
+use Rattle.relabels.proofs.Short.{room-fits}
+use Rattle.relabels.proofs.Answering.{answered-by}
 use lib.ListN.{length}
 use native.Mathlib.Omega.{arith}
-use Rattle.relabels.proofs.Answering.{answered-by}
-use Rattle.relabels.proofs.Short.{room-fits}
 use borrow.Author.Needs.{needs}
 use Rattle.relabels.proofs.one_line.Statement.{statement}
 use Rattle.relabels.proofs.one_line.Tie as tie
@@ -17,7 +17,7 @@ stretch-requires : tie.Need-stretch-requires
 stretch-requires c κs = search needs
 
 spell-requires : tie.Need-spell-requires
-spell-requires c κs = (c .before .before .before .before .before .before .before .before .before .pre .0, c .before .before .before .before .before .before .before .before .before .pre .1, omega (arith, c .before .before .before .room .ensures, room-fits (length (c .before .before .before .before .before .before .before .before .before .args .out .now)) (c .before .before .before .before .before .before .before .before .before .args .s .waiting) 4097 (c .before .before .before .before .before .before .before .before .before .pre .2)))
+spell-requires c κs = (c .before .before .before .before .before .before .before .pre .0, omega (arith, c .before .before .room .ensures, room-fits (length (c .before .before .before .before .before .before .before .args .out .now)) (c .before .before .before .before .before .before .before .args .s .waiting) 4097 (c .before .before .before .before .before .before .before .pre .1)))
 
 put-told-requires : tie.Need-put-told-requires
 put-told-requires c κs = search needs
@@ -31,11 +31,8 @@ answered-requires c κs = search needs
 same-length : tie.Need-same-length
 same-length c = search needs
 
-same-length-2 : tie.Need-same-length-2
-same-length-2 c = search needs
-
 returns : tie.Need-returns
-returns c = answered-by (c .before .before .before .before .before .before .before .before .before .before .before .before .before .before .before .before .before .room .ensures) (c .before .before .before .before .before .before .before .before .before .before .before .before .before .before .before .before .before .before .before .before .before .before .before .pre .2) (c .before .before .before .before .before .before .before .before .before .before .before .before .before .before .before .before .stretch .ensures) (c .before .before .before .before .before .before .before .before .before .before .out .given) (omega arith) (omega arith) (c .before .before .before .before .before .before .before .before .before .before .before .before .before .spell .ensures) (c .before .before .before .before .before .before .before .put-told .ensures) (c .before .before .before .put8 .ensures) (c .answered .ensures)
+returns c = answered-by (c .before .before .before .before .before .before .before .before .before .before .before .before .before .before .room .ensures) (c .before .before .before .before .before .before .before .before .before .before .before .before .before .before .before .before .before .before .before .pre .1) (c .before .before .before .before .before .before .before .before .before .before .before .before .before .stretch .ensures) (c .before .before .before .before .before .before .before .before .before .before .out .given) (omega arith) (omega arith) (c .before .before .before .before .before .before .before .before .before .before .before .spell .ensures) (c .before .before .before .before .before .before .before .put-told .ensures) (c .before .before .before .put8 .ensures) (c .answered .ensures)
 
 pub one-line-spec : {M : Type 1} → statement M
 one-line-spec =
@@ -49,5 +46,4 @@ one-line-spec =
     put8-requires
     answered-requires
     same-length
-    same-length-2
     returns)

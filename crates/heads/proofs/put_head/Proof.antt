@@ -1,0 +1,20 @@
+-- `heads::put_head` meets its contract. Assumes nothing.
+use Rattle.puts.proofs.Laws.{put-then}
+use borrow.Author.Needs.{needs}
+use Rattle.heads.proofs.put_head.Statement.{statement}
+use Rattle.heads.proofs.put_head.Tie as tie
+
+put-sign-requires : tie.Need-put-sign-requires
+put-sign-requires c κs = search needs
+
+put-count-requires : tie.Need-put-count-requires
+put-count-requires c κs = search needs
+
+same-length : tie.Need-same-length
+same-length c = search needs
+
+returns : tie.Need-returns
+returns c = put-then (c .before .before .before .before .before .before .put-sign .ensures) (c .before .before .put-count .ensures)
+
+pub put-head-spec : {M : Type 1} → statement M
+put-head-spec = tie.close (tie.spec put-sign-requires put-count-requires same-length returns)

@@ -1,0 +1,72 @@
+-- `isotopes::spell_isotopes` meets its contract. Assumes nothing.
+use Rattle.isotopes.proofs.Turns.{Spelling, moves, spells-none, spells, spelled-all}
+use Rattle.terms.specs.Faults.{fault}
+use Rattle.puts.proofs.Laws.{put-length}
+use lib.ListN.{length}
+use Prim.Native.Nat.{_-_}
+use native.Mathlib.Omega.{arith}
+use mathlib.Core.Path.{sym, _∙_}
+use borrow.Author.Needs.{needs}
+use Rattle.isotopes.proofs.spell_isotopes.Statement.{statement}
+use Rattle.isotopes.proofs.spell_isotopes.Tie as tie
+
+abbrev Inv-loop : tie.InvT-loop
+Inv-loop out₀ to s none len₀ end₀ out len end = Spelling s out₀ to len out end
+
+abbrev μ-loop : tie.MeasureT-loop
+μ-loop out₀ to s none len₀ end₀ out len end = length s - len
+
+loop-holds : tie.Need-loop-holds Inv-loop μ-loop
+loop-holds c = spells-none (omega arith) (omega arith)
+
+rest-requires : tie.Need-rest-requires Inv-loop μ-loop
+rest-requires c κs = search needs
+
+begins-isotope-requires : tie.Need-begins-isotope-requires Inv-loop μ-loop
+begins-isotope-requires c κs = search needs
+
+rest-requires-2 : tie.Need-rest-requires-2 Inv-loop μ-loop
+rest-requires-2 c κs = search needs
+
+isotope-requires : tie.Need-isotope-requires Inv-loop μ-loop
+isotope-requires c κs = search needs
+
+rest-requires-3 : tie.Need-rest-requires-3 Inv-loop μ-loop
+rest-requires-3 c κs = search needs
+
+spell-isotope-requires : tie.Need-spell-isotope-requires Inv-loop μ-loop
+spell-isotope-requires c κs = search needs
+
+add-len : tie.Need-add-len Inv-loop μ-loop
+add-len c = omega (arith, c .before .before .before .before .before .before .before .before .before .before .before .before .before .before .good .1 .1 .0, moves (c .before .before .before .before .before .before .before .before .before .before .before .loop .inv .puts .passed) (c .before .before .before .before .before .before .before .before .before .before .rest .ensures) 0 0 (fault 0 0) (sym (c .before .before .before .before .before .before .before .before .before .begins-isotope .ensures) ∙ c .before .before .before .before .before .before .before .before .if1 .taken) (c .before .before .before .before .before .before .before .rest2 .ensures) (c .before .before .before .before .before .before .isotope .ensures))
+
+loop-less : tie.Need-loop-less Inv-loop μ-loop
+loop-less c = omega (arith, moves (c .before .before .before .before .before .before .before .before .before .before .before .loop .inv .puts .passed) (c .before .before .before .before .before .before .before .before .before .before .rest .ensures) 0 0 (fault 0 0) (sym (c .before .before .before .before .before .before .before .before .before .begins-isotope .ensures) ∙ c .before .before .before .before .before .before .before .before .if1 .taken) (c .before .before .before .before .before .before .before .rest2 .ensures) (c .before .before .before .before .before .before .isotope .ensures))
+
+loop-again : tie.Need-loop-again Inv-loop μ-loop
+loop-again c = spells (c .before .before .before .before .before .before .before .before .before .before .before .loop .inv) (c .before .before .before .before .before .before .before .before .before .before .rest .ensures) (sym (c .before .before .before .before .before .before .before .before .before .begins-isotope .ensures) ∙ c .before .before .before .before .before .before .before .before .if1 .taken) (c .before .before .before .before .before .before .before .rest2 .ensures) (c .before .before .before .before .before .before .isotope .ensures) (c .before .before .before .before .rest3 .ensures) (c .before .before .before .spell-isotope .ensures)
+
+same-length : tie.Need-same-length Inv-loop μ-loop
+same-length c = put-length (c .before .before .before .loop .inv .puts .put)
+
+returns : tie.Need-returns Inv-loop μ-loop
+returns c = spelled-all (c .before .before .before .loop .inv) (c .before .before .rest .ensures) (sym (c .before .begins-isotope .ensures) ∙ c .if1 .left)
+
+pub spell-isotopes-spec : {M : Type 1} → statement M
+spell-isotopes-spec =
+    tie.close
+    (tie.spec
+    Inv-loop
+    μ-loop
+    loop-holds
+    rest-requires
+    begins-isotope-requires
+    rest-requires-2
+    isotope-requires
+    rest-requires-3
+    spell-isotope-requires
+    add-len
+    loop-less
+    loop-again
+    same-length
+    returns)

@@ -1,0 +1,87 @@
+-- `lines::spell_line` meets its contract. Assumes nothing.
+use borrow.Author.Needs.{needs}
+use Rattle.lines.proofs.Spelling.{Spelling, spelling-begins, spelling-length, spelling-falls, spelling-turns, spelling-ends, empty-spelled}
+use Rattle.puts.proofs.Laws.{put-length}
+use lib.ListN.{length}
+use native.Mathlib.Omega.{arith}
+use mathlib.Core.Path.{refl, sym, _∙_}
+use Prim.Native.Nat.{_-_}
+use Rattle.lines.proofs.spell_line.Statement.{statement}
+use Rattle.lines.proofs.spell_line.Tie as tie
+
+abbrev Inv-loop : tie.InvT-loop
+Inv-loop out₀ line to₀ at₀ out to at = Spelling line out₀ to₀ at₀ out to at
+
+abbrev μ-loop : tie.MeasureT-loop
+μ-loop out₀ line to₀ at₀ out to at = length line - at
+
+returns : tie.Need-returns Inv-loop μ-loop
+returns c = empty-spelled _ _ (omega arith) (c .if1 .taken)
+
+spell-annotation-requires : tie.Need-spell-annotation-requires Inv-loop μ-loop
+spell-annotation-requires c κs = search needs
+
+ahead-requires : tie.Need-ahead-requires Inv-loop μ-loop
+ahead-requires c κs = search needs
+
+loop-holds : tie.Need-loop-holds Inv-loop μ-loop
+loop-holds c = spelling-begins _ (omega arith) (omega arith)
+
+rest-requires : tie.Need-rest-requires Inv-loop μ-loop
+rest-requires c κs = search needs
+
+begins-with-requires : tie.Need-begins-with-requires Inv-loop μ-loop
+begins-with-requires c κs = search needs
+
+ahead-requires-2 : tie.Need-ahead-requires-2 Inv-loop μ-loop
+ahead-requires-2 c κs = search needs
+
+read-at-requires : tie.Need-read-at-requires Inv-loop μ-loop
+read-at-requires c κs = search needs
+
+put8-requires : tie.Need-put8-requires Inv-loop μ-loop
+put8-requires c κs = search needs
+
+rest-requires-2 : tie.Need-rest-requires-2 Inv-loop μ-loop
+rest-requires-2 c κs = search needs
+
+spell-annotation-requires-2 : tie.Need-spell-annotation-requires-2 Inv-loop μ-loop
+spell-annotation-requires-2 c κs = search needs
+
+ahead-requires-3 : tie.Need-ahead-requires-3 Inv-loop μ-loop
+ahead-requires-3 c κs = search needs
+
+loop-less : tie.Need-loop-less Inv-loop μ-loop
+loop-less c = spelling-falls _ (c .before .before .before .before .before .before .before .before .before .before .before .before .before .before .before .loop .inv) (c .before .before .before .before .before .before .before .before .before .before .before .before .before .before .rest .ensures) (sym (c .before .before .before .before .before .before .before .before .before .before .before .before .before .begins-with .ensures) ∙ c .before .before .before .before .before .before .before .before .before .before .before .before .if2 .taken) (c .before .before .before .before .before .before .before .before .before .before .before .ahead2 .ensures) (c .before .before .before .before .before .before .before .before .before .before .read-at .ensures) (c .before .before .before .before .rest2 .ensures) (c .before .before .before .before .before .before .before .before .put8 .ensures) (c .before .before .before .spell-annotation2 .ensures) (c .ahead3 .ensures)
+
+loop-again : tie.Need-loop-again Inv-loop μ-loop
+loop-again c = spelling-turns _ (c .before .before .before .before .before .before .before .before .before .before .before .before .before .before .before .loop .inv) (c .before .before .before .before .before .before .before .before .before .before .before .before .before .before .rest .ensures) (sym (c .before .before .before .before .before .before .before .before .before .before .before .before .before .begins-with .ensures) ∙ c .before .before .before .before .before .before .before .before .before .before .before .before .if2 .taken) (c .before .before .before .before .before .before .before .before .before .before .before .ahead2 .ensures) (c .before .before .before .before .before .before .before .before .before .before .read-at .ensures) (c .before .before .before .before .rest2 .ensures) (c .before .before .before .before .before .before .before .before .put8 .ensures) (c .before .before .before .spell-annotation2 .ensures) (c .ahead3 .ensures)
+
+same-length : tie.Need-same-length Inv-loop μ-loop
+same-length c = spelling-length (c .before .before .before .loop .inv) ∙ put-length (c .before .before .before .before .before .before .before .spell-annotation .ensures .put)
+
+returns-2 : tie.Need-returns-2 Inv-loop μ-loop
+returns-2 c = spelling-ends _ (c .before .before .before .loop .inv) (c .before .before .rest .ensures) _ (c .before .before .before .before .before .before .before .before .before .if1 .left) (c .before .before .before .before .before .before .before .spell-annotation .ensures) refl (c .before .before .before .before .ahead .ensures) (sym (c .before .begins-with .ensures) ∙ c .if2 .left)
+
+pub spell-line-spec : {M : Type 1} → statement M
+spell-line-spec =
+    tie.close
+    (tie.spec
+    Inv-loop
+    μ-loop
+    returns
+    spell-annotation-requires
+    ahead-requires
+    loop-holds
+    rest-requires
+    begins-with-requires
+    ahead-requires-2
+    read-at-requires
+    put8-requires
+    rest-requires-2
+    spell-annotation-requires-2
+    ahead-requires-3
+    loop-less
+    loop-again
+    same-length
+    returns-2)
