@@ -18,3 +18,4 @@ pub mod Sized
 pub mod Spelled
 pub mod Laws
 pub mod Worded
+pub mod Said

@@ -2,7 +2,7 @@
 -- in losses, isotopes and adduct, is spelled as it is preferred. Assumes nothing.
 use Prim.Native.Nat.{ℕ, _≤_}
 use mathlib.Core.Path.{_≡_, refl, sym, ap, ap₂, _∙_}
-use mathlib.Core.Bool.{Bool, true, false, _&&_, _||_}
+use mathlib.Core.Bool.{Bool, true, false, _||_}
 use mathlib.Core.List.{List, [], _∷_, _++_, map}
 use native.Mathlib.Omega.{arith}
 use lib.Dec.{T, eqb, leb, leb→le}
@@ -18,11 +18,12 @@ use Rattle.rules.specs.Ions.{Ion, series, internal, immonium, precursor, refere
 use Rattle.rules.specs.Losses.{signText, Lost, lost-formula, lost-name, lostText, lostMap, Loss, lossText, lossMap}
 use Rattle.rules.specs.Isotopes.{Shift, shiftText, shiftMap, Specific, specificText, specificMap, Isotopes, no-isotope, plain-isotope, average-isotope, specific-isotopes, isotopesText, isotopesMap}
 use Rattle.rules.specs.Adducts.{Added, added-formula, electron, addedText, addedMap, Item, itemText, itemMap, adductText}
-use Rattle.rules.specs.Annotations.{Annotation, annotationText, annotationMap}
+use Rattle.rules.specs.Annotations.{Annotation, annotationText}
 use Rattle.rules.specs.Preferred.{shortened, lossLe, itemLe}
 use Rattle.rules.specs.Fields.{filled}
 use Rattle.rules.specs.Stored.{ionFields}
 use Rattle.rules.proofs.Digits.{digits-small}
+use Rattle.annotations.proofs.Said.{tableOf, said-so}
 use Rattle.annotations.proofs.Worded.{firstWord, Worded}
 use Rattle.respells.specs.Kept.{hasOne}
 
@@ -148,10 +149,6 @@ ion-filled (unknown n) e = refl
 
 -- ---- one at most is in order
 
-pub both : (x y : Bool) → T x → T y → T (x && y)
-both true y p q = q
-both false y p q = p
-
 one-rises : {A : Type 0} (before : A → A → Bool) (l : List A) → length l ≤ 1 → T (rising before l)
 one-rises before [] h = tt
 one-rises before (x ∷ []) h = tt
@@ -175,23 +172,8 @@ kept-worded a u l d h =
     let isotopes-are = isotopes-kept (a .isotopes) (front y x (back ls (y ++ x) h)) in
     let adduct-is = adduct-kept (a .adduct) (back y x (back ls (y ++ x) h)) in
     record {
-      table = annotationMap filled a;
-      says =
-          record {
-            fields =
-                record {
-                  marked = refl;
-                  analyte = refl;
-                  ion = refl;
-                  losses = same;
-                  isotopes = refl;
-                  adduct = same;
-                  charge = refl;
-                  deviation = refl;
-                  confidence = refl;
-                };
-            order = both (rising lossLe losses) (rising itemLe adduct) (one-rises lossLe losses n) (one-rises itemLe adduct m);
-          };
+      table = tableOf a losses adduct;
+      says = said-so a losses adduct same (one-rises lossLe losses n) same (one-rises itemLe adduct m);
       is =
           λ i. annotationText (record {
             marked = a .marked;

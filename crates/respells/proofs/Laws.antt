@@ -9,19 +9,16 @@ use borrow.Author.Tests.{eqb-true, not-true}
 use Rattle.lang.specs.Parts.{optText}
 use Rattle.lang.specs.Mark.{Kept}
 use Rattle.lang.specs.Walk.{Walked}
-use Rattle.lang.specs.Order.{rising}
 use Rattle.lang.proofs.Deriv.{and-0, and-1}
 use Rattle.lang.proofs.Tests.{is-t, t-is}
 use Rattle.rules.specs.Bytes.{bytes}
 use Rattle.rules.specs.Numbers.{Number}
 use Rattle.rules.specs.Formulas.{Written}
-use Rattle.rules.specs.Ions.{ionMap}
 use Rattle.rules.specs.Losses.{Loss, lossText, lossMap}
-use Rattle.rules.specs.Isotopes.{isotopesMap}
 use Rattle.rules.specs.Adducts.{Item}
 use Rattle.rules.specs.Annotations.{Annotation, flagText, analyteText, annotationText}
-use Rattle.rules.specs.Preferred.{lossLe, itemLe, shortened}
-use Rattle.rules.specs.Fields.{filled, Says}
+use Rattle.rules.specs.Preferred.{shortened}
+use Rattle.rules.specs.Fields.{Says}
 use Rattle.rules.specs.Limits.{annotationMarks}
 use Rattle.puts.specs.Puts.{maxPlace}
 use Rattle.terms.specs.declared.Fault.{Fault}
@@ -32,11 +29,12 @@ use Rattle.annotations.specs.declared.Middle.{Middle}
 use Rattle.annotations.specs.declared.Parts.{Parts}
 use Rattle.annotations.specs.Measured.{behindIon, partsOf, annotationSize}
 use Rattle.annotations.proofs.Ions.{ion-told}
+use Rattle.annotations.proofs.Said.{tableOf, said-so}
 use Rattle.annotations.proofs.Worded.{firstWord, Worded}
 use Rattle.annotations.proofs.Laws.{EndsAnnotation, first, second, text-is, fault0, fault1, partsRead, parts-read, behind-ion, size-read}
 use Rattle.respells.specs.Kept.{hasOne, isKept}
 use Rattle.respells.specs.Annotations.{behindLosses, behindIsotopes, spelledWith, partsSpelled, annotationSpelled}
-use Rattle.respells.proofs.Kept.{both, kept-worded}
+use Rattle.respells.proofs.Kept.{kept-worded}
 use Rattle.respells.proofs.Rests.{take-is, prefix-is, middle-is, tail-is, ion-is, isotopesOn, adductOn, losses-are, behind-losses, isotopes-are, behind-isotopes, adduct-is}
 
 -- ---- as it stands
@@ -88,40 +86,14 @@ module _ (a : Annotation Written) (k : List ℕ) (nth end : ℕ) (f : Fault) whe
     abbrev added : List (Item Number)
     added = adduct-is a k e i at kept .ls
 
-    -- the annotation in a table
     abbrev table : Annotation Number
-    table =
-        record {
-          marked = a .marked;
-          analyte = a .analyte;
-          ion = ionMap filled (a .ion);
-          losses = lost;
-          isotopes = isotopesMap filled (a .isotopes);
-          adduct = added;
-          charge = a .charge;
-          deviation = a .deviation;
-          confidence = a .confidence;
-        }
+    table = tableOf a lost added
 
     table-says : Says a table
     table-says =
         let l = losses-are a k e i at kept in
         let x = adduct-is a k e i at kept in
-        record {
-          fields =
-              record {
-                marked = refl;
-                analyte = refl;
-                ion = refl;
-                losses = l .same;
-                isotopes = refl;
-                adduct = x .same;
-                charge = refl;
-                deviation = refl;
-                confidence = refl;
-              };
-          order = both (rising lossLe lost) (rising itemLe added) (l .rise) (x .rise);
-        }
+        said-so a lost added (l .same) (l .rise) (x .same) (x .rise)
 
     parts-are : partsSpelled (first a k) read ≡ spelledWith (first a k) (second a k) (isotopesOn a k) (adductOn a k) read
     unfolding partsSpelled

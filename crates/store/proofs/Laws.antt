@@ -1,14 +1,11 @@
 -- What is stored of an annotation that is spelled. Assumes nothing.
 use Prim.Native.Nat.{ℕ, _≤_}
 use mathlib.Core.Path.{_≡_, refl, sym, ap, _∙_, subst}
-use mathlib.Core.Bool.{Bool, true, false, _&&_}
 use mathlib.Core.List.{List, [], _∷_, _++_, append-nil}
-use lib.Dec.{T}
 use lib.ListN.{length, drop}
 use Rattle.lang.specs.Parts.{flat}
 use Rattle.lang.specs.Mark.{Kept, here, later, marksOf}
 use Rattle.lang.specs.Walk.{Walked}
-use Rattle.lang.specs.Order.{rising}
 use Rattle.rules.specs.Numbers.{Number}
 use Rattle.rules.specs.Formulas.{Written, FormulaUnit}
 use Rattle.rules.specs.Ions.{ionText, ionMap}
@@ -16,7 +13,6 @@ use Rattle.rules.specs.Losses.{Loss}
 use Rattle.rules.specs.Adducts.{Item}
 use Rattle.rules.specs.Isotopes.{isotopesMap}
 use Rattle.rules.specs.Annotations.{Annotation, annotationText}
-use Rattle.rules.specs.Preferred.{lossLe, itemLe}
 use Rattle.rules.specs.Fields.{filled, Says}
 use Rattle.rules.specs.Limits.{part, ionParts, annotationParts, annotationMarks}
 use Rattle.rules.specs.Stored.{stores, unitRecord, lossRecord, itemRecord, lostUnits, lostName, addedUnits, ionFields, isotopeRecords, annotationRecord, annotationUnits, annotationTexts}
@@ -32,12 +28,13 @@ use Rattle.arrange.specs.Gathered.{gathered}
 use Rattle.arrange.specs.Events.{noKeys, pieceEvents}
 use Rattle.annotations.specs.declared.Parts.{Parts}
 use Rattle.annotations.specs.Measured.{partsOf}
+use Rattle.annotations.proofs.Said.{tableOf, said-so}
 use Rattle.annotations.proofs.Laws.{EndsAnnotation, first, second, text-is, parts-read}
 use Rattle.store.specs.declared.Rows.{Rows}
 use Rattle.store.specs.Records.{recordBytes}
 use Rattle.store.specs.Events.{ionEvents, adductCount, adductEvents, annotationEvents}
 use Rattle.store.proofs.Ions.{ion-units, ion-name}
-use Rattle.store.proofs.Records.{tableOf, seen, ionSeen, record-stored}
+use Rattle.store.proofs.Records.{seen, ionSeen, record-stored}
 use Rattle.store.proofs.Rests.{isotopesOn, adductOn, ion-at, losses-are, isotopes-are, adduct-is}
 use Rattle.store.proofs.Sections.{share-all, events-are}
 
@@ -46,10 +43,6 @@ pub record StoresRead (a : Annotation Written) (es : List Event) : Type 0 where
   pub table : Annotation Number
   pub says : Says a table
   pub fills : Fills (table ∷ []) es
-
-both : (x y : Bool) → T x → T y → T (x && y)
-both true y p q = q
-both false y p q = p
 
 module _ (a : Annotation Written) (k : List ℕ) (nth end : ℕ) (f : Fault) (e : EndsAnnotation k) (i at : ℕ) (kept : Kept (annotationMarks i a at)) where
   abbrev read : Parts
@@ -68,10 +61,7 @@ module _ (a : Annotation Written) (k : List ℕ) (nth end : ℕ) (f : Fault) (e 
   table-says =
       let l = losses-are a k e i at kept in
       let x = adduct-is a k e i at kept in
-      record {
-        fields = record { marked = refl; analyte = refl; ion = refl; losses = l .same; isotopes = refl; adduct = x .same; charge = refl; deviation = refl; confidence = refl };
-        order = both (rising lossLe lost) (rising itemLe added) (l .rise) (x .rise);
-      }
+      said-so a lost added (l .same) (l .rise) (x .same) (x .rise)
 
   -- ---- section by section
 

@@ -6,7 +6,7 @@ use lib.ListN.{length}
 use Rattle.lang.specs.Mark.{Kept, here, later, marksOf}
 use Rattle.rules.specs.Numbers.{Number}
 use Rattle.rules.specs.Formulas.{Written}
-use Rattle.rules.specs.Ions.{ionText, ionMap}
+use Rattle.rules.specs.Ions.{ionText}
 use Rattle.rules.specs.Losses.{Loss}
 use Rattle.rules.specs.Isotopes.{isotopesMap}
 use Rattle.rules.specs.Adducts.{Item}
@@ -17,27 +17,13 @@ use Rattle.rules.specs.Stored.{u8, u16, u32, stores, isotopeRecords, annotation
 use Rattle.rules.proofs.Keeps.{kept-tail, kept-part}
 use Rattle.terms.specs.declared.Fault.{Fault}
 use Rattle.annotations.specs.declared.Parts.{Parts}
+use Rattle.annotations.proofs.Said.{tableOf}
 use Rattle.annotations.proofs.Ions.{ion-told}
 use Rattle.annotations.proofs.Laws.{deviationFault, confidenceFault, fault0, fault1, fault2, partsRead}
 use Rattle.store.specs.declared.Rows.{Rows}
 use Rattle.store.specs.Records.{frontBytes, tailBytes, countBytes, recordBytes}
 use Rattle.store.proofs.Numbers.{analyte-told, charge-told, deviation-told, confidence-told}
 use Rattle.store.proofs.Ions.{ion-stored}
-
--- an annotation as a table has it, with losses and adduct items in an order of their own
-abbrev pub tableOf : Annotation Written → List (Loss Number) → List (Item Number) → Annotation Number
-tableOf a ls xs =
-    record {
-      marked = a .marked;
-      analyte = a .analyte;
-      ion = ionMap filled (a .ion);
-      losses = ls;
-      isotopes = isotopesMap filled (a .isotopes);
-      adduct = xs;
-      charge = a .charge;
-      deviation = a .deviation;
-      confidence = a .confidence;
-    }
 
 -- of the annotation a, followed by k, read as number `nth` of a line of `end` bytes, from f on
 module _ (a : Annotation Written) (k : List ℕ) (nth end : ℕ) (f : Fault) where
