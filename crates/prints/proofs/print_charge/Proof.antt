@@ -10,7 +10,7 @@ byte-of-requires : tie.Need-byte-of-requires
 byte-of-requires c κs = search needs
 
 returns : tie.Need-returns
-returns c = put-as (put-none (omega arith) (omega arith)) (charge-one (c .before .before .before .before .args .s .now) (c .before .byte-of .ensures) (c .if1 .taken))
+returns c = put-as (put-none (omega arith) (omega arith)) (charge-one (c .before .before .before .before .args .s .now) (c .before .byte-of .ensures) (omega (arith, c .if1 .taken)))
 
 put8-requires : tie.Need-put8-requires
 put8-requires c κs = search needs
@@ -25,7 +25,7 @@ same-length : tie.Need-same-length
 same-length c = search needs
 
 returns-2 : tie.Need-returns-2
-returns-2 c = put-as (put-then (c .before .before .before .before .before .before .put8 .ensures) (c .before .before .put-number .ensures)) (charge-more (c .before .before .before .before .before .before .before .before .before .before .before .before .args .s .now) (c .before .before .before .before .before .before .before .before .before .byte-of .ensures) (c .before .before .before .before .before .before .before .before .if1 .left))
+returns-2 c = put-as (put-then (c .before .before .before .before .before .before .put8 .ensures) (c .before .before .put-number .ensures)) (charge-more (c .before .before .before .before .before .before .before .before .before .before .before .before .args .s .now) (c .before .before .before .before .before .before .before .before .before .byte-of .ensures) (omega (arith, c .before .before .before .before .before .before .before .before .if1 .left)))
 
 pub print-charge-spec : {M : Type 1} → statement M
 print-charge-spec =
