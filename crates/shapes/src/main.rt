@@ -1,12 +1,17 @@
 // The shape of each line of standard input: `fine`, `3 LENGTH` or `2 PLACE`. Lines end at line feeds, and the last may lack its own;
-// they have any bytes and any length, since a line is scanned part by part as it comes.
+// they have any bytes and any length, since a line is scanned part by part as it comes. What is read and written cannot be stated;
+// `one_part` and `answer` state what is answered to a line.
+ghost use Rattle.puts.specs.Puts.{Put};
+ghost use Rattle.shapes.specs.Shown.{placeText, Shown, Parted};
 use feeds::line_end;
 use libc::STDIN_FILENO;
-use libc::STDOUT_FILENO;
+use numbers::put_number;
 use puts::put_run;
 use puts::put8;
 use shape::Progress;
 use shape::Verdict;
+use streams::flush;
+use streams::room;
 
 // The longest answer: a number, a blank, a place of 20 digits, a line feed.
 const ANSWER: usize = 23;
@@ -72,7 +77,9 @@ struct Work {
 }
 
 // A part of a line, which may be its last.
-fn one_part(machine: &[u8], part: &[u8], out: &mut [u8], w: Work, ends: bool) -> Work {
+fn one_part(machine: &[u8], part: &[u8], out: &mut [u8], w: Work, ends: bool) -> Work
+    ensures { λ r. ⌜ Parted (now (machine .entry)) (now (part .entry)) w ends (now (out .entry)) (now (out .exit)) r ⌝ }
+{
     let begun = w.scan;
     let p = begun.over(machine, part);
     if ends {
@@ -98,8 +105,10 @@ fn last(machine: &[u8], out: &mut [u8], p: Progress) {
 }
 
 // The answer for a line, behind those that wait; how many bytes wait then.
-fn answer(machine: &[u8], out: &mut [u8], waiting: usize, p: Progress) -> usize {
-    let at = room(out, waiting);
+fn answer(machine: &[u8], out: &mut [u8], waiting: usize, p: Progress) -> usize
+    ensures { λ r. ⌜ Shown (now (machine .entry)) p (now (out .entry)) waiting (now (out .exit)) r ⌝ }
+{
+    let at = room(out, waiting, ANSWER);
     let v = p.verdict(machine);
     match v {
         Verdict::Fine => put_run(out, at, b"fine\n"),
@@ -108,27 +117,11 @@ fn answer(machine: &[u8], out: &mut [u8], waiting: usize, p: Progress) -> usize 
     }
 }
 
-// Where the next answer goes: what waits is written first where an answer more might not fit.
-fn room(out: &[u8], waiting: usize) -> usize {
-    if waiting < out.len() {
-        if out.len() - waiting >= ANSWER {
-            return waiting;
-        }
-    }
-    flush(out, waiting);
-    0
-}
-
-fn put_place(out: &mut [u8], at: usize, number: &[u8], place: usize) -> usize {
-    let mut text = [0u8; 20];
-    let n = io::decimal(place as u64, &mut text);
+// A number and a blank, a place, a line feed.
+fn put_place(out: &mut [u8], at: usize, number: &[u8], place: usize) -> usize
+    ensures { λ r. ⌜ Put (now (out .entry)) at (placeText (now (number .entry)) place) (now (out .exit)) r ⌝ }
+{
     let behind = put_run(out, at, number);
-    let end = put_run(out, behind, &text[..n]);
+    let end = put_number(out, behind, place as u64);
     put8(out, end, b'\n')
-}
-
-fn flush(out: &[u8], n: usize) {
-    if n <= out.len() {
-        io::write_all(STDOUT_FILENO, &out[..n]);
-    }
 }

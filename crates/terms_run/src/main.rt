@@ -3,7 +3,10 @@
 //   d TEXT   the decimal: bytes, then value without point, decimals and spelling, or `past`
 //   s TEXT   the element symbol: atomic number, bytes, symbol
 //   f TEXT   the formula: units, bytes, number and place of the first broken limit, preferred spelling
-// Any other line is answered by `?`. The input is at most 65,536 bytes.
+// Any other line is answered by `?`. The input is at most 65,536 bytes. What is read and written cannot be stated; `answer` states what
+// is said to a line.
+ghost use Rattle.puts.specs.Puts.{Put};
+ghost use Rattle.terms_run.specs.Said.{fieldText, numberSaid, decimalSaid, symbolSaid, formulaSaid, answerTo};
 use elements::read_element;
 use feeds::line_end;
 use formulas::put_preferred;
@@ -47,7 +50,9 @@ fn one_line(line: &[u8], out: &mut [u8]) {
 }
 
 // The answer to a line, put from the output's start on; where it ends.
-fn answer(line: &[u8], out: &mut [u8]) -> usize {
+fn answer(line: &[u8], out: &mut [u8]) -> usize
+    ensures { λ r. ⌜ Put (now (out .entry)) 0 (answerTo (now (line .entry))) (now (out .exit)) r ⌝ }
+{
     if line.len() < 2 {
         return put8(out, 0, b'?');
     }
@@ -69,18 +74,24 @@ fn answer(line: &[u8], out: &mut [u8]) -> usize {
 }
 
 // A number and a space.
-fn put_field(out: &mut [u8], at: usize, n: u64) -> usize {
+fn put_field(out: &mut [u8], at: usize, n: u64) -> usize
+    ensures { λ r. ⌜ Put (now (out .entry)) at (fieldText n) (now (out .exit)) r ⌝ }
+{
     let p = put_number(out, at, n);
     put8(out, p, b' ')
 }
 
-fn say_number(text: &[u8], out: &mut [u8]) -> usize {
+fn say_number(text: &[u8], out: &mut [u8]) -> usize
+    ensures { λ r. ⌜ Put (now (out .entry)) 0 (numberSaid (now (text .entry))) (now (out .exit)) r ⌝ }
+{
     let n = read_number(text);
     let p = put_field(out, 0, n.value as u64);
     put_number(out, p, n.len as u64)
 }
 
-fn say_decimal(text: &[u8], out: &mut [u8]) -> usize {
+fn say_decimal(text: &[u8], out: &mut [u8]) -> usize
+    ensures { λ r. ⌜ Put (now (out .entry)) 0 (decimalSaid (now (text .entry))) (now (out .exit)) r ⌝ }
+{
     let d = read_decimal(text);
     let p = put_field(out, 0, d.len as u64);
     let made = d.made;
@@ -94,14 +105,18 @@ fn say_decimal(text: &[u8], out: &mut [u8]) -> usize {
     }
 }
 
-fn say_symbol(text: &[u8], out: &mut [u8]) -> usize {
+fn say_symbol(text: &[u8], out: &mut [u8]) -> usize
+    ensures { λ r. ⌜ Put (now (out .entry)) 0 (symbolSaid (now (text .entry))) (now (out .exit)) r ⌝ }
+{
     let e = read_element(text);
     let p = put_field(out, 0, e.number as u64);
     let q = put_field(out, p, e.len as u64);
     put_symbol(out, q, e.number)
 }
 
-fn say_formula(text: &[u8], out: &mut [u8]) -> usize {
+fn say_formula(text: &[u8], out: &mut [u8]) -> usize
+    ensures { λ r. ⌜ Put (now (out .entry)) 0 (formulaSaid (now (text .entry))) (now (out .exit)) r ⌝ }
+{
     let none = Fault {
         number: 0,
         place: 0,
