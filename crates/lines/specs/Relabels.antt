@@ -8,7 +8,7 @@ use lib.ListN.{length, take}
 use Rattle.rules.specs.Limits.{maxLine}
 use Rattle.rules.specs.Answers.{Answer, refuses, Reads, Writes}
 use Rattle.shape.specs.declared.Verdict.{Verdict}
-use Rattle.shape.specs.declared.Verdict.the-variants.{Fine, Short, Stray}
+use Rattle.shape.specs.Verdicts.{numberOf, placeOf}
 use Rattle.annotations.specs.declared.Parts.{Parts}
 use Rattle.reading.specs.declared.Totals.{Totals}
 use Rattle.reading.specs.Totals.{partsAt, totalsOf}
@@ -35,11 +35,9 @@ relabelledWith line room t p =
 unfoldable pub relabelledOver : List ℕ → ℕ → Answer
 relabelledOver line room = relabelledWith line room (totalsOf line) (partsAt line 0)
 
--- of a line whose shape was judged
+-- of a line whose shape was judged: the verdict's own number, or its spelling
 abbrev pub relabelledAs : Verdict → List ℕ → ℕ → Answer
-relabelledAs Fine line room = relabelledOver line room
-relabelledAs Short line room = refuses room 3 (length line)
-relabelledAs (Stray place) line room = refuses room 2 place
+relabelledAs v line room = cond (eqb (numberOf v) 0) (relabelledOver line room) (refuses room (numberOf v) (placeOf line v))
 
 unfoldable pub relabelledOf : Verdict → List ℕ → ℕ → Answer
 relabelledOf v line room = cond (ltb maxLine (length line)) (refuses room 1 maxLine) (relabelledAs v line room)

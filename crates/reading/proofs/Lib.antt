@@ -5,6 +5,8 @@ pub mod Turns
 pub mod Walking
 pub mod Storing
 pub mod Answered
+pub mod Same
+pub mod Back
 pub mod Folds
 pub mod Through
 pub mod Given

@@ -14,7 +14,7 @@ use Rattle.pages.specs.declared.Counts.{Counts}
 use Rattle.pages.specs.Pages.{run}
 use Rattle.pages.specs.Headers.{startsOf, endAt, headerBytes}
 use Rattle.shape.specs.declared.Verdict.{Verdict}
-use Rattle.shape.specs.declared.Verdict.the-variants.{Fine, Short, Stray}
+use Rattle.shape.specs.Verdicts.{numberOf, placeOf}
 use Rattle.reading.specs.declared.Answer.{Answer}
 use Rattle.reading.specs.declared.Totals.{Totals}
 use Rattle.reading.specs.Totals.{totalsOf}
@@ -35,6 +35,10 @@ abbrev pub countsIn : Totals → Counts
 countsIn t =
     record { annotations = t .annotations; losses = t .losses; isotopes = t .isotopes; items = t .items; units = t .units; text = t .text }
 
+-- a refusal, over an output d that stays as it is
+abbrev pub refusedOver : List ℕ → ℕ → ℕ → rules.Answer
+refusedOver d number place = record { number = number; place = place; size = 0; out = d }
+
 -- header and sections, over the output d
 abbrev pub tableOver : List ℕ → List ℕ → Counts → List ℕ
 tableOver d line n = run (sets d 0 (headerBytes n)) (startsOf n) (lineEvents line)
@@ -42,12 +46,12 @@ tableOver d line n = run (sets d 0 (headerBytes n)) (startsOf n) (lineEvents lin
 abbrev pub storedOver : List ℕ → List ℕ → Counts → rules.Answer
 storedOver d line n =
     cond (ltb (length d) (endAt n))
-    (record { number = 8; place = endAt n; size = 0; out = d })
+    (refusedOver d 8 (endAt n))
     (record { number = 0; place = 0; size = endAt n; out = tableOver d line n })
 
 abbrev pub countedOver : List ℕ → List ℕ → Totals → rules.Answer
 countedOver d line t =
-    let f = firstOf t in cond (eqb (f .number) 0) (storedOver d line (countsIn t)) (record { number = f .number; place = f .place; size = 0; out = d })
+    let f = firstOf t in cond (eqb (f .number) 0) (storedOver d line (countsIn t)) (refusedOver d (f .number) (f .place))
 
 -- of a line with a shape, into an output d
 unfoldable pub spelledOver : List ℕ → List ℕ → rules.Answer
@@ -56,11 +60,9 @@ spelledOver d line = countedOver d line (totalsOf line)
 pub record ReadsSpelled (line d e : List ℕ) (r : Answer) : Type 0 where
   pub is : answered r e ≡ spelledOver d line
 
--- of a line whose shape was judged, into an output d
+-- of a line whose shape was judged, into an output d: the verdict's own number, or what is read
 abbrev pub anyOver : List ℕ → Verdict → List ℕ → rules.Answer
-anyOver d Fine line = spelledOver d line
-anyOver d Short line = record { number = 3; place = length line; size = 0; out = d }
-anyOver d (Stray place) line = record { number = 2; place = place; size = 0; out = d }
+anyOver d v line = cond (eqb (numberOf v) 0) (spelledOver d line) (refusedOver d (numberOf v) (placeOf line v))
 
 unfoldable pub readOf : Verdict → List ℕ → ℕ → rules.Answer
 readOf v line room = cond (ltb maxLine (length line)) (refuses room 1 maxLine) (anyOver (replicate room 0) v line)

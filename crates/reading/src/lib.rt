@@ -6,6 +6,8 @@ ghost use Rattle.shape.specs.Steps.{scannedBy};
 ghost use Rattle.reading.specs.Totals.{nothing, noted, summed, partsAt, addedBy, addNext, totalsBy};
 ghost use Rattle.reading.specs.Stores.{StoresNext, StoresLine};
 ghost use Rattle.reading.specs.Readings.{answered, firstOf, countsIn, refusedOf, ReadsSpelled, anyOver, readOf};
+ghost use Rattle.reading.specs.Same.{sameBytes};
+ghost use Rattle.reading.specs.Back.{readsTo, few, largest, zeros};
 use annotations::ONE;
 use annotations::Parts;
 use annotations::measure;
@@ -21,11 +23,18 @@ use shape::scan_by;
 use store::store;
 use terms::Fault;
 use terms::begins_with;
+use terms::first_of;
 use terms::less;
 use terms::rest;
 
 // How many bytes a line may have.
 pub const MAX_LINE: usize = 4096;
+
+// Bytes that suffice for most tables.
+pub const FEW: usize = 1024;
+
+// Bytes that suffice for every table.
+pub const TABLE: usize = 43596;
 
 // The number of refusal, or 0; its place, or the bytes needed; and how many bytes of the output were written.
 pub struct Answer {
@@ -287,7 +296,7 @@ fn read_spelled(line: &[u8], out: &mut [u8]) -> Answer
 }
 
 // A line of any length, by a lent machine, into a cleared output.
-pub fn read_any(machine: &[u8], line: &[u8], out: &mut [u8]) -> Answer
+fn read_any(machine: &[u8], line: &[u8], out: &mut [u8]) -> Answer
     ensures { λ r. ⌜ answered r (now (out .exit)) ≡ anyOver (now (out .entry)) (scannedBy (now (machine .entry)) (now (line .entry))) (now (line .entry)) ⌝ }
 {
     match scan_by(machine, line) {
@@ -306,4 +315,50 @@ pub fn read_by(machine: &[u8], line: &[u8], out: &mut [u8]) -> Answer
         return refuse(1, MAX_LINE);
     }
     read_any(machine, line, out)
+}
+
+// ---- reading back
+
+// Whether two parts have the same bytes.
+fn same_bytes(a: &[u8], b: &[u8]) -> bool
+    ensures { λ r. ⌜ r ≡ sameBytes (now (a .entry)) (now (b .entry)) ⌝ }
+{
+    if a.len() != b.len() {
+        return false;
+    }
+    let mut i: usize = 0;
+    while i < a.len() {
+        if a[i] != b[i] {
+            return false;
+        }
+        i += 1;
+    }
+    true
+}
+
+// Whether a line of any length reads to a table; `scratch` is cleared.
+fn reads_into(machine: &[u8], line: &[u8], table: &[u8], scratch: &mut [u8]) -> bool
+    ensures { λ r. ⌜ r ≡ readsTo (scannedBy (now (machine .entry)) (now (line .entry))) (now (scratch .entry)) (now (line .entry)) (now (table .entry)) ⌝ }
+{
+    let a = read_any(machine, line, scratch);
+    if a.number != 0 {
+        return false;
+    }
+    same_bytes(first_of(scratch, a.len), table)
+}
+
+// Whether a line of any length reads to a table of few bytes: clearing more costs more than reading most lines.
+pub fn reads_to_few(machine: &[u8], line: &[u8], table: &[u8]) -> bool
+    ensures { λ r. ⌜ r ≡ readsTo (scannedBy (now (machine .entry)) (now (line .entry))) (zeros few) (now (line .entry)) (now (table .entry)) ⌝ }
+{
+    let mut scratch = [0u8; FEW];
+    reads_into(machine, line, table, &mut scratch)
+}
+
+// Whether a line of any length reads to a table.
+pub fn reads_to(machine: &[u8], line: &[u8], table: &[u8]) -> bool
+    ensures { λ r. ⌜ r ≡ readsTo (scannedBy (now (machine .entry)) (now (line .entry))) (zeros largest) (now (line .entry)) (now (table .entry)) ⌝ }
+{
+    let mut scratch = [0u8; TABLE];
+    reads_into(machine, line, table, &mut scratch)
 }

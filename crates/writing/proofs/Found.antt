@@ -1,61 +1,46 @@
 -- A line printed for bytes that may be a table, and read again. The sizes of buffers are variables here, so that no list of zeros is
 -- ever computed. Assumes nothing.
 use Prim.Native.Nat.{ℕ, _-_, _<_, _≤_}
-use mathlib.Core.Path.{_≡_, sym, ap, _∙_}
-use mathlib.Core.Bool.{Bool, true, false, _&&_}
+use mathlib.Core.Path.{_≡_, ap, _∙_}
+use mathlib.Core.Bool.{Bool, true, false}
 use mathlib.Core.List.{List}
 use native.Mathlib.Omega.{arith}
-use lib.Dec.{eqb}
 use lib.ListN.{length, take, replicate}
 use lib.Seq.{take-at}
-use borrow.Author.Tests.{eq-eqb, ne-eqb, lt-ltb, le-ltb}
+use borrow.Author.Tests.{lt-ltb, le-ltb}
 use Rattle.puts.specs.Puts.{maxPlace, Put}
 use Rattle.puts.proofs.Laws.{over-zeros}
 use Rattle.rules.specs.Answers as rules
-use Rattle.shape.specs.declared.Verdict.{Verdict}
 use Rattle.shape.specs.Steps.{scannedBy}
 use Rattle.print_lines.specs.Tables.{printedTable}
 use Rattle.reading.specs.declared.Answer.{Answer}
-use Rattle.reading.specs.Readings.{answered, refusedOf, anyOver}
-use Rattle.writing.specs.Same.{sameBytes, allBytes}
-use Rattle.writing.specs.Writings.{isRead, readsTo, lineOver, foundIn, few, longest, largest, zeros, writtenOf}
-
--- ---- read again
-
-module _ (v : Verdict) (d line table : List ℕ) {e : List ℕ} {r : Answer} (all : allBytes line ≡ true) (q : answered r e ≡ anyOver d v line) where
-  reads-is : readsTo v d line table ≡ (eqb (r .number) 0 && sameBytes (take (r .len) e) table)
-  unfolding readsTo
-  reads-is = ap (λ (x : Bool). x && isRead (anyOver d v line) table) all ∙ ap (λ (a : rules.Answer). isRead a table) (sym q)
-
-  pub reads-not : (r .number ≡ 0 → ⊥) → false ≡ readsTo v d line table
-  reads-not h = sym (reads-is ∙ ap (λ (x : Bool). x && sameBytes (take (r .len) e) table) (ne-eqb (r .number) 0 h))
-
-  pub reads-same : {s : List ℕ} {b : Bool} → r .number ≡ 0 → s ≡ take (r .len) e → b ≡ sameBytes s table → b ≡ readsTo v d line table
-  reads-same h ps pb =
-      pb ∙ ap (λ (s : List ℕ). sameBytes s table) ps
-      ∙ sym (reads-is ∙ ap (λ (x : Bool). x && sameBytes (take (r .len) e) table) (eq-eqb (r .number) 0 h))
+use Rattle.reading.specs.Readings.{answered, refusedOf}
+use Rattle.reading.specs.Back.{readsTo, few, largest, zeros}
+use Rattle.writing.specs.Writings.{lineOver, foundOf, foundIn, longest, writtenOf}
 
 -- ---- found to be the line of a table
 
-module _ (machine : List ℕ) (most : ℕ) (scratch w table : List ℕ) (room : ℕ) {out : List ℕ} {r : Answer} where
-  pub found-long : most < length w → out ≡ replicate room 0 → r ≡ refusedOf 9 0 → answered r out ≡ foundIn machine most scratch w table room
+module _ (w : List ℕ) (room : ℕ) {out : List ℕ} {r : Answer} where
+  pub found-not : (held : Bool) → held ≡ false → out ≡ replicate room 0 → r ≡ refusedOf 9 0 → answered r out ≡ foundOf held w room
+  unfolding foundOf
+  found-not held n z e = rw (n, e, z)
+
+  pub found-held : (held : Bool) → held ≡ true → answered r out ≡ lineOver w room → answered r out ≡ foundOf held w room
+  unfolding foundOf
+  found-held held n q = q ∙ rw n
+
+module _ (machine : List ℕ) (most : ℕ) (scratch w table : List ℕ) (room : ℕ) where
+  pub found-long : {out : List ℕ} {r : Answer} → most < length w → out ≡ replicate room 0 → r ≡ refusedOf 9 0
+      → answered r out ≡ foundIn machine most scratch w table room
   unfolding foundIn
   found-long h z e = rw (lt-ltb most (length w) h, e, z)
 
-  pub found-not : length w ≤ most → readsTo (scannedBy machine w) scratch w table ≡ false → out ≡ replicate room 0 → r ≡ refusedOf 9 0
-      → answered r out ≡ foundIn machine most scratch w table room
+  -- s is what stands in the buffer
+  pub found-within : {s : List ℕ} {held : Bool} {a : rules.Answer} → s ≡ w → length w ≤ most → held ≡ readsTo (scannedBy machine s) scratch s table
+      → a ≡ foundOf held s room → a ≡ foundIn machine most scratch w table room
   unfolding foundIn
-  found-not h n z e = rw (le-ltb most (length w) h, n, e, z)
-
-  pub found-right : length w ≤ most → readsTo (scannedBy machine w) scratch w table ≡ true → answered r out ≡ lineOver w room
-      → answered r out ≡ foundIn machine most scratch w table room
-  unfolding foundIn
-  found-right h n q = q ∙ rw (le-ltb most (length w) h, n)
-
--- what is found of the bytes of a buffer, of the line that they are
-pub found-first : (machine : List ℕ) (most : ℕ) (scratch table : List ℕ) (room : ℕ) {w s : List ℕ} {a : rules.Answer} → s ≡ w
-    → a ≡ foundIn machine most scratch s table room → a ≡ foundIn machine most scratch w table room
-found-first machine most scratch table room q e = e ∙ ap (λ (l : List ℕ). foundIn machine most scratch l table room) q
+  found-within {s} {held} q h e f =
+      f ∙ ap (λ (b : Bool). foundOf b s room) e ∙ ap (λ (l : List ℕ). foundOf (readsTo (scannedBy machine l) scratch l table) l room) q ∙ rw (le-ltb most (length w) h)
 
 -- ---- printed into a buffer
 

@@ -32,12 +32,12 @@ use Rattle.reading.specs.Readings.{spelledOver, anyOver}
 use Rattle.shape.proofs.OneSpelling.{one-spelling}
 use Rattle.reading.proofs.Numbered.{first-numbered, line-numbered}
 use Rattle.reading.proofs.Right.{spelled-right}
-use Rattle.writing.specs.Same.{sameBytes, allBytes}
-use Rattle.writing.specs.Writings.{isRead, readsTo, zeros}
+use Rattle.reading.specs.Same.{sameBytes, allBytes}
+use Rattle.reading.specs.Back.{isRead, readsTo, zeros}
 use Rattle.rules.proofs.PreferredSpells.{said-in-order, preferred-says}
 use Rattle.writing.proofs.Low.{line-bytes}
 use Rattle.writing.proofs.Prefers.{preferred-kept, preferred-rules, preferred-sum}
-use Rattle.writing.proofs.Same.{same-is, same-refl}
+use Rattle.reading.proofs.Same.{same-is, same-refl}
 
 written-silent : {p : ℕ} → _≡_ {A = Opt ℕ} (written p) silent → ⊥
 written-silent {p} e = subst There e tt

@@ -17,7 +17,7 @@ use Rattle.rules.specs.Elements.{symbols}
 use Rattle.rules.specs.Lines.{Spelling, lineText}
 use Rattle.shape.proofs.Grammar.{lineRe, symbolRe}
 use Rattle.shape.proofs.MeansLine.{means-line}
-use Rattle.writing.specs.Same.{allBytes}
+use Rattle.reading.specs.Same.{allBytes}
 
 -- every class of the grammar is one of bytes
 abbrev low : Re → Bool

@@ -20,8 +20,9 @@ use Rattle.shape.specs.Verdicts.{JudgedBy}
 use Rattle.print_lines.specs.Tables.{printedTable}
 use Rattle.print_lines.proofs.Laws.{table-printed}
 use Rattle.print_lines.proofs.Short.{line-short}
-use Rattle.writing.specs.Same.{allBytes}
-use Rattle.writing.specs.Writings.{readsTo, lineOver, foundIn, few, longest, largest, zeros, writtenOf}
+use Rattle.reading.specs.Same.{allBytes}
+use Rattle.reading.specs.Back.{readsTo, few, largest, zeros}
+use Rattle.writing.specs.Writings.{lineOver, foundOf, foundIn, longest, writtenOf}
 use Rattle.writing.proofs.Holds.{reads-holds, holds-reads}
 
 -- the line of a table, against its bound and the output
@@ -56,7 +57,7 @@ module _ (machine table : List ℕ) (room : ℕ) (judged : (l : List ℕ) → al
         (subst (λ (x : List ℕ). readsTo (scannedBy machine x) (zeros size) x (stored t) ≡ true) (sym q) r)
 
     found-right : Writes table room (foundIn machine most (zeros size) w table room)
-    unfolding foundIn
+    unfolding foundIn foundOf
     found-right = by (ltb most (length w)) refl
       where
         holds : length w ≤ maxPlace → (b : Bool) → readsTo (scannedBy machine w) (zeros size) w table ≡ b → Writes table room (cond b (lineOver w room) (refuses room 9 0))

@@ -1,13 +1,13 @@
--- `writing::same_bytes` meets its contract: the bytes that are left decide. Assumes nothing.
-use Rattle.writing.proofs.Same.{same-apart, same-on, same-off, same-ends}
-use Rattle.writing.specs.Same.{sameBytes}
+-- `reading::same_bytes` meets its contract: the bytes that are left decide. Assumes nothing.
+use Rattle.reading.proofs.Same.{same-apart, same-on, same-off, same-ends}
+use Rattle.reading.specs.Same.{sameBytes}
 use lib.ListN.{length, drop}
 use mathlib.Core.Path.{_≡_, refl, sym, _∙_}
 use Prim.Native.Nat.{_-_}
 use borrow.Author.Needs.{needs}
 use native.Mathlib.Omega.{arith}
-use Rattle.writing.proofs.same_bytes.Statement.{statement}
-use Rattle.writing.proofs.same_bytes.Tie as tie
+use Rattle.reading.proofs.same_bytes.Statement.{statement}
+use Rattle.reading.proofs.same_bytes.Tie as tie
 
 abbrev Inv-loop : tie.InvT-loop
 Inv-loop a b i₀ i = sameBytes a b ≡ sameBytes (drop i a) (drop i b)

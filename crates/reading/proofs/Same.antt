@@ -10,7 +10,7 @@ use lib.ListN.{length, getD, drop, drop-of-length-le}
 use lib.Seq.{drop-cons}
 use borrow.Author.Tests.{eqb-true, eq-eqb, ne-eqb, lt-ltb}
 use Rattle.lang.proofs.Tests.{not-t}
-use Rattle.writing.specs.Same.{sameBytes, allBytes}
+use Rattle.reading.specs.Same.{sameBytes, allBytes}
 
 -- ---- two tests
 

@@ -1,10 +1,10 @@
--- `writing::reads_to` meets its contract: what was read is compared. Assumes nothing.
+-- `reading::reads_into` meets its contract: what was read is compared. Assumes nothing.
 use Rattle.shape.specs.Steps.{scannedBy}
-use Rattle.writing.proofs.Found.{reads-not, reads-same}
-use Rattle.writing.proofs.Same.{bytes-all}
+use Rattle.reading.proofs.Back.{reads-not, reads-same}
+use Rattle.reading.proofs.Same.{bytes-all}
 use borrow.Author.Needs.{needs}
-use Rattle.writing.proofs.reads_to.Statement.{statement}
-use Rattle.writing.proofs.reads_to.Tie as tie
+use Rattle.reading.proofs.reads_into.Statement.{statement}
+use Rattle.reading.proofs.reads_into.Tie as tie
 
 read-any-requires : tie.Need-read-any-requires
 read-any-requires c κs = search needs
@@ -27,8 +27,8 @@ same-length-2 c = search needs
 returns-2 : tie.Need-returns-2
 returns-2 c = let a = (c .before .before .before .before .before .before .before .before .before .before .before .before .before .args) in reads-same (scannedBy (a .machine .now) (a .line .now)) (a .scratch .now) (a .line .now) (a .table .now) (bytes-all (a .line .now) (λ i h. (c .before .before .before .before .before .before .before .before .before .before .before .shared-slice-known2 .given) i .fits)) (c .before .before .before .before .before .before .before .read-any .ensures) (c .before .before .before .if1 .left) (c .before .first-of .ensures) (c .same-bytes .ensures)
 
-pub reads-to-spec : {M : Type 1} → statement M
-reads-to-spec =
+pub reads-into-spec : {M : Type 1} → statement M
+reads-into-spec =
     tie.close
     (tie.spec
     read-any-requires
