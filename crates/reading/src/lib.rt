@@ -247,13 +247,13 @@ pub fn refuse(number: usize, place: usize) -> Answer
 pub fn first_refusal(t: Totals) -> Fault
     ensures { λ r. ⌜ r ≡ firstOf t ⌝ }
 {
-    let limit = t.limit;
-    if limit.number != 0 {
-        return limit;
+    let broken = t.limit;
+    if broken.number != 0 {
+        return broken;
     }
-    let breach = t.breach;
-    if breach.number != 0 {
-        return breach;
+    let rule = t.breach;
+    if rule.number != 0 {
+        return rule;
     }
     t.excess
 }

@@ -1,3 +1,5 @@
+-- `reading::read_by` meets its contract: by the line's length. Assumes nothing.
+use native.Mathlib.Omega.{arith}
 use Rattle.reading.proofs.Answered.{read-long, read-within}
 use borrow.Author.Needs.{needs}
 use Rattle.reading.proofs.read_by.Statement.{statement}
@@ -13,7 +15,9 @@ same-length : tie.Need-same-length
 same-length c = search needs
 
 returns : tie.Need-returns
-returns c = read-long _ _ _ (c .before .before .before .before .clear .ensures) (c .before .if1 .taken) (c .refuse .ensures)
+returns c =
+    let at-clear = c .before .before .before .before in
+    read-long _ _ _ (at-clear .clear .ensures) (omega (arith, c .before .if1 .taken)) (c .refuse .ensures)
 
 read-any-requires : tie.Need-read-any-requires
 read-any-requires c κs = search needs
@@ -22,7 +26,10 @@ same-length-2 : tie.Need-same-length-2
 same-length-2 c = search needs
 
 returns-2 : tie.Need-returns-2
-returns-2 c = read-within _ _ _ (c .before .before .before .before .before .before .before .clear .ensures) (c .before .before .before .before .if1 .left) (c .before .before .read-any .ensures)
+returns-2 c =
+    let at-if1 = c .before .before .before .before in
+    let at-clear = at-if1 .before .before .before in
+    read-within _ _ _ (at-clear .clear .ensures) (omega (arith, at-if1 .if1 .left)) (c .before .before .read-any .ensures)
 
 pub read-by-spec : {M : Type 1} → statement M
 read-by-spec =
