@@ -9,7 +9,7 @@ use lib.Dec.{eqb, leb→le}
 use Rattle.lang.specs.Parts.{Opt, silent, written}
 use Rattle.rules.specs.Numbers.{From}
 use Rattle.rules.specs.Losses.{Sign, minus, plus}
-use Rattle.rules.specs.Preferred.{rank, signRank, key, countOr1}
+use Rattle.rules.specs.Preferred.{lowestByte, rank, signRank, key, countOr1}
 use Rattle.rules.proofs.Shortened.{from-path}
 
 -- the rank of a byte, given whether the byte is `[`
@@ -18,17 +18,17 @@ rankIf b x = elim x [ true ↦ 1 | false ↦ b + 2 ]
 
 -- no byte has the rank of the end
 rank-some : (b : ℕ) → 0 < rank b
-rank-some b = by (eqb b 91)
+rank-some b = by (eqb b lowestByte)
   where
     by : (x : Bool) → 0 < rankIf b x
     by true = omega arith
     by false = omega arith
 
 rank-one : (a b : ℕ) → rank a ≡ rank b → a ≡ b
-rank-one a b = by (eqb a 91) refl (eqb b 91) refl
+rank-one a b = by (eqb a lowestByte) refl (eqb b lowestByte) refl
   where
-    by : (x : Bool) → eqb a 91 ≡ x → (y : Bool) → eqb b 91 ≡ y → rankIf a x ≡ rankIf b y → a ≡ b
-    by true e true f p = eqb-true a 91 e ∙ sym (eqb-true b 91 f)
+    by : (x : Bool) → eqb a lowestByte ≡ x → (y : Bool) → eqb b lowestByte ≡ y → rankIf a x ≡ rankIf b y → a ≡ b
+    by true e true f p = eqb-true a lowestByte e ∙ sym (eqb-true b lowestByte f)
     by true e false f p = omega arith
     by false e true f p = omega arith
     by false e false f p = omega arith

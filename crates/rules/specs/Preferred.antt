@@ -19,9 +19,13 @@ shortened n = elim (leb (n .value) 1) [ true ↦ silent | false ↦ written n ]
 
 -- ---- the order
 
--- `[` ranks below all other bytes, and the end of a text (0) below every byte: a prefix before the longer
+-- `[`, which ranks below all other bytes
+abbrev pub lowestByte : ℕ
+lowestByte = 91
+
+-- the end of a text (0) ranks below every byte: a prefix before the longer
 abbrev pub rank : ℕ → ℕ
-rank b = elim (eqb b 91) [ true ↦ 1 | false ↦ b + 2 ]
+rank b = elim (eqb b lowestByte) [ true ↦ 1 | false ↦ b + 2 ]
 
 -- `-` before `+`
 abbrev pub signRank : Sign → ℕ

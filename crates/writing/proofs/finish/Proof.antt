@@ -16,7 +16,10 @@ same-length : tie.Need-same-length
 same-length c = search needs
 
 returns : tie.Need-returns
-returns c = let a = c .before .before .before .before .before .before .before .before .args in found-not (a .line .now) (length (a .out .now)) (a .held) (not-true _ (c .before .before .before .before .before .if1 .taken)) (c .before .before .before .clear .ensures) (c .refuse .ensures)
+returns c =
+    let at-if1 = c .before .before .before .before .before in
+    let at-args = at-if1 .before .before .before in
+    let a = at-args .args in found-not (a .line .now) (length (a .out .now)) (a .held) (not-true _ (at-if1 .if1 .taken)) (c .before .before .before .clear .ensures) (c .refuse .ensures)
 
 write-line-requires : tie.Need-write-line-requires
 write-line-requires c κs = search needs
@@ -25,7 +28,10 @@ same-length-2 : tie.Need-same-length-2
 same-length-2 c = search needs
 
 returns-2 : tie.Need-returns-2
-returns-2 c = let a = c .before .before .before .before .before .before .before .args in found-held (a .line .now) (length (a .out .now)) (a .held) (not-false _ (c .before .before .before .before .if1 .left)) (c .before .before .write-line .ensures)
+returns-2 c =
+    let at-if1 = c .before .before .before .before in
+    let at-args = at-if1 .before .before .before in
+    let a = at-args .args in found-held (a .line .now) (length (a .out .now)) (a .held) (not-false _ (at-if1 .if1 .left)) (c .before .before .write-line .ensures)
 
 pub finish-spec : {M : Type 1} → statement M
 finish-spec =

@@ -15,7 +15,10 @@ same-length : tie.Need-same-length
 same-length c = search needs
 
 returns : tie.Need-returns
-returns c = let a = (c .before .before .before .before .before .before .before .before .args) in line-long (a .line .now) (length (a .out .now)) (c .before .before .before .before .before .if1 .taken) (c .before .before .before .clear .ensures) (c .refuse .ensures)
+returns c =
+    let at-if1 = c .before .before .before .before .before in
+    let at-args = at-if1 .before .before .before in
+    let a = (at-args .args) in line-long (a .line .now) (length (a .out .now)) (at-if1 .if1 .taken) (c .before .before .before .clear .ensures) (c .refuse .ensures)
 
 clear-requires-2 : tie.Need-clear-requires-2
 clear-requires-2 c κs = search needs
@@ -27,7 +30,11 @@ same-length-2 : tie.Need-same-length-2
 same-length-2 c = search needs
 
 returns-2 : tie.Need-returns-2
-returns-2 c = let a = (c .before .before .before .before .before .before .before .before .before .args) in line-no-room (a .line .now) (length (a .out .now)) (c .before .before .before .before .before .before .if1 .left) (c .before .before .before .before .before .if2 .taken) (c .before .before .before .clear2 .ensures) (c .refuse2 .ensures)
+returns-2 c =
+    let at-if2 = c .before .before .before .before .before in
+    let at-if1 = at-if2 .before in
+    let at-args = at-if1 .before .before .before in
+    let a = (at-args .args) in line-no-room (a .line .now) (length (a .out .now)) (at-if1 .if1 .left) (at-if2 .if2 .taken) (c .before .before .before .clear2 .ensures) (c .refuse2 .ensures)
 
 put-run-requires : tie.Need-put-run-requires
 put-run-requires c κs = search needs
@@ -39,7 +46,12 @@ same-length-3 : tie.Need-same-length-3
 same-length-3 c = search needs
 
 returns-3 : tie.Need-returns-3
-returns-3 c = let a = (c .before .before .before .before .before .before .before .before .before .before .before .before .args) in line-fits (a .line .now) (length (a .out .now)) (c .before .before .before .before .before .before .before .before .before .if1 .left) (c .before .before .before .before .before .before .before .before .if2 .left) (line-cleared (c .before .before .before .before .before .before .put-run .ensures) (c .before .before .before .before .before .before .before .before .if2 .left) (c .before .before .clear-from .ensures))
+returns-3 c =
+    let at-put-run = c .before .before .before .before .before .before in
+    let at-if2 = at-put-run .before .before in
+    let at-if1 = at-if2 .before in
+    let at-args = at-if1 .before .before .before in
+    let a = (at-args .args) in line-fits (a .line .now) (length (a .out .now)) (at-if1 .if1 .left) (at-if2 .if2 .left) (line-cleared (at-put-run .put-run .ensures) (at-if2 .if2 .left) (c .before .before .clear-from .ensures))
 
 pub write-line-spec : {M : Type 1} → statement M
 write-line-spec =
