@@ -16,12 +16,13 @@ use Rattle.shape.specs.declared.Verdict.{Verdict}
 use Rattle.shape.specs.declared.Verdict.the-variants.{Fine, Short, Stray}
 use Rattle.terms.specs.declared.Fault.{Fault}
 use Rattle.annotations.specs.declared.Parts.{Parts}
-use Rattle.reading.specs.declared.Answer.{Answer}
+use Rattle.deliver.specs.declared.Answer.{Answer}
 use Rattle.reading.specs.declared.Totals.{Totals}
 use Rattle.reading.specs.Totals.{partsAt, totalsBy}
-use Rattle.reading.specs.Readings.{answered, refusedOf, firstOf}
-use Rattle.writing.specs.Writings.{cleared, lineOver}
-use Rattle.writing.proofs.Lines.{line-cleared, line-long, line-no-room, line-fits}
+use Rattle.deliver.specs.Delivered.{answered, refusedOf}
+use Rattle.reading.specs.Readings.{firstOf}
+use Rattle.deliver.specs.Delivered.{cleared, lineOver}
+use Rattle.deliver.proofs.Lines.{line-cleared, line-long, line-no-room, line-fits}
 use Rattle.lines.specs.Plain.{spellingOf}
 use Rattle.lines.specs.Relabels.{relabelledWith, relabelledOver, relabelledOf}
 

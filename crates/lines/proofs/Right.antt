@@ -35,7 +35,7 @@ use Rattle.reading.specs.Readings.{firstOf, countsIn, tableOver, spelledOver, a
 use Rattle.reading.proofs.Given.{Gives, line-given}
 use Rattle.reading.proofs.Worded.{line-worded}
 use Rattle.reading.proofs.Right.{read-right}
-use Rattle.writing.specs.Writings.{lineOver}
+use Rattle.deliver.specs.Delivered.{lineOver}
 use Rattle.writing.proofs.Holds.{spelling-as, no-number, take-given}
 use Rattle.writing.proofs.Right.{line-right}
 use Rattle.lines.specs.Plain.{isPlain, nextSpelled, lineSpelled, spellingOf}

@@ -13,7 +13,7 @@ use Rattle.annotations.specs.declared.Parts.{Parts}
 use Rattle.reading.specs.declared.Totals.{Totals}
 use Rattle.reading.specs.Totals.{partsAt, totalsOf}
 use Rattle.reading.specs.Readings.{firstOf}
-use Rattle.writing.specs.Writings.{lineOver}
+use Rattle.deliver.specs.Delivered.{lineOver}
 use Rattle.lines.specs.Plain.{spellingOf}
 
 -- how many bytes the table of a line within its bound has at most

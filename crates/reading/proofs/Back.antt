@@ -8,8 +8,9 @@ use lib.ListN.{take}
 use borrow.Author.Tests.{eq-eqb, ne-eqb}
 use Rattle.rules.specs.Answers as rules
 use Rattle.shape.specs.declared.Verdict.{Verdict}
-use Rattle.reading.specs.declared.Answer.{Answer}
-use Rattle.reading.specs.Readings.{answered, anyOver}
+use Rattle.deliver.specs.declared.Answer.{Answer}
+use Rattle.deliver.specs.Delivered.{answered}
+use Rattle.reading.specs.Readings.{anyOver}
 use Rattle.reading.specs.Same.{sameBytes, allBytes}
 use Rattle.reading.specs.Back.{isRead, readsTo}
 

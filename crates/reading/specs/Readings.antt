@@ -15,17 +15,11 @@ use Rattle.pages.specs.Pages.{run}
 use Rattle.pages.specs.Headers.{startsOf, endAt, headerBytes}
 use Rattle.shape.specs.declared.Verdict.{Verdict}
 use Rattle.shape.specs.Verdicts.{numberOf, placeOf}
-use Rattle.reading.specs.declared.Answer.{Answer}
+use Rattle.deliver.specs.declared.Answer.{Answer}
+use Rattle.deliver.specs.Delivered.{answered}
 use Rattle.reading.specs.declared.Totals.{Totals}
 use Rattle.reading.specs.Totals.{totalsOf}
 use Rattle.reading.specs.Stores.{lineEvents}
-
--- the answer of the paper, with the bytes of the output
-abbrev pub answered : Answer → List ℕ → rules.Answer
-answered r out = record { number = r .number; place = r .place; size = r .len; out = out }
-
-abbrev pub refusedOf : ℕ → ℕ → Answer
-refusedOf number place = record { number = number; place = place; len = 0 }
 
 -- 4 and 5, then 6, then 7
 unfoldable pub firstOf : Totals → Fault

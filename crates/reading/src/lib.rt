@@ -2,16 +2,20 @@
 // What was read of the first annotation is handed on from measuring to storing: most lines have no other.
 ghost use mathlib.Core.Path.{_≡_};
 ghost use lib.ListN.{length};
+ghost use Rattle.deliver.specs.Delivered.{answered};
 ghost use Rattle.shape.specs.Steps.{scannedBy};
 ghost use Rattle.reading.specs.Totals.{nothing, noted, summed, partsAt, addedBy, addNext, totalsBy};
 ghost use Rattle.reading.specs.Stores.{StoresNext, StoresLine};
-ghost use Rattle.reading.specs.Readings.{answered, firstOf, countsIn, refusedOf, ReadsSpelled, anyOver, readOf};
+ghost use Rattle.reading.specs.Readings.{firstOf, countsIn, ReadsSpelled, anyOver, readOf};
 ghost use Rattle.reading.specs.Same.{sameBytes};
 ghost use Rattle.reading.specs.Back.{readsTo, few, largest, zeros};
 use annotations::ONE;
 use annotations::Parts;
 use annotations::measure;
 use annotations::read_parts;
+use deliver::Answer;
+use deliver::MAX_LINE;
+use deliver::refuse;
 use openings::ahead;
 use pages::Counts;
 use pages::Cursors;
@@ -27,21 +31,11 @@ use terms::first_of;
 use terms::less;
 use terms::rest;
 
-// How many bytes a line may have.
-pub const MAX_LINE: usize = 4096;
-
 // Bytes that suffice for most tables.
 pub const FEW: usize = 1024;
 
 // Bytes that suffice for every table.
 pub const TABLE: usize = 43596;
-
-// The number of refusal, or 0; its place, or the bytes needed; and how many bytes of the output were written.
-pub struct Answer {
-    pub number: usize,
-    pub place: usize,
-    pub len: usize,
-}
 
 // What was counted of the annotations up to `at`: how many of each kind, the sum of confidences in billionths, the first broken limit,
 // the first annotation that breaks a rule, the first that takes the sum past 1.
@@ -232,16 +226,6 @@ fn store_all(out: &mut [u8], c: Cursors, line: &[u8], first: Parts)
 }
 
 // ---- reading
-
-pub fn refuse(number: usize, place: usize) -> Answer
-    ensures { λ r. ⌜ r ≡ refusedOf number place ⌝ }
-{
-    Answer {
-        number,
-        place,
-        len: 0,
-    }
-}
 
 // The first refusal by 4 to 7 of what was counted.
 pub fn first_refusal(t: Totals) -> Fault

@@ -13,10 +13,11 @@ use Rattle.puts.proofs.Laws.{over-zeros}
 use Rattle.rules.specs.Answers as rules
 use Rattle.shape.specs.Steps.{scannedBy}
 use Rattle.print_lines.specs.Tables.{printedTable}
-use Rattle.reading.specs.declared.Answer.{Answer}
-use Rattle.reading.specs.Readings.{answered, refusedOf}
+use Rattle.deliver.specs.declared.Answer.{Answer}
+use Rattle.deliver.specs.Delivered.{answered, refusedOf}
 use Rattle.reading.specs.Back.{readsTo, few, largest, zeros}
-use Rattle.writing.specs.Writings.{lineOver, foundOf, foundIn, longest, writtenOf}
+use Rattle.deliver.specs.Delivered.{lineOver}
+use Rattle.writing.specs.Writings.{foundOf, foundIn, longest, writtenOf}
 
 -- ---- found to be the line of a table
 

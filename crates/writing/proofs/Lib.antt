@@ -1,4 +1,3 @@
-pub mod Lines
 pub mod Found
 pub mod Low
 pub mod Within

@@ -22,7 +22,8 @@ use Rattle.print_lines.proofs.Laws.{table-printed}
 use Rattle.print_lines.proofs.Short.{line-short}
 use Rattle.reading.specs.Same.{allBytes}
 use Rattle.reading.specs.Back.{readsTo, few, largest, zeros}
-use Rattle.writing.specs.Writings.{lineOver, foundOf, foundIn, longest, writtenOf}
+use Rattle.deliver.specs.Delivered.{lineOver}
+use Rattle.writing.specs.Writings.{foundOf, foundIn, longest, writtenOf}
 use Rattle.writing.proofs.Holds.{reads-holds, holds-reads}
 
 -- the line of a table, against its bound and the output

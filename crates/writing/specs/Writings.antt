@@ -1,23 +1,15 @@
 -- The answer to bytes that may be a table: their line is printed, read again, and what it reads to is held against them.
 -- Assumes nothing.
-use Prim.Native.Nat.{ℕ, _-_}
+use Prim.Native.Nat.{ℕ}
 use mathlib.Core.Bool.{Bool, cond, _||_}
-use mathlib.Core.List.{List, _++_}
+use mathlib.Core.List.{List}
 use lib.Dec.{ltb}
-use lib.ListN.{length, take, replicate}
-use Rattle.rules.specs.Limits.{maxLine}
-use Rattle.rules.specs.Answers.{Answer, refuses, gives}
+use lib.ListN.{length}
+use Rattle.rules.specs.Answers.{Answer, refuses}
+use Rattle.deliver.specs.Delivered.{lineOver}
 use Rattle.shape.specs.Steps.{scannedBy}
 use Rattle.print_lines.specs.Tables.{printedTable}
 use Rattle.reading.specs.Back.{readsTo, few, largest, zeros}
-
--- zeros from a place on
-abbrev pub cleared : List ℕ → ℕ → List ℕ
-cleared d from = take from d ++ replicate (length d - from) 0
-
--- a line that is a table's: 1, 8, or done
-unfoldable pub lineOver : List ℕ → ℕ → Answer
-lineOver line room = cond (ltb maxLine (length line)) (refuses room 1 maxLine) (cond (ltb room (length line)) (refuses room 8 (length line)) (gives room line))
 
 -- a line, where it is known whether it reads to the bytes that it was printed for
 unfoldable pub foundOf : Bool → List ℕ → ℕ → Answer

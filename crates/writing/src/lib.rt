@@ -4,54 +4,21 @@ ghost use mathlib.Core.Path.{_≡_};
 ghost use lib.ListN.{length};
 ghost use Rattle.shape.specs.Steps.{scannedBy};
 ghost use Rattle.print_lines.specs.Tables.{printedTable};
-ghost use Rattle.reading.specs.Readings.{answered};
+ghost use Rattle.deliver.specs.Delivered.{answered};
 ghost use Rattle.reading.specs.Back.{readsTo, largest, zeros};
-ghost use Rattle.writing.specs.Writings.{cleared, lineOver, foundOf, foundIn, longest, writtenOf};
+ghost use Rattle.writing.specs.Writings.{foundOf, foundIn, longest, writtenOf};
+use deliver::Answer;
+use deliver::refuse;
+use deliver::write_line;
 use print_lines::print_table;
 use puts::clear;
-use puts::put_run;
-use reading::Answer;
 use reading::FEW;
-use reading::MAX_LINE;
 use reading::reads_to;
 use reading::reads_to_few;
-use reading::refuse;
 use terms::first_of;
 
 // Bytes that suffice for the line of every table.
 pub const LINE: usize = 65536;
-
-// Zeros from a place on.
-pub fn clear_from(out: &mut [u8], from: usize)
-    ensures { λ _. ⌜ now (out .exit) ≡ cleared (now (out .entry)) from ⌝ }
-{
-    let mut i = from;
-    while i < out.len() {
-        out[i] = 0;
-        i += 1;
-    }
-}
-
-// A line that is found to be a table's, against its bound and the output.
-pub fn write_line(line: &[u8], out: &mut [u8]) -> Answer
-    ensures { λ r. ⌜ answered r (now (out .exit)) ≡ lineOver (now (line .entry)) (length (now (out .entry))) ⌝ }
-{
-    if MAX_LINE < line.len() {
-        clear(out);
-        return refuse(1, MAX_LINE);
-    }
-    if out.len() < line.len() {
-        clear(out);
-        return refuse(8, line.len());
-    }
-    put_run(out, 0, line);
-    clear_from(out, line.len());
-    Answer {
-        number: 0,
-        place: 0,
-        len: line.len(),
-    }
-}
 
 // The line that was printed for a table: of bytes that it does not read to it is no table's line.
 fn finish(line: &[u8], held: bool, out: &mut [u8]) -> Answer

@@ -10,9 +10,8 @@ use borrow.Author.Tests.{lt-ltb, le-ltb}
 use Rattle.rules.specs.Limits.{maxLine}
 use Rattle.puts.specs.Puts.{Put}
 use Rattle.puts.proofs.Laws.{put-length}
-use Rattle.reading.specs.declared.Answer.{Answer}
-use Rattle.reading.specs.Readings.{answered, refusedOf}
-use Rattle.writing.specs.Writings.{cleared, lineOver}
+use Rattle.deliver.specs.declared.Answer.{Answer}
+use Rattle.deliver.specs.Delivered.{answered, refusedOf, cleared, lineOver}
 
 -- ---- zeros from a place on
 

@@ -1,13 +1,13 @@
--- `writing::clear_from` meets its contract: clearing from the place that is reached makes the whole. Assumes nothing.
-use Rattle.writing.proofs.Lines.{clear-more, clear-none}
-use Rattle.writing.specs.Writings.{cleared}
+-- `deliver::clear_from` meets its contract: clearing from the place that is reached makes the whole. Assumes nothing.
+use Rattle.deliver.proofs.Lines.{clear-more, clear-none}
+use Rattle.deliver.specs.Delivered.{cleared}
 use lib.ListN.{length, length-set}
 use mathlib.Core.Path.{_≡_, refl, _∙_}
 use Prim.Native.Nat.{_-_}
 use borrow.Author.Needs.{needs}
 use native.Mathlib.Omega.{arith}
-use Rattle.writing.proofs.clear_from.Statement.{statement}
-use Rattle.writing.proofs.clear_from.Tie as tie
+use Rattle.deliver.proofs.clear_from.Statement.{statement}
+use Rattle.deliver.proofs.clear_from.Tie as tie
 
 abbrev Inv-loop : tie.InvT-loop
 Inv-loop out₀ from i₀ out i = (length out ≡ length out₀) × (cleared out i ≡ cleared out₀ from)

@@ -1,9 +1,9 @@
--- `writing::write_line` meets its contract: by the length of the line and of the output. Assumes nothing.
+-- `deliver::write_line` meets its contract: by the length of the line and of the output. Assumes nothing.
 use lib.ListN.{length}
-use Rattle.writing.proofs.Lines.{line-cleared, line-long, line-no-room, line-fits}
+use Rattle.deliver.proofs.Lines.{line-cleared, line-long, line-no-room, line-fits}
 use borrow.Author.Needs.{needs}
-use Rattle.writing.proofs.write_line.Statement.{statement}
-use Rattle.writing.proofs.write_line.Tie as tie
+use Rattle.deliver.proofs.write_line.Statement.{statement}
+use Rattle.deliver.proofs.write_line.Tie as tie
 
 clear-requires : tie.Need-clear-requires
 clear-requires c κs = search needs
