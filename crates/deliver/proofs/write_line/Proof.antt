@@ -1,5 +1,6 @@
 -- `deliver::write_line` meets its contract: by the length of the line and of the output. Assumes nothing.
 use lib.ListN.{length}
+use native.Mathlib.Omega.{arith}
 use Rattle.deliver.proofs.Lines.{line-cleared, line-long, line-no-room, line-fits}
 use borrow.Author.Needs.{needs}
 use Rattle.deliver.proofs.write_line.Statement.{statement}
@@ -18,7 +19,7 @@ returns : tie.Need-returns
 returns c =
     let at-if1 = c .before .before .before .before .before in
     let at-args = at-if1 .before .before .before in
-    let a = (at-args .args) in line-long (a .line .now) (length (a .out .now)) (at-if1 .if1 .taken) (c .before .before .before .clear .ensures) (c .refuse .ensures)
+    let a = (at-args .args) in line-long (a .line .now) (length (a .out .now)) (omega (arith, at-if1 .if1 .taken)) (c .before .before .before .clear .ensures) (c .refuse .ensures)
 
 clear-requires-2 : tie.Need-clear-requires-2
 clear-requires-2 c κs = search needs
@@ -34,7 +35,7 @@ returns-2 c =
     let at-if2 = c .before .before .before .before .before in
     let at-if1 = at-if2 .before in
     let at-args = at-if1 .before .before .before in
-    let a = (at-args .args) in line-no-room (a .line .now) (length (a .out .now)) (at-if1 .if1 .left) (at-if2 .if2 .taken) (c .before .before .before .clear2 .ensures) (c .refuse2 .ensures)
+    let a = (at-args .args) in line-no-room (a .line .now) (length (a .out .now)) (omega (arith, at-if1 .if1 .left)) (omega (arith, at-if2 .if2 .taken)) (c .before .before .before .clear2 .ensures) (c .refuse2 .ensures)
 
 put-run-requires : tie.Need-put-run-requires
 put-run-requires c κs = search needs
@@ -51,7 +52,7 @@ returns-3 c =
     let at-if2 = at-put-run .before .before in
     let at-if1 = at-if2 .before in
     let at-args = at-if1 .before .before .before in
-    let a = (at-args .args) in line-fits (a .line .now) (length (a .out .now)) (at-if1 .if1 .left) (at-if2 .if2 .left) (line-cleared (at-put-run .put-run .ensures) (at-if2 .if2 .left) (c .before .before .clear-from .ensures))
+    let a = (at-args .args) in line-fits (a .line .now) (length (a .out .now)) (omega (arith, at-if1 .if1 .left)) (omega (arith, at-if2 .if2 .left)) (line-cleared (at-put-run .put-run .ensures) (omega (arith, at-if2 .if2 .left)) (c .before .before .clear-from .ensures))
 
 pub write-line-spec : {M : Type 1} → statement M
 write-line-spec =
