@@ -1,6 +1,6 @@
 -- Two answers that meet a contract of this crate are equal. Assumes nothing.
 use Prim.Native.Nat.{ℕ}
-use mathlib.Core.Path.{_≡_, sym, _∙_}
+use mathlib.Core.Path.{_≡_, sym, ap₂, _∙_}
 use mathlib.Core.List.{List}
 use lib.ListN.{length, drop}
 use Rattle.puts.proofs.One.{put-one}
@@ -27,7 +27,8 @@ is-one x y =
 pub grows-one : {g : Gathered} {s d keys more : List ℕ} {r q : Gathered} → Grows g s d keys r → Grows g s d more q → (keys ≡ more) × (r ≡ q)
 grows-one {g} {s} x y =
     let e = put-one (x .put) (y .put) in
-    let same = λ i. withSlot (e .0 i) (g .slots) (slotFrom (length s) (g .at) (g .used) (pieceHere (drop (g .at) s)) (e .1 i)) in
+    let x₀ = pieceHere (drop (g .at) s) in
+    let same = ap₂ (λ (z : List ℕ) (n : ℕ). withSlot z (g .slots) (slotFrom (length s) (g .at) (g .used) x₀ n)) (e .0) (e .1) in
     let slots = x .slots ∙ same ∙ sym (y .slots) in
     let at = x .at ∙ sym (y .at) in
     (e .0, λ i. record { slots = slots i; used = e .1 i; at = at i })
