@@ -1,6 +1,7 @@
 -- Two answers that meet a contract of this crate are equal. Assumes nothing.
-use mathlib.Core.Path.{_≡_, sym, ap, _∙_}
-use mathlib.Core.List.{List}
+use mathlib.Core.Path.{_≡_, sym, ap, ap₂, _∙_}
+use mathlib.Core.List.{List, _++_}
+use lib.ListN.{take, drop, take-append-drop}
 use Prim.Native.Nat.{ℕ}
 use Rattle.rules.specs.Answers as rules
 use Rattle.pages.specs.declared.Cursors.{Cursors}
@@ -26,6 +27,13 @@ stores-line-one a b = ran-one (a .ran) (b .ran) .0
 pub answered-one : {r q : Answer} {e f : List ℕ} → answered r e ≡ answered q f → (e ≡ f) × (r ≡ q)
 answered-one x =
     (ap (λ (a : rules.Answer). a .out) x, ap (λ (a : rules.Answer). record { number = a .number; place = a .place; len = a .size }) x)
+
+-- an answer in the first n bytes of an output, and the bytes behind them
+pub answered-in-one : (n : ℕ) {r q : Answer} {rest e f : List ℕ} {a : rules.Answer} → answered r (take n e) ≡ a → drop n e ≡ rest
+    → answered q (take n f) ≡ a → drop n f ≡ rest → (e ≡ f) × (r ≡ q)
+answered-in-one n {e = e} {f = f} x k y l =
+    let z = answered-one (x ∙ sym y) in
+    (sym (take-append-drop n e) ∙ ap₂ (λ (s t : List ℕ). s ++ t) (z .0) (k ∙ sym l) ∙ take-append-drop n f, z .1)
 
 pub reads-spelled-one : {line d e f : List ℕ} {r q : Answer} → ReadsSpelled line d e r → ReadsSpelled line d f q → (e ≡ f) × (r ≡ q)
 reads-spelled-one a b = answered-one (a .is ∙ sym (b .is))
