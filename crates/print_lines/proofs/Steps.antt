@@ -20,7 +20,7 @@ use Rattle.print_ions.specs.Fronts.{frontText}
 use Rattle.print_lines.specs.declared.Printed.{Printed}
 use Rattle.print_lines.specs.Parts.{Parts, partsAt}
 use Rattle.print_lines.specs.Annotations.{rowOf, lossesIn, isotopesIn, itemsIn, adductText, PrintsAdduct}
-use Rattle.print_lines.specs.Annotations.{unitsBehindIon, textBehindIon, unitsBehindLosses, textBehindLosses, annotationText, behind, unitsIn, textIn, further, cursorsBehind, PrintsAnnotation}
+use Rattle.print_lines.specs.Annotations.{unitsBehindIon, textBehindIon, annotationText, behind, unitsIn, textIn, further, cursorsBehind, PrintsAnnotation}
 use Rattle.print_lines.specs.Tables.{commaText, annotationsText}
 use Rattle.print_lines.proofs.Cursors.{ahead-drop, ahead-part, ahead-on, three-drops, same-of}
 
