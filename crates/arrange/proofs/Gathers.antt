@@ -4,7 +4,7 @@ use mathlib.Core.Path.{_≡_, refl, sym, ap, _∙_, subst}
 use mathlib.Core.Bool.{true, false}
 use mathlib.Core.List.{List}
 use native.Mathlib.Omega.{arith}
-use lib.ListN.{length, take, drop, length-drop}
+use lib.ListN.{length, drop, length-drop}
 use lib.Seq.{drop-drop, length-sets}
 use Rattle.lang.specs.Walk.{Walked, walk}
 use Rattle.lang.specs.Parts.{flat}
@@ -16,12 +16,14 @@ use Rattle.pieces.specs.Rows.{pieceSize}
 use Rattle.pieces.proofs.Measures.{piece-long}
 use Rattle.pieces.proofs.Turns.{size-moves}
 use Rattle.order.specs.declared.Slots.{Slots}
+use Rattle.order.specs.Slots.{slotsOf, noSlots}
 use Rattle.pages.specs.declared.Cursors.{Cursors}
 use Rattle.pages.specs.Pages.{Ran}
 use Rattle.pages.proofs.Events.{ran-none, ran-as}
 use Rattle.arrange.specs.declared.Gathered.{Gathered}
 use Rattle.arrange.specs.Keys.{keyText}
 use Rattle.arrange.specs.Gathered.{Got, pieceHere, gatherOne, gotNone, gathered, Is, Grows, Gathers}
+use Rattle.arrange.proofs.Grown.{held-slots, grows-is}
 use Rattle.arrange.specs.Events.{slotEvents, slotsEvents, noKeys, pieceEvents, StoresPieces}
 
 -- ---- the model
@@ -66,12 +68,12 @@ pub record Gathering (s keys₀ keys : List ℕ) (g : Gathered) : Type 0 where
   pub same : length (got .keys) ≡ length keys₀
   pub left : gatherFrom (length s) s (gotNone keys₀) ≡ gatherFrom (length s) (drop (g .at) s) got
 
-pub begin : {s keys : List ℕ} {slots : Slots} → slots .n ≡ 0 → Gathering s keys keys (record { slots = slots; used = 0; at = 0 })
+pub begin : {s keys : List ℕ} {slots : Slots} → slots ≡ noSlots → Gathering s keys keys (record { slots = slots; used = 0; at = 0 })
 begin {s} {keys} {slots} z =
     record {
       inside = omega arith;
       got = gotNone keys;
-      is = record { slots = ap (λ (n : ℕ). take n (slots .at)) z; n = z; buffer = refl; used = refl; at = refl };
+      is = record { slots = z; buffer = refl; used = refl; at = refl };
       same = refl;
       left = refl;
     }
@@ -90,7 +92,7 @@ module _ {s keys₀ keys : List ℕ} {g : Gathered} (p : Gathering s keys₀ key
           let t = drop (g .at) s in
           let m = size-moves t here in
           let i = p .inside in
-          omega (arith, q .is (p .got) (p .is) .at, one-at (length s) (p .got) t, p .is .at, length-drop (g .at) s)
+          omega (arith, grows-is q (p .got) (p .is) .at, one-at (length s) (p .got) t, p .is .at, length-drop (g .at) s)
 
       -- it takes up a byte or more of what is left
       pub moves : (g .at + 1 ≤ h .at) × (h .at ≤ length s)
@@ -108,7 +110,7 @@ module _ {s keys₀ keys : List ℕ} {g : Gathered} (p : Gathering s keys₀ key
           record {
             inside = moves .1;
             got = b;
-            is = q .is a (p .is);
+            is = grows-is q a (p .is);
             same = one-long (length s) a t ∙ p .same;
             left = p .left ∙ gather-on (length s) t a here
                 ∙ ap (λ (z : List ℕ). gatherFrom (length s) z b) (drop-drop (pieceSize t) (g .at) s ∙ ap (λ (n : ℕ). drop n s) (sym at-is));
@@ -124,6 +126,10 @@ module _ {s keys₀ keys : List ℕ} {g : Gathered} (p : Gathering s keys₀ key
 
 -- ---- what is stored
 
+-- the slots that are held are those that were got
+pub is-slots : {a : Got} {keys : List ℕ} {g : Gathered} → Is a keys g → slotsOf (g .slots) ≡ a .slots
+is-slots {a} i = ap slotsOf (i .slots) ∙ held-slots (a .slots)
+
 pub stores-none : {s d : List ℕ} {j : ℕ} {c : Cursors} → length d ≤ maxPlace → beginsPiece s ≡ false → StoresPieces s j d c d (record { n = 0; len = 0; cursors = c })
 unfolding pieceEvents
 stores-none {s} {d} {j} {c} h e =
@@ -137,4 +143,5 @@ stores-none {s} {d} {j} {c} h e =
 pub stores-all : {s d e keys : List ℕ} {j : ℕ} {c k : Cursors} {g : Gathered} → Gathers s noKeys keys g → Ran d c (slotsEvents j s (g .slots)) e k
     → StoresPieces s j d c e (record { n = g .slots .n; len = g .at; cursors = k })
 unfolding pieceEvents
-stores-all {s} {j = j} g r = record { n = g .n; len = g .at; ran = ran-as r (ap (flat (slotEvents j s)) (g .slots)) }
+stores-all {s} {j = j} g r =
+    record { n = ap (λ (t : Slots). t .n) (g .slots); len = g .at; ran = ran-as r (ap (flat (slotEvents j s)) (is-slots g)) }

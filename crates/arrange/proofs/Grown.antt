@@ -1,80 +1,86 @@
 -- One loss, or adduct item, more than were got. Assumes nothing.
-use Prim.Native.Nat.{ℕ, _+_, _-_, _≤_, _<_, min}
-use mathlib.Core.Path.{_≡_, ap, ap₂, _∙_}
-use mathlib.Core.List.{List}
+use Prim.Native.Nat.{ℕ, suc, _+_, _-_, _≤_, _<_, min}
+use mathlib.Core.Path.{_≡_, sym, ap, ap₂, _∙_}
+use mathlib.Core.List.{List, _++_}
 use native.Mathlib.Omega.{arith}
 use native.Mathlib.Decide.{decLe}
-use lib.ListN.{length, drop}
-use lib.Seq.{sets}
+use lib.ListN.{length, drop, replicate}
+use lib.Seq.{sets, take-append-seam, drop-append-add}
 use borrow.Author.Tests.{lt-ltb, le-ltb}
-use Rattle.lang.proofs.Sort.{insert, insert-perm}
-use Rattle.rules.proofs.Totals.{perm-length}
+use Rattle.lang.proofs.Sort.{insert}
 use Rattle.puts.specs.Puts.{maxPlace, Put}
+use Rattle.puts.proofs.Laws.{put-as}
 use Rattle.pieces.specs.declared.Piece.{Piece}
 use Rattle.order.specs.declared.Slot.{Slot}
 use Rattle.order.specs.declared.Slots.{Slots}
-use Rattle.order.specs.Slots.{slotLe, slotsOf, Inserted}
+use Rattle.order.specs.Slots.{slotLe, slotsOf, blank, insertedAt, withSlot}
+use Rattle.order.proofs.Inserted.{insert-length, with-full, with-room}
 use Rattle.arrange.specs.declared.Gathered.{Gathered}
 use Rattle.arrange.specs.Keys.{keyText}
-use Rattle.arrange.specs.Gathered.{Got, kept, slotOf, pieceHere, gatherOne, Is, Grows}
+use Rattle.arrange.specs.Gathered.{Got, kept, slotFrom, slotOf, pieceHere, gatherOne, heldIn, Is, Grows}
 
 -- ---- a slot more, where there is room
 
-pub insert-length : (keys : List ℕ) (y : Slot) (l : List Slot) → length (insert (slotLe keys) y l) ≡ length l + 1
-insert-length keys y l = omega (arith, perm-length (insert-perm (slotLe keys) y l))
+-- the first of the eight
+pub held-slots : (l : List Slot) → slotsOf (heldIn l) ≡ l
+held-slots l = take-append-seam l (replicate (8 - length l) blank)
 
-record Keeps (keys : List ℕ) (y : Slot) (l : List Slot) (r : Slots) : Type 0 where
-  slots : slotsOf r ≡ kept keys y l
-  n : r .n ≡ length (kept keys y l)
-
-keeps : {keys : List ℕ} {s : Slots} {y : Slot} {r : Slots} → Inserted keys s y r → (l : List Slot) → slotsOf s ≡ l → s .n ≡ length l → Keeps keys y l r
-keeps {keys} {s} {y} {r} i l e n = by (decLe 8 (s .n))
+held-with : (keys : List ℕ) (l : List Slot) (y : Slot) → withSlot keys (heldIn l) y ≡ heldIn (kept keys y l)
+held-with keys l y = by (decLe 8 (length l))
   where
-    by : Dec (8 ≤ s .n) → Keeps keys y l r
-    by (yes h) =
-        let z : 8 ≤ length l = omega arith in
-        record {
-          slots = rw (le-ltb (length l) 8 z) (ap slotsOf (i .full h) ∙ e);
-          n = rw (le-ltb (length l) 8 z) (ap (λ (t : Slots). t .n) (i .full h) ∙ n);
-        }
+    by : Dec (8 ≤ length l) → withSlot keys (heldIn l) y ≡ heldIn (kept keys y l)
+    by (yes h) = rw (le-ltb (length l) 8 h) (with-full keys (heldIn l) y h)
     by (no h) =
-        let g : s .n < 8 = omega arith in
-        let z : length l < 8 = omega arith in
-        record {
-          slots = rw (lt-ltb (length l) 8 z) (i .slots g ∙ ap (insert (slotLe keys) y) e);
-          n = rw (lt-ltb (length l) 8 z) (omega (arith, i .more g, insert-length keys y l));
-        }
+        let m = insert (slotLe keys) y l in
+        let g : length l < 8 = omega arith in
+        let e : 8 - length l ≡ suc (8 - (length l + 1)) = omega arith in
+        let count : length l + 1 ≡ length m = sym (insert-length keys y l) in
+        let rest : drop (length l + 1) (l ++ replicate (8 - length l) blank) ≡ replicate (8 - length m) blank =
+        drop-append-add l (replicate (8 - length l) blank) 1 ∙ ap (λ (n : ℕ). drop 1 (replicate n blank)) e ∙ ap (λ (n : ℕ). replicate (8 - n) blank) count
+        in
+        let all : insertedAt keys y (length l) (l ++ replicate (8 - length l) blank) ≡ m ++ replicate (8 - length m) blank =
+        ap₂ (λ (s r : List Slot). insert (slotLe keys) y s ++ r) (held-slots l) rest
+        in
+        let z : record { n = length l + 1; at = insertedAt keys y (length l) (l ++ replicate (8 - length l) blank) } ≡ heldIn m =
+        λ j. record { n = count j; at = all j }
+        in
+        rw (lt-ltb (length l) 8 g) (with-room keys (heldIn l) y g ∙ z)
 
 -- ---- what the code does
 
 module _ {g : Gathered} {s keys keys′ t : List ℕ} {x : Piece} {next start len at : ℕ} {slots : Slots} where
   pub grown : t ≡ drop (g .at) s → x ≡ pieceHere t → Put keys (g .used) (keyText t x) keys′ next
       → start ≡ min (g .at + x .start) (length s) → len ≡ next - g .used
-      → Inserted keys′ (g .slots) (record { sign = x .sign; kind = x .kind; count = x .count; size = x .size; start = start; key = g .used; len = len }) slots
+      → slots
+      ≡ withSlot keys′ (g .slots) (record { sign = x .sign; kind = x .kind; count = x .count; size = x .size; start = start; key = g .used; len = len })
       → at ≡ min (g .at + x .len) (length s)
       → Grows g s keys keys′ (record { slots = slots; used = next; at = at })
-  unfolding gatherOne
-  grown et ex p es el i ea = record { is = λ a h. one a h }
-    where
-      one : (a : Got) → Is a keys g → Is (gatherOne (length s) a (drop (g .at) s)) keys′ (record { slots = slots; used = next; at = at })
-      one a h =
-          let t₀ = drop (g .at) s in
-          let x₀ = pieceHere t₀ in
-          let xx : x ≡ x₀ = ex ∙ ap pieceHere et in
-          let tt′ : keyText t x ≡ keyText t₀ x₀ = ap₂ keyText et xx in
-          let next₀ = min (a .used + length (keyText t₀ x₀)) maxPlace in
-          let kk : keys′ ≡ sets (a .keys) (a .used) (keyText t₀ x₀) = p .made ∙ (λ j. sets (h .buffer j) (h .used j) (tt′ j)) in
-          let nn : next ≡ next₀ = p .next ∙ (λ j. min (h .used j + length (tt′ j)) maxPlace) in
-          let ss : start ≡ min (a .at + x₀ .start) (length s) = es ∙ (λ j. min (h .at j + xx j .start) (length s)) in
-          let ll : len ≡ next₀ - a .used = el ∙ (λ j. nn j - h .used j) in
-          let y : Slot = record { sign = x .sign; kind = x .kind; count = x .count; size = x .size; start = start; key = g .used; len = len } in
-          let yy : y ≡ slotOf (length s) a x₀ next₀ =
-          λ j. record { sign = xx j .sign; kind = xx j .kind; count = xx j .count; size = xx j .size; start = ss j; key = h .used j; len = ll j } in
-          let k = keeps i (a .slots) (h .slots) (h .n) in
-          record {
-            slots = k .slots ∙ ap₂ (λ (z : List ℕ) (y : Slot). kept z y (a .slots)) kk yy;
-            n = k .n ∙ ap₂ (λ (z : List ℕ) (y : Slot). length (kept z y (a .slots))) kk yy;
-            buffer = kk;
-            used = nn;
-            at = ea ∙ (λ j. min (h .at j + xx j .len) (length s));
-          }
+  grown et ex p es el i ea =
+      let xx : x ≡ pieceHere (drop (g .at) s) = ex ∙ ap pieceHere et in
+      let ss : start ≡ min (g .at + pieceHere (drop (g .at) s) .start) (length s) = es ∙ ap (λ (y : Piece). min (g .at + y .start) (length s)) xx in
+      record {
+        put = put-as p (ap₂ keyText et xx);
+        slots =
+            i ∙ (λ j. withSlot keys′ (g .slots)
+            (record { sign = xx j .sign; kind = xx j .kind; count = xx j .count; size = xx j .size; start = ss j; key = g .used; len = el j }));
+        at = ea ∙ ap (λ (y : Piece). min (g .at + y .len) (length s)) xx;
+      }
+
+-- where what there was was got, so is what there is now
+pub grows-is : {g : Gathered} {s keys keys′ : List ℕ} {r : Gathered} → Grows g s keys keys′ r
+    → (a : Got) → Is a keys g → Is (gatherOne (length s) a (drop (g .at) s)) keys′ r
+unfolding gatherOne
+grows-is {g} {s} {keys} {keys′} {r} q a h =
+    let x = pieceHere (drop (g .at) s) in
+    let text = keyText (drop (g .at) s) x in
+    let next = min (a .used + length text) maxPlace in
+    let kk : keys′ ≡ sets (a .keys) (a .used) text = q .put .made ∙ (λ j. sets (h .buffer j) (h .used j) text) in
+    let nn : r .used ≡ next = q .put .next ∙ (λ j. min (h .used j + length text) maxPlace) in
+    record {
+      slots =
+          q .slots ∙ (λ j. withSlot (kk j) (h .slots j) (slotFrom (length s) (h .at j) (h .used j) x (nn j)))
+          ∙ held-with (sets (a .keys) (a .used) text) (a .slots) (slotOf (length s) a x next);
+      buffer = kk;
+      used = nn;
+      at = q .at ∙ (λ j. min (h .at j + x .len) (length s));
+    }

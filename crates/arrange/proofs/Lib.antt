@@ -10,3 +10,4 @@ pub mod Rows
 pub mod Laws
 pub mod Respelled
 pub mod Fits
+pub mod One

@@ -22,7 +22,7 @@ use Rattle.arrange.specs.Gathered.{Got, pieceHere, Gathers}
 use Rattle.arrange.specs.Events.{noKeys}
 use Rattle.arrange.specs.Spelled.{slotSpelled, slotsSpelled, manySpelled, SpellsMany, oneSpelled, piecesSpelled, SpellsPieces}
 use Rattle.arrange.proofs.Steps.{next-left, none-left, none-past}
-use Rattle.arrange.proofs.Gathers.{gathered-none}
+use Rattle.arrange.proofs.Gathers.{gathered-none, is-slots}
 use Rattle.arrange.proofs.Alone.{behind, alone-at}
 
 -- ---- one slot
@@ -57,7 +57,7 @@ module _ {keys : List ℕ} {slots : Slots} {d : List ℕ} {to : ℕ} where
 pub spells-all : {s d e keys : List ℕ} {to r : ℕ} {g : Gathered} → Gathers s noKeys keys g → Put d to (slotsSpelled keys (g .slots)) e r
     → SpellsMany s d to e (record { to = r; len = g .at })
 unfolding manySpelled
-spells-all g p = record { len = g .at; put = put-as p (ap₂ (λ k l. flat (slotSpelled k) l) (g .buffer) (g .slots)) }
+spells-all g p = record { len = g .at; put = put-as p (ap₂ (λ k l. flat (slotSpelled k) l) (g .buffer) (is-slots g)) }
 
 -- ---- which way
 

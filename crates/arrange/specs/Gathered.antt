@@ -2,20 +2,21 @@
 use Prim.Native.Nat.{ℕ, _+_, _-_, min}
 use mathlib.Core.Path.{_≡_}
 use mathlib.Core.Bool.{cond}
-use mathlib.Core.List.{List, []}
+use mathlib.Core.List.{List, [], _++_}
 use lib.Dec.{ltb}
-use lib.ListN.{length, drop}
+use lib.ListN.{length, drop, replicate}
 use lib.Seq.{sets}
 use Rattle.lang.specs.Walk.{walk}
 use Rattle.lang.proofs.Sort.{insert}
-use Rattle.puts.specs.Puts.{maxPlace}
+use Rattle.puts.specs.Puts.{maxPlace, Put}
 use Rattle.terms.specs.Faults.{fault}
 use Rattle.openings.specs.Heads.{beginsPiece}
 use Rattle.pieces.specs.declared.Piece.{Piece}
 use Rattle.pieces.specs.Pieces.{pieceOf}
 use Rattle.pieces.specs.Rows.{pieceSize}
 use Rattle.order.specs.declared.Slot.{Slot}
-use Rattle.order.specs.Slots.{slotLe, slotsOf}
+use Rattle.order.specs.declared.Slots.{Slots}
+use Rattle.order.specs.Slots.{slotLe, blank, withSlot}
 use Rattle.arrange.specs.declared.Gathered.{Gathered}
 use Rattle.arrange.specs.Keys.{keyText}
 
@@ -30,9 +31,13 @@ pub record Got : Type 0 where
 abbrev pub kept : List ℕ → Slot → List Slot → List Slot
 kept keys y l = cond (ltb (length l) 8) (insert (slotLe keys) y l) l
 
+-- the slot of a piece read at the place `at` of `all` bytes; its text stands among the keys from `used` up to `next`
+abbrev pub slotFrom : ℕ → ℕ → ℕ → Piece → ℕ → Slot
+slotFrom all at used x next =
+    record { sign = x .sign; kind = x .kind; count = x .count; size = x .size; start = min (at + x .start) all; key = used; len = next - used }
+
 abbrev pub slotOf : ℕ → Got → Piece → ℕ → Slot
-slotOf all a x next =
-    record { sign = x .sign; kind = x .kind; count = x .count; size = x .size; start = min (a .at + x .start) all; key = a .used; len = next - a .used }
+slotOf all a x next = slotFrom all (a .at) (a .used) x next
 
 abbrev pub gotWith : ℕ → Got → Piece → List ℕ → Got
 gotWith all a x t =
@@ -55,17 +60,22 @@ gotNone keys = record { slots = []; keys = keys; used = 0; at = 0 }
 unfoldable pub gathered : List ℕ → List ℕ → Got
 gathered keys s = walk beginsPiece pieceSize (gatherOne (length s)) s (gotNone keys) .known
 
+-- the slots l among the eight of the code: behind them stand blank ones
+abbrev pub heldIn : List Slot → Slots
+heldIn l = record { n = length l; at = l ++ replicate (8 - length l) blank }
+
 -- the code's answer and its buffer are what was got
 pub record Is (a : Got) (keys : List ℕ) (g : Gathered) : Type 0 where
-  pub slots : slotsOf (g .slots) ≡ a .slots
-  pub n : g .slots .n ≡ length (a .slots)
+  pub slots : g .slots ≡ heldIn (a .slots)
   pub buffer : keys ≡ a .keys
   pub used : g .used ≡ a .used
   pub at : g .at ≡ a .at
 
--- one more than there was
+-- one more than there was: its text is put behind the others, and its slot among the slots
 pub record Grows (g : Gathered) (s keys keys′ : List ℕ) (r : Gathered) : Type 0 where
-  pub is : (a : Got) → Is a keys g → Is (gatherOne (length s) a (drop (g .at) s)) keys′ r
+  pub put : Put keys (g .used) (keyText (drop (g .at) s) (pieceHere (drop (g .at) s))) keys′ (r .used)
+  pub slots : r .slots ≡ withSlot keys′ (g .slots) (slotFrom (length s) (g .at) (g .used) (pieceHere (drop (g .at) s)) (r .used))
+  pub at : r .at ≡ min (g .at + pieceHere (drop (g .at) s) .len) (length s)
 
 abbrev pub Gathers : List ℕ → List ℕ → List ℕ → Gathered → Type 0
 Gathers s keys keys′ g = Is (gathered keys s) keys′ g

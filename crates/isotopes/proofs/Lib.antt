@@ -8,3 +8,4 @@ pub mod Rows
 pub mod Laws
 pub mod Stores
 pub mod Respelled
+pub mod One

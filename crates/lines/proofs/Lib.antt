@@ -6,3 +6,4 @@ pub mod Right
 pub mod Back
 pub mod Small
 pub mod Enough
+pub mod One

@@ -11,7 +11,8 @@ use Rattle.lang.proofs.Sort.{insert, Order, insert-perm}
 use Rattle.lang.proofs.Lex.{by-key}
 use Rattle.order.specs.declared.Slot.{Slot}
 use Rattle.order.specs.declared.Slots.{Slots}
-use Rattle.order.specs.Slots.{slotKey, slotLe, slotsOf, Inserted, feed, Holds}
+use Rattle.order.specs.Slots.{slotKey, slotLe, slotsOf, feed, Holds}
+use Rattle.order.proofs.Inserted.{Inserted}
 use Rattle.order.proofs.Feeds.{fed-perm, fed-last, fed-rises, insert-rises}
 
 -- slots are compared by their keys

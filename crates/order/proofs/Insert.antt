@@ -5,7 +5,7 @@ use mathlib.Core.Bool.{Bool, true, false, cond, _||_}
 use mathlib.Core.List.{List, [], _∷_, _++_, append-assoc}
 use native.Mathlib.Omega.{arith}
 use native.Mathlib.Numerals.{add-one}
-use lib.ListN.{length, getD, take, drop, set, length-take, length-set, drop-of-length-le}
+use lib.ListN.{length, getD, take, drop, set, length-take, length-set, drop-of-length-le, take-append-drop}
 use lib.Seq.{drop-cons, getD-take, take-set-lt, drop-set-lt, take-suc-set}
 use Rattle.lang.proofs.Sort.{insert}
 
@@ -32,11 +32,12 @@ module _ {A : Type 0} (before : A → A → Bool) where
 
 -- ---- the walk
 
--- the first i places are done, and c is carried on
+-- the first i places are done, and c is carried on; what stands behind the first n + 1 is as it was
 pub record Carrying {A : Type 0} (before : A → A → Bool) (n : ℕ) (old : List A) (x : A) (at : List A) (c : A) (moved : Bool) (i : ℕ) : Type 0 where
   pub inside : i ≤ n
   pub room : n < length at
   pub is : take i at ++ todo before moved c (drop i (take n at)) ≡ insert before x (take n old)
+  pub behind : drop (n + 1) at ≡ drop (n + 1) old
 
 rest-next : {A : Type 0} (s : List A) (n i : ℕ) (d : A) → i < n → n ≤ length s → drop i (take n s) ≡ getD s i d ∷ drop (i + 1) (take n s)
 rest-next s n i d h g =
@@ -48,7 +49,7 @@ rest-stored s n i v h = ap (drop (i + 1)) (take-set-lt n s i v h) ∙ drop-set-l
 
 module _ {A : Type 0} {before : A → A → Bool} {n : ℕ} {old : List A} {x : A} where
   pub begin : n < length old → Carrying before n old x old x false 0
-  begin h = record { inside = omega arith; room = h; is = refl }
+  begin h = record { inside = omega arith; room = h; is = refl; behind = refl }
 
   pub turn : {at : List A} {c d : A} {moved : Bool} {i : ℕ} (e : A) {m : Bool} {v : A} → Carrying before n old x at c moved i → i < n
       → m ≡ (moved || before c (getD at i e)) → v ≡ cond m c (getD at i e) → d ≡ cond m (getD at i e) c
@@ -71,14 +72,19 @@ module _ {A : Type 0} {before : A → A → Bool} {n : ℕ} {old : List A} {x : 
         is =
             ap₂ (λ (a b : List A). a ++ todo before m d b) front (rest-stored at n i v h) ∙ append-assoc (take i at) (v ∷ []) (todo before m d rest)
             ∙ ap (λ (a : List A). take i at ++ a) (sym next) ∙ k .is;
+        behind = drop-set-lt (n + 1) at i v (omega arith) ∙ k .behind;
       }
 
   pub finish : {at : List A} {c : A} {moved : Bool} {i : ℕ} → Carrying before n old x at c moved i → n ≤ i
-      → take (n + 1) (set at n c) ≡ insert before x (take n old)
+      → set at n c ≡ insert before x (take n old) ++ drop (n + 1) old
   finish {at} {c} {moved} {i} k h =
       let g = k .inside in
       let r = k .room in
       let z : i ≡ n = omega arith in
       let nothing : drop i (take n at) ≡ [] = drop-of-length-le (take n at) {i = i} (let l = length-take n at in omega arith) in
+      let front : take (n + 1) (set at n c) ≡ insert before x (take n old) =
       ap (λ (m : ℕ). take m (set at n c)) (add-one n) ∙ take-suc-set at n c r
       ∙ ap₂ (λ (s t : List A). s ++ t) (ap (λ (m : ℕ). take m at) (sym z)) (sym (ap (todo before moved c) nothing ∙ todo-end before moved c)) ∙ k .is
+      in
+      sym (take-append-drop (n + 1) (set at n c))
+      ∙ ap₂ (λ (s t : List A). s ++ t) front (drop-set-lt (n + 1) at n c (omega arith) ∙ k .behind)

@@ -6,3 +6,4 @@ pub mod Feeds
 pub mod Fed
 pub mod Kept
 pub mod Arranged
+pub mod One

@@ -1,9 +1,10 @@
 -- Slots that hold losses or adduct items, and their preferred order. Document 01, "One table, several spellings". Assumes nothing.
-use Prim.Native.Nat.{ℕ, _+_, _<_, _≤_}
+use Prim.Native.Nat.{ℕ, _+_, _≤_}
 use mathlib.Core.Path.{_≡_}
-use mathlib.Core.Bool.{Bool}
+use mathlib.Core.Bool.{Bool, cond}
 use mathlib.Core.List.{List, [], _∷_, _++_, map}
-use lib.ListN.{length, take, drop}
+use lib.Dec.{leb}
+use lib.ListN.{length, take, drop, replicate}
 use Rattle.lang.specs.Order.{lexLe}
 use Rattle.lang.proofs.Sort.{insert}
 use Rattle.rules.specs.Preferred.{rank}
@@ -28,11 +29,21 @@ slotLe keys x y = lexLe (slotKey keys x) (slotKey keys y)
 abbrev pub slotsOf : Slots → List Slot
 slotsOf s = take (s .n) (s .at)
 
--- x is inserted where there is room
-pub record Inserted (keys : List ℕ) (s : Slots) (x : Slot) (r : Slots) : Type 0 where
-  pub slots : s .n < 8 → slotsOf r ≡ insert (slotLe keys) x (slotsOf s)
-  pub more : s .n < 8 → r .n ≡ s .n + 1
-  pub full : 8 ≤ s .n → r ≡ s
+-- a slot that holds nothing
+abbrev pub blank : Slot
+blank = record { sign = 0; kind = 0; count = 0; size = 0; start = 0; key = 0; len = 0 }
+
+-- no slots: the eight are blank
+abbrev pub noSlots : Slots
+noSlots = record { n = 0; at = replicate 8 blank }
+
+-- x among the first n of l, in order; what stands behind the first n + 1 is as it was
+abbrev pub insertedAt : List ℕ → Slot → ℕ → List Slot → List Slot
+insertedAt keys x n l = insert (slotLe keys) x (take n l) ++ drop (n + 1) l
+
+-- the slots with x among them, in order; the same slots where there are eight
+unfoldable pub withSlot : List ℕ → Slots → Slot → Slots
+withSlot keys s x = cond (leb 8 (s .n)) s (record { n = s .n + 1; at = insertedAt keys x (s .n) (s .at) })
 
 -- one after the other inserted into a list
 abbrev pub fedInto : {A : Type 0} → (A → A → Bool) → List A → List A → List A

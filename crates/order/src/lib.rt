@@ -2,11 +2,9 @@
 ghost use mathlib.Core.Path.{_≡_};
 ghost use mathlib.Core.Bool.{_||_, cond};
 ghost use mathlib.Core.List.{[], _∷_};
-ghost use Prim.Native.Nat.{_+_, _<_};
-ghost use lib.ListN.{take};
+ghost use Prim.Native.Nat.{_<_};
 ghost use Rattle.lang.specs.Order.{lexLe};
-ghost use Rattle.lang.proofs.Sort.{insert};
-ghost use Rattle.order.specs.Slots.{slotLe, textAt, Inserted};
+ghost use Rattle.order.specs.Slots.{slotLe, textAt, noSlots, insertedAt, withSlot};
 ghost use Rattle.order.specs.Steps.{rankAt, TextsBefore};
 
 // A loss or an adduct item. Its text, which stands after sign and count, is keys[key .. key + len] of the buffer that is lent beside it;
@@ -29,7 +27,7 @@ pub struct Slots {
 
 // No slots.
 pub fn none() -> Slots
-    ensures { λ r. ⌜ r .n ≡ 0 ⌝ }
+    ensures { λ r. ⌜ r ≡ noSlots ⌝ }
 {
     let blank = Slot {
         sign: 0,
@@ -137,10 +135,10 @@ fn pick(m: bool, x: Slot, y: Slot) -> Slot
     if m { x } else { y }
 }
 
-// The first n with x among them: x is carried to its place, and from there each slot to the next place.
+// The first n with x among them: x is carried to its place, and from there each slot to the next place. What stands behind them stays.
 fn put(old: [Slot; 8], n: usize, keys: &[u8], x: Slot) -> [Slot; 8]
     requires { ⌜ n < 8 ⌝ }
-    ensures { λ r. ⌜ take (n + 1) r ≡ insert (slotLe (now (keys .entry))) x (take n old) ⌝ }
+    ensures { λ r. ⌜ r ≡ insertedAt (now (keys .entry)) x n old ⌝ }
 {
     let mut at = old;
     let mut carry = x;
@@ -160,7 +158,7 @@ fn put(old: [Slot; 8], n: usize, keys: &[u8], x: Slot) -> [Slot; 8]
 
 // The slots with x among them, in order; the same slots where there are eight.
 pub fn with(s: Slots, keys: &[u8], x: Slot) -> Slots
-    ensures { λ r. ⌜ Inserted (now (keys .entry)) s x r ⌝ }
+    ensures { λ r. ⌜ r ≡ withSlot (now (keys .entry)) s x ⌝ }
 {
     let n = s.n;
     if 8 <= n {

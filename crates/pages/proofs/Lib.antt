@@ -7,3 +7,4 @@ pub mod Places
 pub mod Headers
 pub mod Fills
 pub mod Tables
+pub mod One

@@ -5,3 +5,4 @@ pub mod Sections
 pub mod Laws
 pub mod Lengths
 pub mod Short
+pub mod One

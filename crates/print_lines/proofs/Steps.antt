@@ -1,6 +1,6 @@
 -- One annotation printed from its parts, and one annotation more of a line. Assumes nothing.
 use Prim.Native.Nat.{ℕ, suc, _+_, _-_, _*_, _<_, _≤_, min}
-use mathlib.Core.Path.{_≡_, sym, ap, ap₂, _∙_}
+use mathlib.Core.Path.{_≡_, refl, sym, ap, ap₂, _∙_}
 use mathlib.Core.List.{List, [], _++_, append-assoc}
 use native.Mathlib.Omega.{arith}
 use native.Mathlib.Numerals.{add-one}
@@ -20,9 +20,9 @@ use Rattle.print_ions.specs.Fronts.{frontText}
 use Rattle.print_lines.specs.declared.Printed.{Printed}
 use Rattle.print_lines.specs.Parts.{Parts, partsAt}
 use Rattle.print_lines.specs.Annotations.{rowOf, lossesIn, isotopesIn, itemsIn, adductText, PrintsAdduct}
-use Rattle.print_lines.specs.Annotations.{unitsBehindIon, textBehindIon, unitsBehindLosses, textBehindLosses, annotationText, behind, PrintsAnnotation}
+use Rattle.print_lines.specs.Annotations.{unitsBehindIon, textBehindIon, annotationText, behind, unitsIn, textIn, further, cursorsBehind, PrintsAnnotation}
 use Rattle.print_lines.specs.Tables.{commaText, annotationsText}
-use Rattle.print_lines.proofs.Cursors.{ahead-drop, ahead-part, same-of}
+use Rattle.print_lines.proofs.Cursors.{ahead-drop, ahead-part, ahead-on, three-drops, same-of}
 
 -- ---- adducts
 
@@ -58,10 +58,14 @@ module _ (table : List ℕ) (c : Cursors) where
       → ku ≡ min (v + x .units) (length table) → kt ≡ min (w + x .text) (length table)
       → PrintsAnnotation table c d to e
       (record { to = end; cursors = record { annotations = ka; losses = kl; isotopes = ki; items = kx; units = ku; text = kt } })
-  unfolding annotationText behind
+  unfolding annotationText cursorsBehind
   annotation-printed {s} {ll = ll} {d1 = d1} {d2 = d2} {d3 = d3} {d4 = d4} {to = to} {a = a} {b = b} {nl = nl} {ni = ni} {nx = nx} {iu = iu} {ib = ib} {u = u} {t = t} {v = v} {w = w} {l = l} {x = x}
       notes el ei ex efu eft front eiu eu eib et ell elu elt losses ev ew esi isotopes exx exu ext adduct tail ka kl ki kx ku kt =
       let p = partsAt table c in
+      let losses-units = unitBytes (lossesIn p) (p .losses) in
+      let losses-text = nameBytes (lossesIn p) (p .losses) in
+      let items-units = unitBytes (itemsIn p) (p .items) in
+      let items-text = nameBytes (itemsIn p) (p .items) in
       let nl-is : nl ≡ lossesIn p = el ∙ ap (λ (z : List ℕ). rowOf z 32 8) notes in
       let ni-is : ni ≡ isotopesIn p = ei ∙ ap (λ (z : List ℕ). rowOf z 33 4) notes in
       let nx-is : nx ≡ itemsIn p = ex ∙ ap (λ (z : List ℕ). rowOf z 34 4) notes in
@@ -69,22 +73,52 @@ module _ (table : List ℕ) (c : Cursors) where
       ahead-drop table (c .units) (6 * iu) eu ∙ ap (λ (n : ℕ). drop (6 * n) (p .units)) (eiu ∙ ap ionUnits notes) in
       let t-is : drop t table ≡ textBehindIon p = ahead-drop table (c .text) ib et ∙ ap (λ (n : ℕ). drop n (p .text)) (eib ∙ ap ionBytes notes) in
       let losses-are = same-of (λ n p q r. PrintsPieces n p q r d1 a d2 l) losses nl-is ell (elu ∙ u-is) (elt ∙ t-is) in
-      let v-is = ahead-part table u (unitBytes (lossesIn p) (p .losses)) (unitsBehindIon p) ev u-is (losses-are .units) in
-      let w-is = ahead-part table t (nameBytes (lossesIn p) (p .losses)) (textBehindIon p) ew t-is (losses-are .text) in
+      let v-is = ahead-part table u losses-units (unitsBehindIon p) ev u-is (losses-are .units) in
+      let w-is = ahead-part table t losses-text (textBehindIon p) ew t-is (losses-are .text) in
       let adduct-is = same-of (λ n p q r. PrintsAdduct n p q r d3 b d4 x) adduct nx-is exx (exu ∙ v-is) (ext ∙ w-is) in
-      let notes-on = ahead-drop table (c .annotations) 36 ka in
-      let losses-on = ahead-drop table (c .losses) (6 * nl) kl ∙ ap (λ (n : ℕ). drop (6 * n) (p .losses)) nl-is in
-      let isotopes-on = ahead-drop table (c .isotopes) (8 * ni) ki ∙ ap (λ (n : ℕ). drop (8 * n) (p .isotopes)) ni-is in
-      let items-on = ahead-drop table (c .items) (6 * nx) kx ∙ ap (λ (n : ℕ). drop (6 * n) (p .items)) nx-is in
-      let units-on = ahead-part table v (unitBytes (itemsIn p) (p .items)) (unitsBehindLosses p) ku v-is (adduct-is .units) in
-      let text-on = ahead-part table w (nameBytes (itemsIn p) (p .items)) (textBehindLosses p) kt w-is (adduct-is .text) in
+      let u-at = eu ∙ ap (λ (n : ℕ). further table (c .units) (6 * n)) (eiu ∙ ap ionUnits notes) in
+      let t-at = et ∙ ap (λ (n : ℕ). further table (c .text) n) (eib ∙ ap ionBytes notes) in
+      let v-at =
+      ahead-on table (c .units) (6 * ionUnits (p .notes)) losses-units u-at (losses-are .units ∙ ap (λ (z : List ℕ). min losses-units (length z)) (sym u-is)) ev
+      in
+      let w-at =
+      ahead-on table (c .text) (ionBytes (p .notes)) losses-text t-at (losses-are .text ∙ ap (λ (z : List ℕ). min losses-text (length z)) (sym t-is)) ew
+      in
+      let losses-on = kl ∙ ap (λ (n : ℕ). further table (c .losses) (6 * n)) nl-is in
+      let isotopes-on = ki ∙ ap (λ (n : ℕ). further table (c .isotopes) (8 * n)) ni-is in
+      let items-on = kx ∙ ap (λ (n : ℕ). further table (c .items) (6 * n)) nx-is in
+      let units-on =
+      ahead-on table (c .units) (6 * ionUnits (p .notes) + losses-units) items-units v-at
+      (adduct-is .units ∙ ap (λ (z : List ℕ). min items-units (length z)) (sym v-is)) ku
+      in
+      let text-on =
+      ahead-on table (c .text) (ionBytes (p .notes) + losses-text) items-text w-at
+      (adduct-is .text ∙ ap (λ (z : List ℕ). min items-text (length z)) (sym w-is)) kt
+      in
       record {
         put =
             put-then (put-as front (λ i. frontText (notes i) (efu i) (eft i)))
             (put-then (losses-are .put) (put-then (put-as isotopes (ap₂ isotopesText ni-is esi)) (put-then (adduct-is .put) (put-as tail (ap tailText notes)))));
-        parts =
-            λ i. record { notes = notes-on i; losses = losses-on i; isotopes = isotopes-on i; items = items-on i; units = units-on i; text = text-on i };
+        cursors =
+            λ i. record { annotations = ka i; losses = losses-on i; isotopes = isotopes-on i; items = items-on i; units = units-on i; text = text-on i };
       }
+
+-- what is left from the cursors behind an annotation on is what is left behind it
+pub parts-behind : (table : List ℕ) (c : Cursors) → partsAt table (cursorsBehind table c) ≡ behind (partsAt table c)
+unfolding behind cursorsBehind
+parts-behind table c =
+    let p = partsAt table c in
+    let losses-units = unitBytes (lossesIn p) (p .losses) in
+    let losses-text = nameBytes (lossesIn p) (p .losses) in
+    let items-units = unitBytes (itemsIn p) (p .items) in
+    let items-text = nameBytes (itemsIn p) (p .items) in
+    let notes = ahead-drop table (c .annotations) 36 refl in
+    let losses = ahead-drop table (c .losses) (6 * lossesIn p) refl in
+    let isotopes = ahead-drop table (c .isotopes) (8 * isotopesIn p) refl in
+    let items = ahead-drop table (c .items) (6 * itemsIn p) refl in
+    let units = ahead-drop table (c .units) (unitsIn p) refl ∙ three-drops (p .units) (6 * ionUnits (p .notes)) losses-units items-units in
+    let text = ahead-drop table (c .text) (textIn p) refl ∙ three-drops (p .text) (ionBytes (p .notes)) losses-text items-text in
+    λ i. record { notes = notes i; losses = losses i; isotopes = isotopes i; items = items i; units = units i; text = text i }
 
 -- ---- lines
 
@@ -114,7 +148,7 @@ line-turn n table {i = i} {c = c} {r = r} k h p q =
     let m = n - (i + 1) in
     let z : n - i ≡ suc m = omega arith in
     more k (put-then p (q .put))
-    (ap (λ (j : ℕ). annotationsText i j (partsAt table c)) z ∙ line-more i m (partsAt table c) (partsAt table (r .cursors)) (q .parts))
+    (ap (λ (j : ℕ). annotationsText i j (partsAt table c)) z ∙ line-more i m (partsAt table c) (partsAt table (r .cursors)) (ap (partsAt table) (q .cursors) ∙ parts-behind table c))
 
 pub line-ends : (n i : ℕ) (p : Parts) {d l e : List ℕ} {to at : ℕ} → Going d to l e at (annotationsText i (n - i) p) → n ≤ i → Put d to l e at
 unfolding annotationsText

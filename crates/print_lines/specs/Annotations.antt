@@ -1,5 +1,5 @@
 -- An annotation as the parts of a stored table say. Assumes nothing.
-use Prim.Native.Nat.{ℕ, _*_, min}
+use Prim.Native.Nat.{ℕ, _+_, _*_, min}
 use mathlib.Core.Path.{_≡_}
 use mathlib.Core.Bool.{cond}
 use mathlib.Core.List.{List, [], _++_}
@@ -73,6 +73,29 @@ behind p =
       text = drop (nameBytes (itemsIn p) (p .items)) (textBehindLosses p);
     }
 
+-- how many bytes of units and of text the annotation has: its ion, its losses and its adduct items
+abbrev pub unitsIn : Parts → ℕ
+unitsIn p = 6 * ionUnits (p .notes) + unitBytes (lossesIn p) (p .losses) + unitBytes (itemsIn p) (p .items)
+
+abbrev pub textIn : Parts → ℕ
+textIn p = ionBytes (p .notes) + nameBytes (lossesIn p) (p .losses) + nameBytes (itemsIn p) (p .items)
+
+-- n bytes further in the table, or its end
+abbrev pub further : List ℕ → ℕ → ℕ → ℕ
+further table at n = min (at + n) (length table)
+
+-- the cursors behind the annotation whose parts stand at c
+unfoldable pub cursorsBehind : List ℕ → Cursors → Cursors
+cursorsBehind table c =
+    record {
+      annotations = further table (c .annotations) 36;
+      losses = further table (c .losses) (6 * lossesIn (partsAt table c));
+      isotopes = further table (c .isotopes) (8 * isotopesIn (partsAt table c));
+      items = further table (c .items) (6 * itemsIn (partsAt table c));
+      units = further table (c .units) (unitsIn (partsAt table c));
+      text = further table (c .text) (textIn (partsAt table c));
+    }
+
 pub record PrintsAnnotation (table : List ℕ) (c : Cursors) (d : List ℕ) (to : ℕ) (e : List ℕ) (r : Printed) : Type 0 where
   pub put : Put d to (annotationText (partsAt table c)) e (r .to)
-  pub parts : partsAt table (r .cursors) ≡ behind (partsAt table c)
+  pub cursors : r .cursors ≡ cursorsBehind table c

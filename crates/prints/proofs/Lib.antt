@@ -7,3 +7,4 @@ pub mod Isotopes
 pub mod Tails
 pub mod Sound
 pub mod Laws
+pub mod One

@@ -15,3 +15,4 @@ pub mod Worded
 pub mod Numbered
 pub mod Counted
 pub mod Right
+pub mod One

@@ -4,3 +4,4 @@ pub mod Ions
 pub mod Adducts
 pub mod Rests
 pub mod Laws
+pub mod One

@@ -12,3 +12,4 @@ pub mod Unambiguous
 pub mod Walks
 pub mod Scans
 pub mod Parts
+pub mod One

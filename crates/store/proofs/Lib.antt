@@ -6,3 +6,4 @@ pub mod Records
 pub mod Rests
 pub mod Sections
 pub mod Laws
+pub mod One

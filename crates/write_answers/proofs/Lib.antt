@@ -1,3 +1,4 @@
 pub mod Cut
 pub mod Fits
 pub mod Answering
+pub mod One

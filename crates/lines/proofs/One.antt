@@ -1,0 +1,22 @@
+-- Two answers that meet a contract of this crate are equal. Assumes nothing.
+use mathlib.Core.Path.{_≡_}
+use mathlib.Core.List.{List}
+use Prim.Native.Nat.{ℕ}
+use Rattle.rules.specs.Answers.{Reads, Writes}
+use Rattle.rules.proofs.WritesOne as rules
+use Rattle.shape.proofs.Unambiguous as shape
+use Rattle.reading.specs.declared.Answer.{Answer}
+use Rattle.reading.specs.Readings.{answered}
+use Rattle.reading.proofs.One.{answered-one}
+use Rattle.lines.specs.Relabels.{Relabels}
+use Rattle.lines.proofs.Back as back
+
+module _ {room : ℕ} {r q : Answer} {e f : List ℕ} where
+  pub reads-one : (line : List ℕ) → Reads line room (answered r e) → Reads line room (answered q f) → (e ≡ f) × (r ≡ q)
+  reads-one line a b = answered-one (shape.reads-one a b)
+
+  pub writes-one : (table : List ℕ) → Writes table room (answered r e) → Writes table room (answered q f) → (e ≡ f) × (r ≡ q)
+  writes-one table a b = answered-one (rules.writes-one a b)
+
+  pub relabels-one : (line : List ℕ) → Relabels line room (answered r e) → Relabels line room (answered q f) → (e ≡ f) × (r ≡ q)
+  relabels-one line a b = answered-one (back.relabels-one line a b)
