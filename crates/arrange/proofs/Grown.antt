@@ -7,7 +7,8 @@ use native.Mathlib.Decide.{decLe}
 use lib.ListN.{length, drop}
 use lib.Seq.{sets}
 use borrow.Author.Tests.{lt-ltb, le-ltb}
-use Rattle.lang.proofs.Sort.{insert, insert-perm}
+use Rattle.lang.specs.Order.{insert}
+use Rattle.lang.proofs.Sort.{insert-perm}
 use Rattle.rules.proofs.Totals.{perm-length}
 use Rattle.puts.specs.Puts.{maxPlace, Put}
 use Rattle.pieces.specs.declared.Piece.{Piece}

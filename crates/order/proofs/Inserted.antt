@@ -4,7 +4,7 @@ use mathlib.Core.Path.{_≡_, refl}
 use mathlib.Core.List.{List}
 use native.Mathlib.Omega.{arith}
 use lib.ListN.{take}
-use Rattle.lang.proofs.Sort.{insert}
+use Rattle.lang.specs.Order.{insert}
 use Rattle.order.specs.declared.Slot.{Slot}
 use Rattle.order.specs.declared.Slots.{Slots}
 use Rattle.order.specs.Slots.{slotLe, slotsOf, Inserted}

@@ -4,8 +4,7 @@ use mathlib.Core.Path.{_≡_}
 use mathlib.Core.Bool.{Bool}
 use mathlib.Core.List.{List, [], _∷_, _++_, map}
 use lib.ListN.{length, take, drop}
-use Rattle.lang.specs.Order.{lexLe}
-use Rattle.lang.proofs.Sort.{insert}
+use Rattle.lang.specs.Order.{lexLe, insert}
 use Rattle.rules.specs.Preferred.{rank}
 use Rattle.order.specs.declared.Slot.{Slot}
 use Rattle.order.specs.declared.Slots.{Slots}

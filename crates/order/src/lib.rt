@@ -4,8 +4,7 @@ ghost use mathlib.Core.Bool.{_||_, cond};
 ghost use mathlib.Core.List.{[], _∷_};
 ghost use Prim.Native.Nat.{_+_, _<_};
 ghost use lib.ListN.{take};
-ghost use Rattle.lang.specs.Order.{lexLe};
-ghost use Rattle.lang.proofs.Sort.{insert};
+ghost use Rattle.lang.specs.Order.{lexLe, insert};
 ghost use Rattle.order.specs.Slots.{slotLe, textAt, Inserted};
 ghost use Rattle.order.specs.Steps.{rankAt, TextsBefore};
 
