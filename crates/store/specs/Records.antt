@@ -24,8 +24,8 @@ frontBytes a = stores (frontFields a)
 -- bytes 10 to 27: charge, deviation's kind and decimals, confidence's presence and decimals, 0, deviation, confidence
 abbrev pub tailFields : Tail → List Field
 tailFields b =
-    u8 (b .charge) ∷ u8 (b .deviation .kind) ∷ u8 (b .deviation .places) ∷ u8 (b .confidence .kind) ∷ u8 (b .confidence .places) ∷ u8 0
-    ∷ u64 (signedOf (b .deviation .minus) (b .deviation .value)) ∷ u32 (b .confidence .value) ∷ []
+    u8 (b .charge) ∷ u8 (b .deviation .kind) ∷ u8 (b .deviation .size .places) ∷ u8 (b .confidence .kind) ∷ u8 (b .confidence .size .places) ∷ u8 0
+    ∷ u64 (signedOf (b .deviation .minus) (b .deviation .size .value)) ∷ u32 (b .confidence .size .value) ∷ []
 
 unfoldable pub tailBytes : Tail → List ℕ
 tailBytes b = stores (tailFields b)
