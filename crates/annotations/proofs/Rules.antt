@@ -18,7 +18,7 @@ use Rattle.rules.proofs.Keeps.{kept-part}
 use Rattle.numbers.specs.Shares.{largest, billionthsOf}
 use Rattle.terms.specs.declared.Fault.{Fault}
 use Rattle.tails.specs.declared.DecimalPart.{DecimalPart}
-use Rattle.tails.proofs.Laws.{deviationRead, confidenceRead}
+use Rattle.tails.proofs.Laws.{sizeRead, deviationRead, confidenceRead}
 use Rattle.annotations.specs.House.{deviationRuleOf, shareOf}
 
 pub fits-kept : (d : Decimal) (at : ℕ) → Kept (decimalMark d at) → fits d ≡ true
@@ -33,17 +33,17 @@ unfolding deviationRuleOf
 deviation-rule silent at g k = refl
 deviation-rule (written d) at g k =
     let p = kept-part at (bare (bytes "/") ∷ bare (flagText (bytes "-") (d .minus)) ∷ decimalPart (d .size) ∷ []) k (decimalPart (d .size)) (later (later here)) in
-    ap (λ (t : Bool). not (d .minus) || leb 1 (cond t (d .size .value) 0)) (fits-kept (d .size) (p .0) (p .1))
+    ap (λ (t : Bool). not (d .minus) || leb 1 (sizeRead (d .size) t .value)) (fits-kept (d .size) (p .0) (p .1))
 
 -- nothing is no billionths, whatever its places
-pub share-zero : (c : DecimalPart) → c .value ≡ 0 → 0 ≡ shareOf c
+pub share-zero : (c : DecimalPart) → c .size .value ≡ 0 → 0 ≡ shareOf c
 unfolding shareOf billionthsOf
-share-zero c e = rw (e, zero-mul (10 ^ (maxPlaces - c .places)))
+share-zero c e = rw (e, zero-mul (10 ^ (maxPlaces - c .size .places)))
 
 pub share-told : (c : Opt Decimal) (at : ℕ) (g : Fault) → Kept (optPart confidencePart c .marks at) → shareOf (confidenceRead c g) ≡ min (confidenceOf c) largest
 unfolding shareOf billionthsOf
 share-told silent at g k = omega arith
-share-told (written d) at g k = ap (λ (t : Bool). billionthsOf (record { value = cond t (d .value) 0; places = cond t (d .places) 0 })) (fits-kept d _ k)
+share-told (written d) at g k = ap (λ (t : Bool). billionthsOf (sizeRead d t)) (fits-kept d _ k)
 
 -- as much as a u64 holds is past 1 where the confidence is
 pub share-test : (n : ℕ) → leb (min n largest) one ≡ leb n one

@@ -13,11 +13,11 @@ ionRuleOf x items = cond (eqb (x .kind) 2) (leb 2 (x .position) && leb (x .posit
 
 -- `-` doesn't stand before a zero deviation
 unfoldable pub deviationRuleOf : DecimalPart → Bool
-deviationRuleOf d = not (d .minus) || leb 1 (d .value)
+deviationRuleOf d = not (d .minus) || leb 1 (d .size .value)
 
 unfoldable pub rulesOf : IonRead → ℕ → DecimalPart → ℕ → Bool
 rulesOf x items d share = ionRuleOf x items && (deviationRuleOf d && leb share one)
 
 -- a confidence in billionths
 unfoldable pub shareOf : DecimalPart → ℕ
-shareOf c = billionthsOf (record { value = c .value; places = c .places })
+shareOf c = billionthsOf (c .size)

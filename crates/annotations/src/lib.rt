@@ -10,7 +10,6 @@ use ions::IonRead;
 use ions::MAX_POSITION;
 use ions::ion;
 use isotopes::isotopes;
-use numbers::Decimal;
 use numbers::billionths;
 use numbers::read_number;
 use openings::ahead;
@@ -280,7 +279,8 @@ fn keeps_deviation_rule(d: DecimalPart) -> bool
     if !d.minus {
         return true;
     }
-    1 <= d.value
+    let size = d.size;
+    1 <= size.value()
 }
 
 // The rules for one annotation.
@@ -300,14 +300,12 @@ fn keeps_rules(x: IonRead, items: usize, d: DecimalPart, share: u64) -> bool
 fn share_of(c: DecimalPart) -> u64
     ensures { λ r. ⌜ r ≡ shareOf c ⌝ }
 {
+    let size = c.size;
     // Without a confidence there is nothing to scale.
-    if c.value == 0 {
+    if size.value() == 0 {
         return 0;
     }
-    billionths(Decimal {
-        value: c.value,
-        places: c.places,
-    })
+    billionths(size)
 }
 
 // Annotation number i of a line of `end` bytes.

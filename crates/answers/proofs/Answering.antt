@@ -4,7 +4,7 @@ use mathlib.Core.Path.{_≡_, subst}
 use mathlib.Core.Bool.{Bool}
 use mathlib.Core.List.{List}
 use Rattle.puts.specs.Puts.{Put}
-use Rattle.reading.specs.declared.Answer.{Answer}
+use Rattle.deliver.specs.declared.Answer.{Answer}
 use Rattle.streams.specs.declared.Stream.{Stream}
 use Rattle.streams.specs.Streams.{waitingOf}
 use Rattle.tells.specs.Tells.{told}

@@ -6,7 +6,7 @@ use Prim.Native.Nat.{ℕ}
 use lib.ListN.{length}
 use Rattle.puts.proofs.Laws.{put-as}
 use Rattle.puts.proofs.One.{put-one}
-use Rattle.reading.specs.declared.Answer.{Answer}
+use Rattle.deliver.specs.declared.Answer.{Answer}
 use Rattle.reading.proofs.One.{answered-in-one}
 use Rattle.streams.specs.declared.Stream.{Stream}
 use Rattle.streams.specs.Streams.{waitingOf}

@@ -9,8 +9,9 @@ use lib.Seq.{take-all, take-at, drop-at, length-take-le}
 use Rattle.numbers.specs.declared.Number.{Number}
 use Rattle.numbers.specs.Leading.{numberOf}
 use Rattle.shape.specs.Steps.{scannedBy}
-use Rattle.reading.specs.declared.Answer.{Answer}
-use Rattle.reading.specs.Readings.{answered, readOf}
+use Rattle.deliver.specs.declared.Answer.{Answer}
+use Rattle.deliver.specs.Delivered.{answered}
+use Rattle.reading.specs.Readings.{readOf}
 use Rattle.answers.specs.Reads.{lineIn, roomIn, ReadInto}
 
 -- where the first bytes of table d are p, and all behind them is as it was

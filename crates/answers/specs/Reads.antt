@@ -6,8 +6,9 @@ use mathlib.Core.List.{List}
 use lib.ListN.{length, take, drop}
 use Rattle.numbers.specs.Leading.{numberOf}
 use Rattle.shape.specs.Steps.{scannedBy}
-use Rattle.reading.specs.declared.Answer.{Answer}
-use Rattle.reading.specs.Readings.{answered, readOf}
+use Rattle.deliver.specs.declared.Answer.{Answer}
+use Rattle.deliver.specs.Delivered.{answered}
+use Rattle.reading.specs.Readings.{readOf}
 
 -- the line that is asked for: behind a number and a blank where lines are sized, else all
 abbrev pub lineIn : Bool → List ℕ → List ℕ

@@ -9,9 +9,8 @@ use lib.ListN.{length, take, drop, length-take, length-append, length-replicate}
 use lib.Seq.{sets, sets-eq, length-sets, take-append-seam, drop-append-seam, drop-at, drop-drop}
 use borrow.Author.Tests.{lt-ltb}
 use Rattle.lang.specs.Parts.{optText, flat}
-use Rattle.lang.specs.Order.{Each, none, next}
+use Rattle.lang.specs.Order.{Each, none, next, insert}
 use Rattle.lang.specs.Walk.{Walked}
-use Rattle.lang.proofs.Sort.{insert}
 use Rattle.lang.proofs.Walks.{walk-ends}
 use Rattle.rules.specs.Numbers.{numberText}
 use Rattle.rules.specs.Preferred.{signRank}

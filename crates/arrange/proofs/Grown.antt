@@ -7,7 +7,7 @@ use native.Mathlib.Decide.{decLe}
 use lib.ListN.{length, drop, replicate}
 use lib.Seq.{sets, take-append-seam, drop-append-add}
 use borrow.Author.Tests.{lt-ltb, le-ltb}
-use Rattle.lang.proofs.Sort.{insert}
+use Rattle.lang.specs.Order.{insert}
 use Rattle.puts.specs.Puts.{maxPlace, Put}
 use Rattle.puts.proofs.Laws.{put-as}
 use Rattle.pieces.specs.declared.Piece.{Piece}

@@ -7,7 +7,7 @@ use lib.Dec.{ltb}
 use lib.ListN.{length, drop, replicate}
 use lib.Seq.{sets}
 use Rattle.lang.specs.Walk.{walk}
-use Rattle.lang.proofs.Sort.{insert}
+use Rattle.lang.specs.Order.{insert}
 use Rattle.puts.specs.Puts.{maxPlace, Put}
 use Rattle.terms.specs.Faults.{fault}
 use Rattle.openings.specs.Heads.{beginsPiece}

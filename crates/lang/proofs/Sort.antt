@@ -6,18 +6,14 @@ use mathlib.Core.List.{List, [], _∷_}
 use mathlib.Core.Logic.{_⊎_, inl, inr}
 use lib.Dec.{T}
 use Rattle.lang.specs.Re.{either}
-use Rattle.lang.specs.Order.{Perm, same, swap, keep, then, leads, rising}
+use Rattle.lang.specs.Order.{Perm, same, swap, keep, then, leads, rising, insert}
 use Rattle.lang.proofs.Deriv.{and-0, and-1, and-i}
 use Rattle.lang.proofs.Tests.{is-t, not-t, t-is, Case, case}
 
 module _ {A : Type 0} (before : A → A → Bool) where
-  abbrev pub insert : A → List A → List A
-  insert a [] = a ∷ []
-  insert a (b ∷ l) = elim (before a b) [ true ↦ a ∷ b ∷ l | false ↦ b ∷ insert a l ]
-
   abbrev pub sorted : List A → List A
   sorted [] = []
-  sorted (a ∷ l) = insert a (sorted l)
+  sorted (a ∷ l) = insert before a (sorted l)
 
 -- ---- the same members
 

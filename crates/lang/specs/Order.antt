@@ -21,6 +21,12 @@ abbrev pub rising : {A : Type 0} → (A → A → Bool) → List A → Bool
 rising before [] = true
 rising before (a ∷ l) = leads before a l && rising before l
 
+-- a list with a put in front of the first that it stands before
+module _ {A : Type 0} (before : A → A → Bool) where
+  abbrev pub insert : A → List A → List A
+  insert a [] = a ∷ []
+  insert a (b ∷ l) = elim (before a b) [ true ↦ a ∷ b ∷ l | false ↦ b ∷ insert a l ]
+
 -- number by number, a prefix before the longer
 abbrev pub lexLe : List ℕ → List ℕ → Bool
 lexLe [] t = true

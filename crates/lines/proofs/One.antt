@@ -5,8 +5,8 @@ use Prim.Native.Nat.{ℕ}
 use Rattle.rules.specs.Answers.{Reads, Writes}
 use Rattle.rules.proofs.WritesOne as rules
 use Rattle.shape.proofs.Unambiguous as shape
-use Rattle.reading.specs.declared.Answer.{Answer}
-use Rattle.reading.specs.Readings.{answered}
+use Rattle.deliver.specs.declared.Answer.{Answer}
+use Rattle.deliver.specs.Delivered.{answered}
 use Rattle.reading.proofs.One.{answered-one}
 use Rattle.lines.specs.Relabels.{Relabels}
 use Rattle.lines.proofs.Back as back

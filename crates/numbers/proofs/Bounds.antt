@@ -6,17 +6,18 @@ use mathlib.Core.List.{[], _∷_}
 use native.Mathlib.Omega.{arith}
 use native.Mathlib.Nat.{pow-suc, one-le-pow}
 use native.Mathlib.Decide.{decLt}
-use lib.Dec.{leb, ltb}
+use lib.Dec.{T, leb, ltb}
 use lib.ListN.{length, length-append}
 use lib.Pow.{pow-add}
 use borrow.Author.Tests.{lt-ltb, le-ltb, le-leb, lt-leb, leb-true, ltb-true}
+use Rattle.lang.proofs.Tests.{is-t}
 use Rattle.rules.specs.Numbers.{digits}
 use Rattle.rules.specs.Decimals.{whole}
 use Rattle.rules.specs.Limits.{fits}
 use Rattle.rules.proofs.Digits.{digits-small, digits-big}
 use Rattle.numbers.specs.declared.Decimal.{Decimal}
 use Rattle.numbers.specs.declared.Made.the-variants.{Fits, Past}
-use Rattle.numbers.specs.Making.{madeOf}
+use Rattle.numbers.specs.Making.{zeroDecimal, ruled, madeOf, madeDecimal}
 
 -- ---- how many digits a number has
 
@@ -147,3 +148,19 @@ past-back v p e = go (fits (record { value = v; places = p })) refl e
         → fits (record { value = v; places = p }) ≡ false
     go true q f = cc
     go false q f = q
+
+-- ---- no decimal but within the bounds: what the constructor makes, 0, and so what is told of each answer
+
+pub made-within : (v p : ℕ) (d : Decimal) → madeOf v p ≡ Fits d → T (fits (ruled d))
+made-within v p d e = let b = made-back v p d e in is-t (ap (λ (x : Decimal). fits (ruled x)) (b .1) ∙ b .0)
+
+pub zero-within : T (fits (ruled zeroDecimal))
+zero-within = rw (fits-is 0 0) tt
+
+pub told-within : (v p : ℕ) → T (fits (ruled (madeDecimal (madeOf v p))))
+unfolding madeOf
+told-within v p = go (fits (record { value = v; places = p })) refl
+  where
+    go : (t : Bool) → fits (record { value = v; places = p }) ≡ t → T (fits (ruled (madeDecimal (cond t (Fits (record { value = v; places = p })) Past))))
+    go true e = is-t e
+    go false e = zero-within

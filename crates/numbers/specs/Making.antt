@@ -14,3 +14,17 @@ ruled d = record { value = d .value; places = d .places }
 -- a decimal, or that it is past its bounds
 unfoldable pub madeOf : ℕ → ℕ → Made
 madeOf v p = cond (fits (record { value = v; places = p })) (Fits (record { value = v; places = p })) Past
+
+-- 0, without places
+abbrev pub zeroDecimal : Decimal
+zeroDecimal = record { value = 0; places = 0 }
+
+-- the paper's number for each answer ("Numbers of refusal": 0 and 4)
+abbrev pub madeNumber : Made → ℕ
+madeNumber (Fits d) = 0
+madeNumber Past = 4
+
+-- the decimal of each answer; past its bounds it is told as 0
+abbrev pub madeDecimal : Made → Decimal
+madeDecimal (Fits d) = d
+madeDecimal Past = zeroDecimal

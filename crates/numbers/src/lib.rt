@@ -7,7 +7,7 @@ ghost use Rattle.rules.specs.Numbers.{digits};
 ghost use Rattle.rules.specs.Decimals.{whole, lastDigits, decimalText};
 ghost use Rattle.puts.specs.Puts.{Put};
 ghost use Rattle.numbers.specs.Leading.{leadingOf, numberOf};
-ghost use Rattle.numbers.specs.Making.{ruled, madeOf};
+ghost use Rattle.numbers.specs.Making.{zeroDecimal, ruled, madeOf, madeNumber, madeDecimal};
 ghost use Rattle.numbers.specs.Points.{fractionOf, decimalOf};
 ghost use Rattle.numbers.specs.Shares.{largest, billionthsOf};
 use puts::put8;
@@ -87,10 +87,10 @@ fn whole_of(v: u64, n: u8) -> u64
     rest
 }
 
-// A decimal: 0.70 is 70 with 2 places.
+// A decimal: 0.70 is 70 with 2 places. Its fields are private, so that no decimal is made but by `new` and `zero`: each is within the bounds.
 pub struct Decimal {
-    pub value: u64,
-    pub places: u8,
+    value: u64,
+    places: u8,
 }
 
 // A decimal within its bounds, or that it is past them.
@@ -117,6 +117,52 @@ impl Decimal {
             return Made::Past;
         }
         Made::Fits(Decimal { value, places })
+    }
+
+    // 0, without places.
+    pub fn zero() -> Decimal
+        ensures { λ r. ⌜ r ≡ zeroDecimal ⌝ }
+    {
+        Decimal {
+            value: 0,
+            places: 0,
+        }
+    }
+
+    // The number without its point.
+    pub fn value(self) -> u64
+        ensures { λ r. ⌜ r ≡ self .value ⌝ }
+    {
+        self.value
+    }
+
+    // How many digits stand behind the point.
+    pub fn places(self) -> u8
+        ensures { λ r. ⌜ r ≡ self .places ⌝ }
+    {
+        self.places
+    }
+}
+
+impl Made {
+    // The number of the refusal: 0 for none, 4 for a decimal past its bounds.
+    pub fn number(self) -> usize
+        ensures { λ r. ⌜ r ≡ madeNumber self ⌝ }
+    {
+        match self {
+            Made::Fits(_) => 0,
+            Made::Past => 4,
+        }
+    }
+
+    // The decimal, and 0 for one past its bounds.
+    pub fn decimal(self) -> Decimal
+        ensures { λ r. ⌜ r ≡ madeDecimal self ⌝ }
+    {
+        match self {
+            Made::Fits(d) => d,
+            Made::Past => Decimal::zero(),
+        }
     }
 }
 
@@ -217,16 +263,22 @@ fn put_last(out: &mut [u8], at: usize, v: u64, n: u8) -> usize
     put8(out, to, b'0' + (v % 10) as u8)
 }
 
-// A decimal, put at a cursor: the whole number, then the point and the places where there are any.
-pub fn put_decimal(out: &mut [u8], at: usize, d: Decimal) -> usize
-    ensures { λ r. ⌜ Put (now (out .entry)) at (decimalText (ruled d)) (now (out .exit)) r ⌝ }
+// A number with a point before its last digits, put at a cursor: the whole number, then the point and the places where there are any.
+// A stored value that is no decimal within the bounds has this text too.
+pub fn put_pointed(out: &mut [u8], at: usize, value: u64, places: u8) -> usize
+    ensures { λ r. ⌜ Put (now (out .entry)) at (decimalText (record { value = value; places = places })) (now (out .exit)) r ⌝ }
 {
-    let value = d.value;
-    let places = d.places;
     let behind = put_number(out, at, whole_of(value, places));
     if places < 1 {
         return behind;
     }
     let to = put8(out, behind, b'.');
     put_last(out, to, value, places)
+}
+
+// A decimal, put at a cursor.
+pub fn put_decimal(out: &mut [u8], at: usize, d: Decimal) -> usize
+    ensures { λ r. ⌜ Put (now (out .entry)) at (decimalText (ruled d)) (now (out .exit)) r ⌝ }
+{
+    put_pointed(out, at, d.value, d.places)
 }

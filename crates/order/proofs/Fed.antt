@@ -6,8 +6,8 @@ use native.Mathlib.Omega.{arith}
 use native.Mathlib.Decide.{decLe}
 use lib.Dec.{T}
 use lib.ListN.{length, take, length-append}
-use Rattle.lang.specs.Order.{Perm, rising}
-use Rattle.lang.proofs.Sort.{insert, Order, insert-perm}
+use Rattle.lang.specs.Order.{Perm, rising, insert}
+use Rattle.lang.proofs.Sort.{Order, insert-perm}
 use Rattle.lang.proofs.Lex.{by-key}
 use Rattle.order.specs.declared.Slot.{Slot}
 use Rattle.order.specs.declared.Slots.{Slots}

@@ -3,8 +3,8 @@ use mathlib.Core.Path.{_≡_, refl, subst}
 use mathlib.Core.Bool.{Bool, true, false, true≢false, false≢true}
 use mathlib.Core.List.{List, [], _∷_, _++_, append-nil}
 use lib.Dec.{T}
-use Rattle.lang.specs.Order.{Perm, same, swap, keep, then, rising, Each, none, next}
-use Rattle.lang.proofs.Sort.{insert, Order, insert-perm, sorted-rising, sorted-same}
+use Rattle.lang.specs.Order.{Perm, same, swap, keep, then, rising, Each, none, next, insert}
+use Rattle.lang.proofs.Sort.{Order, insert-perm, sorted-rising, sorted-same}
 use Rattle.order.specs.Slots.{fedInto}
 
 -- ---- the same members

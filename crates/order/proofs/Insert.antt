@@ -7,7 +7,7 @@ use native.Mathlib.Omega.{arith}
 use native.Mathlib.Numerals.{add-one}
 use lib.ListN.{length, getD, take, drop, set, length-take, length-set, drop-of-length-le, take-append-drop}
 use lib.Seq.{drop-cons, getD-take, take-set-lt, drop-set-lt, take-suc-set}
-use Rattle.lang.proofs.Sort.{insert}
+use Rattle.lang.specs.Order.{insert}
 
 -- ---- one place
 

@@ -7,7 +7,8 @@ use native.Mathlib.Decide.{decLe}
 use borrow.Author.Tests.{le-leb, lt-leb}
 use lib.ListN.{length, take, drop, length-take, drop-of-length-le}
 use lib.Seq.{take-at, take-all}
-use Rattle.lang.proofs.Sort.{insert, insert-perm}
+use Rattle.lang.specs.Order.{insert}
+use Rattle.lang.proofs.Sort.{insert-perm}
 use Rattle.rules.proofs.Totals.{perm-length}
 use Rattle.order.specs.declared.Slot.{Slot}
 use Rattle.order.specs.declared.Slots.{Slots}

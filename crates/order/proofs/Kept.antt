@@ -6,8 +6,7 @@ use mathlib.Core.List.{List, [], _∷_, _++_, map}
 use native.Mathlib.Omega.{arith}
 use lib.ListN.{length, take, set}
 use lib.Seq.{take-take, take-nil, take-append-le, take-set-le, sets}
-use Rattle.lang.specs.Order.{lexLe, Each, none, next}
-use Rattle.lang.proofs.Sort.{insert}
+use Rattle.lang.specs.Order.{lexLe, Each, none, next, insert}
 use Rattle.rules.specs.Numbers.{Number}
 use Rattle.rules.specs.Losses.{Loss}
 use Rattle.rules.specs.Adducts.{Item}

@@ -5,8 +5,7 @@ use mathlib.Core.Bool.{Bool, cond}
 use mathlib.Core.List.{List, [], _∷_, _++_, map}
 use lib.Dec.{leb}
 use lib.ListN.{length, take, drop, replicate}
-use Rattle.lang.specs.Order.{lexLe}
-use Rattle.lang.proofs.Sort.{insert}
+use Rattle.lang.specs.Order.{lexLe, insert}
 use Rattle.rules.specs.Preferred.{rank}
 use Rattle.order.specs.declared.Slot.{Slot}
 use Rattle.order.specs.declared.Slots.{Slots}

@@ -12,9 +12,8 @@ use formulas::print_units;
 use formulas::put_symbol;
 use formulas::word_at;
 use heads::put_head;
-use numbers::Decimal;
-use numbers::put_decimal;
 use numbers::put_number;
+use numbers::put_pointed;
 use openings::ahead;
 use puts::put_run;
 use puts::put8;
@@ -207,15 +206,12 @@ fn size_of_signed(v: u64) -> u64
 fn print_signed(out: &mut [u8], to: usize, v: u64, places: u8) -> usize
     ensures { λ r. ⌜ Put (now (out .entry)) to (signedText v places) (now (out .exit)) r ⌝ }
 {
-    let d = Decimal {
-        value: size_of_signed(v),
-        places,
-    };
+    let size = size_of_signed(v);
     if v < 9223372036854775808 {
-        return put_decimal(out, to, d);
+        return put_pointed(out, to, size, places);
     }
     let a = put8(out, to, b'-');
-    put_decimal(out, a, d)
+    put_pointed(out, a, size, places)
 }
 
 fn print_deviation(out: &mut [u8], to: usize, s: &[u8]) -> usize
@@ -240,14 +236,7 @@ fn print_confidence(out: &mut [u8], to: usize, s: &[u8]) -> usize
         return to;
     }
     let a = put8(out, to, b'*');
-    put_decimal(
-        out,
-        a,
-        Decimal {
-            value: quad_at(rest(s, 24)) as u64,
-            places: byte_of(s, 14),
-        },
-    )
+    put_pointed(out, a, quad_at(rest(s, 24)) as u64, byte_of(s, 14))
 }
 
 // What stands behind the adduct.

@@ -7,10 +7,11 @@ use Rattle.rules.specs.Answers as rules
 use Rattle.pages.specs.declared.Cursors.{Cursors}
 use Rattle.pages.proofs.One.{ran-one}
 use Rattle.annotations.specs.declared.Parts.{Parts}
-use Rattle.reading.specs.declared.Answer.{Answer}
+use Rattle.deliver.specs.declared.Answer.{Answer}
 use Rattle.reading.specs.declared.Going.{Going}
 use Rattle.reading.specs.Stores.{StoresNext, StoresLine}
-use Rattle.reading.specs.Readings.{answered, ReadsSpelled}
+use Rattle.deliver.specs.Delivered.{answered}
+use Rattle.reading.specs.Readings.{ReadsSpelled}
 
 pub stores-next-one : {line d e f : List ℕ} {from : ℕ} {p : Parts} {c : Cursors} {r q : Going}
     → StoresNext line from p d c e r → StoresNext line from p d c f q → (e ≡ f) × (r ≡ q)

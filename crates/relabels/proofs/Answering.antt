@@ -11,8 +11,8 @@ use borrow.Author.Tests.{eqb-true, eqb-false}
 use Rattle.rules.specs.Limits.{maxLine}
 use Rattle.puts.specs.Puts.{Put}
 use Rattle.puts.proofs.Laws.{put-length, put-place}
-use Rattle.reading.specs.declared.Answer.{Answer}
-use Rattle.reading.specs.Readings.{refusedOf}
+use Rattle.deliver.specs.declared.Answer.{Answer}
+use Rattle.deliver.specs.Delivered.{refusedOf}
 use Rattle.streams.specs.declared.Stream.{Stream}
 use Rattle.streams.specs.Streams.{waitingOf}
 use Rattle.relabels.specs.Told.{Told, refusalText}

@@ -4,7 +4,7 @@ use mathlib.Core.List.{List}
 use Prim.Native.Nat.{ℕ}
 use native.Mathlib.Decide.{ℕ-discrete}
 use Rattle.puts.proofs.One.{put-one}
-use Rattle.reading.specs.declared.Answer.{Answer}
+use Rattle.deliver.specs.declared.Answer.{Answer}
 use Rattle.relabels.specs.Told.{Told}
 
 pub told-one : {d e f : List ℕ} {at r q : ℕ} {a : Answer} → Told d at a e r → Told d at a f q → (e ≡ f) × (r ≡ q)

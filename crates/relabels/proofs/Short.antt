@@ -8,7 +8,7 @@ use lib.Dec.{ltb, leb}
 use lib.ListN.{length, length-append}
 use borrow.Author.Tests.{ltb-true, leb-true}
 use Rattle.rules.specs.Numbers.{digits}
-use Rattle.reading.specs.declared.Answer.{Answer}
+use Rattle.deliver.specs.declared.Answer.{Answer}
 use Rattle.streams.specs.Streams.{roomOf}
 use Rattle.numbers.proofs.Bounds.{digits-below}
 use Rattle.relabels.specs.Told.{refusalText}

@@ -7,8 +7,8 @@ use lib.ListN.{length, getD, take, drop, length-take, length-drop}
 use lib.Seq.{length-take-le, take-at, drop-at, take-append-le}
 use Rattle.rules.specs.Limits.{maxLine}
 use Rattle.shape.specs.Steps.{machineBytes, scannedBy}
-use Rattle.reading.specs.declared.Answer.{Answer}
-use Rattle.reading.specs.Readings.{answered}
+use Rattle.deliver.specs.declared.Answer.{Answer}
+use Rattle.deliver.specs.Delivered.{answered}
 use Rattle.lines.specs.Relabels.{Relabels, relabelledOf}
 use Rattle.lines.proofs.Right.{relabel-made}
 use Rattle.lines.proofs.Back.{relabel-enough}

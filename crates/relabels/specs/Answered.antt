@@ -7,7 +7,7 @@ use lib.Dec.{eqb}
 use lib.ListN.{length, take}
 use Rattle.rules.specs.Limits.{maxLine}
 use Rattle.rules.specs.Answers.{Answer}
-use Rattle.reading.specs.Readings.{refusedOf}
+use Rattle.deliver.specs.Delivered.{refusedOf}
 use Rattle.streams.specs.declared.Stream.{Stream}
 use Rattle.streams.specs.Streams.{waitingOf, roomOf}
 use Rattle.relabels.specs.Told.{refusalText}

@@ -5,7 +5,7 @@ use mathlib.Core.List.{List, [], _∷_, _++_}
 use lib.ListN.{length}
 use Rattle.rules.specs.Numbers.{digits}
 use Rattle.puts.specs.Puts.{Put}
-use Rattle.reading.specs.declared.Answer.{Answer}
+use Rattle.deliver.specs.declared.Answer.{Answer}
 use Rattle.tells.specs.Tells.{field}
 
 -- `!`, the number, a space and the place

@@ -18,7 +18,7 @@ use Rattle.rules.proofs.Keeps.{kept-part, not-past}
 use Rattle.terms.specs.declared.Fault.{Fault}
 use Rattle.terms.proofs.Spelled.{told}
 use Rattle.tails.specs.declared.DecimalPart.{DecimalPart}
-use Rattle.tails.proofs.Laws.{chargeRead, kindRead, deviationRead, confidenceRead}
+use Rattle.tails.proofs.Laws.{chargeRead, kindRead, sizeRead, deviationRead, confidenceRead}
 use Rattle.ions.proofs.Told.{labelRead}
 use Rattle.annotations.proofs.Ions.{told-within}
 use Rattle.annotations.proofs.Rules.{fits-kept}
@@ -49,8 +49,8 @@ signed-bytes true (suc v) = ap (λ (t : Bool). little 8 (cond (not t) (2 ^ 64 - 
 
 pub record DeviationTold (d : Opt Deviation) (p : DecimalPart) : Type 0 where
   pub kind : p .kind ≡ deviationKind d
-  pub places : p .places ≡ valueOr0 (λ d. d .size .places) d
-  pub value : little 8 (signedOf (p .minus) (p .value)) ≡ little 8 (valueOr0 (λ d. signed (d .minus) (d .size .value)) d)
+  pub places : p .size .places ≡ valueOr0 (λ d. d .size .places) d
+  pub value : little 8 (signedOf (p .minus) (p .size .value)) ≡ little 8 (valueOr0 (λ d. signed (d .minus) (d .size .value)) d)
 
 kind-told : (p : Bool) → kindRead p ≡ 1 + flag p
 kind-told true = refl
@@ -63,17 +63,17 @@ deviation-told (written d) at g k =
     let f = fits-kept (d .size) (p .0) (p .1) in
     record {
       kind = kind-told (d .ppm);
-      places = ap (λ (t : Bool). cond t (d .size .places) 0) f;
-      value = ap (λ (t : Bool). little 8 (signedOf (d .minus) (cond t (d .size .value) 0))) f ∙ signed-bytes (d .minus) (d .size .value);
+      places = ap (λ (t : Bool). sizeRead (d .size) t .places) f;
+      value = ap (λ (t : Bool). little 8 (signedOf (d .minus) (sizeRead (d .size) t .value))) f ∙ signed-bytes (d .minus) (d .size .value);
     }
 
 pub record ConfidenceTold (c : Opt Decimal) (p : DecimalPart) : Type 0 where
   pub kind : p .kind ≡ present c
-  pub places : p .places ≡ valueOr0 (λ d. d .places) c
-  pub value : p .value ≡ valueOr0 (λ d. d .value) c
+  pub places : p .size .places ≡ valueOr0 (λ d. d .places) c
+  pub value : p .size .value ≡ valueOr0 (λ d. d .value) c
 
 pub confidence-told : (c : Opt Decimal) (at : ℕ) (g : Fault) → Kept (optPart confidencePart c .marks at) → ConfidenceTold c (confidenceRead c g)
 confidence-told silent at g k = record { kind = refl; places = refl; value = refl }
 confidence-told (written d) at g k =
     let f = fits-kept d _ k in
-    record { kind = refl; places = ap (λ (t : Bool). cond t (d .places) 0) f; value = ap (λ (t : Bool). cond t (d .value) 0) f }
+    record { kind = refl; places = ap (λ (t : Bool). sizeRead d t .places) f; value = ap (λ (t : Bool). sizeRead d t .value) f }

@@ -4,6 +4,7 @@ use mathlib.Core.Bool.{Bool, cond, _&&_, not}
 use mathlib.Core.List.{List, [], _∷_, _++_}
 use lib.Dec.{eqb}
 use Rattle.rules.specs.Stored.{Field, u8, u16, u32, u64, stores}
+use Rattle.tails.specs.declared.DecimalPart.{DecimalPart}
 use Rattle.ions.specs.declared.IonRead.{IonRead}
 use Rattle.annotations.specs.declared.Front.{Front}
 use Rattle.annotations.specs.declared.Tail.{Tail}
@@ -21,11 +22,18 @@ frontFields a =
 unfoldable pub frontBytes : Front → List ℕ
 frontBytes a = stores (frontFields a)
 
+-- a deviation's kind or a confidence's presence, and its decimals
+abbrev pub kindFields : DecimalPart → List Field
+kindFields p = u8 (p .kind) ∷ u8 (p .size .places) ∷ []
+
+abbrev pub kindBytes : DecimalPart → List ℕ
+kindBytes p = stores (kindFields p)
+
 -- bytes 10 to 27: charge, deviation's kind and decimals, confidence's presence and decimals, 0, deviation, confidence
 abbrev pub tailFields : Tail → List Field
 tailFields b =
-    u8 (b .charge) ∷ u8 (b .deviation .kind) ∷ u8 (b .deviation .places) ∷ u8 (b .confidence .kind) ∷ u8 (b .confidence .places) ∷ u8 0
-    ∷ u64 (signedOf (b .deviation .minus) (b .deviation .value)) ∷ u32 (b .confidence .value) ∷ []
+    u8 (b .charge) ∷ kindFields (b .deviation)
+    ++ (kindFields (b .confidence) ++ (u8 0 ∷ u64 (signedOf (b .deviation .minus) (b .deviation .size .value)) ∷ u32 (b .confidence .size .value) ∷ []))
 
 unfoldable pub tailBytes : Tail → List ℕ
 tailBytes b = stores (tailFields b)

@@ -2,7 +2,7 @@
 ghost use mathlib.Core.Path.{_≡_};
 ghost use Rattle.puts.specs.Puts.{Put};
 ghost use Rattle.pages.specs.Pages.{Ran};
-ghost use Rattle.store.specs.Records.{signedOf, frontBytes, tailBytes, countBytes, recordBytes};
+ghost use Rattle.store.specs.Records.{signedOf, frontBytes, kindBytes, tailBytes, countBytes, recordBytes};
 ghost use Rattle.store.specs.Events.{ionEvents, StoresAdduct, StoresAnnotation};
 use annotations::Front;
 use annotations::Parts;
@@ -18,6 +18,7 @@ use pages::with_cursor;
 use puts::put_le;
 use puts::put_run;
 use puts::put8;
+use tails::DecimalPart;
 use terms::less;
 use terms::part;
 use terms::rest;
@@ -68,20 +69,29 @@ fn put_front(out: &mut [u8], to: usize, a: Front) -> usize
     put_le(out, u, x.last as u64, 2)
 }
 
+// The kind and the decimals of a deviation or a confidence.
+fn put_kind(out: &mut [u8], to: usize, p: DecimalPart) -> usize
+    ensures { λ r. ⌜ Put (now (out .entry)) to (kindBytes p) (now (out .exit)) r ⌝ }
+{
+    let size = p.size;
+    let q = put_le(out, to, p.kind as u64, 1);
+    put_le(out, q, size.places() as u64, 1)
+}
+
 // Bytes 10 to 27: charge, kind and decimals of the deviation, presence and decimals of the confidence, 0, deviation, confidence.
 fn put_tail(out: &mut [u8], to: usize, b: Tail) -> usize
     ensures { λ r. ⌜ Put (now (out .entry)) to (tailBytes b) (now (out .exit)) r ⌝ }
 {
     let d = b.deviation;
     let c = b.confidence;
+    let x = d.size;
+    let y = c.size;
     let p = put_le(out, to, b.charge as u64, 1);
-    let q = put_le(out, p, d.kind as u64, 1);
-    let r = put_le(out, q, d.places as u64, 1);
-    let s = put_le(out, r, c.kind as u64, 1);
-    let t = put_le(out, s, c.places as u64, 1);
-    let u = put8(out, t, 0);
-    let v = put_le(out, u, signed(d.minus, d.value), 8);
-    put_le(out, v, c.value, 4)
+    let q = put_kind(out, p, d);
+    let r = put_kind(out, q, c);
+    let s = put8(out, r, 0);
+    let t = put_le(out, s, signed(d.minus, x.value()), 8);
+    put_le(out, t, y.value(), 4)
 }
 
 // Bytes 28 to 35: the ion's text bytes and units, then losses, isotopes, adduct items, 0.

@@ -17,12 +17,13 @@ use Rattle.rules.specs.Numbers.{digits, From}
 use Rattle.rules.specs.Decimals.{Decimal, whole, pointText, decimalText}
 use Rattle.rules.specs.Annotations.{Deviation, flagText, chargeText, deviationText, confidenceText}
 use Rattle.rules.specs.Limits.{maxCharge, fits, decimalMark, optPart, chargePart, deviationPart, confidencePart}
+use Rattle.numbers.specs.declared.Decimal as numbers
 use Rattle.numbers.specs.declared.Made.the-variants.{Fits, Past}
-use Rattle.numbers.specs.Making.{madeOf}
+use Rattle.numbers.specs.Making.{zeroDecimal, madeOf}
 use Rattle.numbers.specs.Points.{point}
 use Rattle.numbers.proofs.Laws.{number-begins, number-read, decimal-read}
 use Rattle.terms.specs.declared.Fault.{Fault}
-use Rattle.terms.specs.Faults.{join, after}
+use Rattle.terms.specs.Faults.{numbered, join, after}
 use Rattle.terms.proofs.Marks.{join-kept}
 use Rattle.terms.proofs.Spelled.{told}
 use Rattle.terms.proofs.Limits.{mark-told}
@@ -51,8 +52,11 @@ charge-read (written n) k end f d e h =
 -- ---- decimals
 
 -- a decimal as it is told: past its bounds it is 0
+abbrev pub sizeRead : Decimal → Bool → numbers.Decimal
+sizeRead d fitting = cond fitting (record { value = d .value; places = d .places }) zeroDecimal
+
 abbrev pub partRead : ℕ → Bool → Decimal → ℕ → Fault → DecimalPart
-partRead kind minus d len g = record { kind = kind; minus = minus; value = cond (fits d) (d .value) 0; places = cond (fits d) (d .places) 0; len = len; fault = g }
+partRead kind minus d len g = record { kind = kind; minus = minus; size = sizeRead d (fits d); len = len; fault = g }
 
 pub part-made : (d : Decimal) (kind : ℕ) (minus : Bool) (len place : ℕ) (f : Fault)
     → partOf (madeOf (d .value) (d .places)) kind minus len place f ≡ partRead kind minus d len (after f (decimalMark d place))
@@ -60,10 +64,10 @@ unfolding madeOf partOf
 part-made d kind minus len place f = by (fits d)
   where
     by : (t : Bool) → partOf (cond t (Fits (record { value = d .value; places = d .places })) Past) kind minus len place f
-        ≡ record { kind = kind; minus = minus; value = cond t (d .value) 0; places = cond t (d .places) 0; len = len; fault = join f (record { place = place; number = 4; broken = not t }) }
+        ≡ record { kind = kind; minus = minus; size = sizeRead d t; len = len; fault = join f (record { place = place; number = 4; broken = not t }) }
     by true =
-        ap (λ (g : Fault). record { kind = kind; minus = minus; value = d .value; places = d .places; len = len; fault = g })
-        (sym (join-kept f (record { place = place; number = 4; broken = false }) refl))
+        ap (λ (g : Fault). record { kind = kind; minus = minus; size = sizeRead d true; len = len; fault = g })
+        (join-kept f (numbered 0 place) refl ∙ sym (join-kept f (record { place = place; number = 4; broken = false }) refl))
     by false = refl
 
 abbrev pub confidenceRead : Opt Decimal → Fault → DecimalPart

@@ -1,3 +1,4 @@
 pub mod Measures
 pub mod Devs
 pub mod Laws
+pub mod Within

@@ -6,20 +6,19 @@ use lib.ListN.{length, drop}
 use Rattle.rules.specs.Bytes.{bytes}
 use Rattle.rules.specs.Texts.{startsWith}
 use Rattle.numbers.specs.declared.Made.{Made}
-use Rattle.numbers.specs.declared.Made.the-variants.{Fits, Past}
 use Rattle.numbers.specs.declared.DecimalRead.{DecimalRead}
+use Rattle.numbers.specs.Making.{zeroDecimal, madeNumber, madeDecimal}
 use Rattle.numbers.specs.Points.{decimalOf}
 use Rattle.terms.specs.declared.Fault.{Fault}
-use Rattle.terms.specs.Faults.{join}
+use Rattle.terms.specs.Faults.{numbered, join}
 use Rattle.tails.specs.declared.DecimalPart.{DecimalPart}
 
 abbrev pub noPart : Fault → DecimalPart
-noPart f = record { kind = 0; minus = false; value = 0; places = 0; len = 0; fault = f }
+noPart f = record { kind = 0; minus = false; size = zeroDecimal; len = 0; fault = f }
 
--- a decimal at a place; past its bounds it is told as 0
+-- a decimal at a place, and the number of its refusal; past its bounds it is told as 0
 unfoldable pub partOf : Made → ℕ → Bool → ℕ → ℕ → Fault → DecimalPart
-partOf (Fits d) kind minus len place f = record { kind = kind; minus = minus; value = d .value; places = d .places; len = len; fault = f }
-partOf Past kind minus len place f = record { kind = kind; minus = minus; value = 0; places = 0; len = len; fault = join f (record { place = place; number = 4; broken = true }) }
+partOf m kind minus len place f = record { kind = kind; minus = minus; size = madeDecimal m; len = len; fault = join f (numbered (madeNumber m) place) }
 
 abbrev pub confidenceIn : ℕ → ℕ → DecimalRead → Fault → DecimalPart
 confidenceIn end left d f = partOf (d .made) 1 false (1 + d .len) (end - (left - 1)) f

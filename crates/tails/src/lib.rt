@@ -3,12 +3,14 @@ ghost use mathlib.Core.Path.{_≡_};
 ghost use Rattle.rules.specs.Bytes.{bytes};
 ghost use Rattle.rules.specs.Texts.{startsWith};
 ghost use Rattle.tails.specs.Charges.{chargeOf};
-ghost use Rattle.tails.specs.Decimals.{partOf, sizeAt, confidenceOf, deviationOf};
+ghost use Rattle.tails.specs.Decimals.{noPart, partOf, sizeAt, confidenceOf, deviationOf};
+use numbers::Decimal;
 use numbers::Made;
 use numbers::read_decimal;
 use numbers::read_number;
 use terms::Fault;
 use terms::begins_with;
+use terms::broken;
 use terms::less;
 use terms::past;
 use terms::rest;
@@ -27,8 +29,7 @@ pub struct ChargeRead {
 pub struct DecimalPart {
     pub kind: u8,
     pub minus: bool,
-    pub value: u64,
-    pub places: u8,
+    pub size: Decimal,
     pub len: usize,
     pub fault: Fault,
 }
@@ -53,27 +54,29 @@ pub fn read_charge(s: &[u8], end: usize, f: Fault) -> ChargeRead
     }
 }
 
+// No part, with the first limit that was broken before it.
+fn no_part(f: Fault) -> DecimalPart
+    ensures { λ r. ⌜ r ≡ noPart f ⌝ }
+{
+    DecimalPart {
+        kind: 0,
+        minus: false,
+        size: Decimal::zero(),
+        len: 0,
+        fault: f,
+    }
+}
+
 // A decimal at a place, as a part.
 fn made_part(made: Made, kind: u8, minus: bool, len: usize, place: usize, f: Fault) -> DecimalPart
     ensures { λ r. ⌜ r ≡ partOf made kind minus len place f ⌝ }
 {
-    match made {
-        Made::Fits(d) => DecimalPart {
-            kind,
-            minus,
-            value: d.value,
-            places: d.places,
-            len,
-            fault: f,
-        },
-        Made::Past => DecimalPart {
-            kind,
-            minus,
-            value: 0,
-            places: 0,
-            len,
-            fault: past(f, 0, 1, place),
-        },
+    DecimalPart {
+        kind,
+        minus,
+        size: made.decimal(),
+        len,
+        fault: broken(f, made.number(), place),
     }
 }
 
@@ -82,14 +85,7 @@ pub fn read_confidence(s: &[u8], end: usize, f: Fault) -> DecimalPart
     ensures { λ r. ⌜ r ≡ confidenceOf end (now (s .entry)) f ⌝ }
 {
     if !begins_with(s, b'*') {
-        return DecimalPart {
-            kind: 0,
-            minus: false,
-            value: 0,
-            places: 0,
-            len: 0,
-            fault: f,
-        };
+        return no_part(f);
     }
     let d = read_decimal(rest(s, 1));
     let made = d.made;
@@ -127,14 +123,7 @@ pub fn read_deviation(s: &[u8], end: usize, f: Fault) -> DecimalPart
     ensures { λ r. ⌜ r ≡ deviationOf end (now (s .entry)) f ⌝ }
 {
     if !begins_with(s, b'/') {
-        return DecimalPart {
-            kind: 0,
-            minus: false,
-            value: 0,
-            places: 0,
-            len: 0,
-            fault: f,
-        };
+        return no_part(f);
     }
     let minus = begins_with(rest(s, 1), b'-');
     let at = size_at(minus);

@@ -6,7 +6,7 @@ use lib.Dec.{ltb}
 use lib.ListN.{take, drop}
 use Rattle.lang.specs.Parts.{flat}
 use Rattle.rules.specs.Numbers.{digits}
-use Rattle.reading.specs.declared.Answer.{Answer}
+use Rattle.deliver.specs.declared.Answer.{Answer}
 
 -- 0 to 9, then a to f
 unfoldable pub hexDigit : ℕ → ℕ

@@ -6,7 +6,7 @@ ghost use lib.ListN.{take, drop};
 ghost use Rattle.lang.specs.Re.{rng};
 ghost use Rattle.rules.specs.Limits.{numberMark, manyMark};
 ghost use Rattle.rules.specs.Texts.{firstIn, startsWith};
-ghost use Rattle.terms.specs.Faults.{join, after};
+ghost use Rattle.terms.specs.Faults.{numbered, join, after};
 ghost use Rattle.terms.specs.Units.{beginsUnit, orOne, plainSpan, labelledSpan, spanOf, unitOf, unitFault};
 ghost use Rattle.terms.specs.Formulas.{formulaOf};
 use elements::read_element;
@@ -146,6 +146,19 @@ pub fn many(f: Fault, bound: usize, i: usize, place: usize) -> Fault
     }
     if bound <= i {
         return Fault { number: 5, place };
+    }
+    f
+}
+
+// A limit at a place, by the number of its refusal: 0 where it is kept.
+pub fn broken(f: Fault, number: usize, place: usize) -> Fault
+    ensures { λ r. ⌜ r ≡ join f (numbered number place) ⌝ }
+{
+    if f.number != 0 {
+        return f;
+    }
+    if number != 0 {
+        return Fault { number, place };
     }
     f
 }

@@ -97,8 +97,8 @@ fn say_decimal(text: &[u8], out: &mut [u8]) -> usize
     let made = d.made;
     match made {
         Made::Fits(x) => {
-            let q = put_field(out, p, x.value);
-            let r = put_field(out, q, x.places as u64);
+            let q = put_field(out, p, x.value());
+            let r = put_field(out, q, x.places() as u64);
             put_decimal(out, r, x)
         }
         Made::Past => put_run(out, p, b"past"),

@@ -66,12 +66,3 @@ module _ (b : ℕ) where
 
   pub letter-low : b < 65 → false ≡ inC letter b
   letter-low h = rw (below 65 90 b h, below 97 122 b (omega arith))
-
-  pub letter-capital : 65 ≤ b → b ≤ 90 → true ≡ inC letter b
-  letter-capital h g = rw (inside 65 90 b h g)
-
-  pub letter-between : 90 < b → b < 97 → false ≡ inC letter b
-  letter-between h g = rw (above 65 90 b h, below 97 122 b g)
-
-  pub letter-rest : 97 ≤ b → leb b 122 ≡ inC letter b
-  letter-rest h = rw (above 65 90 b (omega arith), from 97 122 b h) (sym (or-false (leb b 122)))

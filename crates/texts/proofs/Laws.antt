@@ -1,7 +1,7 @@
 -- What leading bytes of a class are, and where a text or a name ends. Assumes nothing.
 use Prim.Native.Nat.{ℕ, suc, _≤_}
 use mathlib.Core.Path.{_≡_, refl, ap}
-use mathlib.Core.Bool.{Bool, true, false, not, cond}
+use mathlib.Core.Bool.{Bool, true, false, cond}
 use mathlib.Core.List.{List, [], _∷_, _++_}
 use native.Mathlib.Omega.{arith}
 use lib.Dec.{T}
@@ -11,8 +11,8 @@ use Rattle.lang.specs.Parts.{all}
 use Rattle.lang.proofs.Deriv.{and-0, and-1}
 use Rattle.lang.proofs.Tests.{t-is, case}
 use Rattle.rules.specs.Bytes.{letter, textByte, nameByte}
-use Rattle.rules.specs.Texts.{someOf, firstIn, isName, isLossName, isModification, Text}
-use Rattle.texts.specs.Leading.{leadingIn, beginsIon}
+use Rattle.rules.specs.Texts.{someOf, firstIn, isName, isLossName, Text}
+use Rattle.texts.specs.Leading.{leadingIn}
 
 module _ (c : List Rng) where
   pub leading-within : (l : List ℕ) → leadingIn c l ≤ length l
@@ -47,10 +47,6 @@ module _ (c : List Rng) where
   some-all [] t = tt
   some-all (b ∷ w) t = t
 
-  pub some-long : (w : List ℕ) → T (someOf c w) → 1 ≤ length w
-  some-long [] t = absurd t
-  some-long (b ∷ w) t = omega arith
-
 -- A text ends at the closing brace, a name at the closing bracket.
 
 pub text-ends : (t : Text) (k : List ℕ) → leadingIn textByte (t .bytes ++ (125 ∷ k)) ≡ length (t .bytes)
@@ -59,10 +55,7 @@ text-ends t k = leading-append textByte (t .bytes) (125 ∷ k) (some-all textByt
 pub name-ends : (w k : List ℕ) → T (isName w) → leadingIn nameByte (w ++ (93 ∷ k)) ≡ length w
 name-ends w k h = leading-append nameByte w (93 ∷ k) (some-all nameByte w h) refl
 
--- Loss names and modifications are names.
+-- Loss names are names.
 
 pub loss-is-name : (w : List ℕ) → T (isLossName w) → T (isName w)
 loss-is-name w h = and-0 (isName w) (firstIn letter w) h
-
-pub modification-is-name : (w : List ℕ) → T (isModification w) → T (isName w)
-modification-is-name w h = and-0 (isName w) (not (beginsIon w)) h

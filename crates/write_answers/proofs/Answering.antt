@@ -14,8 +14,8 @@ use Rattle.puts.proofs.Laws.{put-as}
 use Rattle.numbers.specs.declared.Number.{Number}
 use Rattle.numbers.specs.Leading.{numberOf}
 use Rattle.hexes.specs.Hexes.{spelled, unhexed}
-use Rattle.reading.specs.declared.Answer.{Answer}
-use Rattle.reading.specs.Readings.{answered, refusedOf}
+use Rattle.deliver.specs.declared.Answer.{Answer}
+use Rattle.deliver.specs.Delivered.{answered, refusedOf}
 use Rattle.writing.specs.Writings.{writtenOf}
 use Rattle.streams.specs.declared.Stream.{Stream}
 use Rattle.streams.specs.Streams.{waitingOf}

@@ -4,7 +4,7 @@ use mathlib.Core.List.{List}
 use Prim.Native.Nat.{ℕ}
 use Rattle.rules.specs.Answers as rules
 use Rattle.puts.proofs.One.{put-one}
-use Rattle.reading.specs.declared.Answer.{Answer}
+use Rattle.deliver.specs.declared.Answer.{Answer}
 use Rattle.reading.proofs.One.{answered-in-one}
 use Rattle.streams.specs.declared.Stream.{Stream}
 use Rattle.streams.specs.Streams.{waitingOf}

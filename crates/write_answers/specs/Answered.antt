@@ -10,8 +10,8 @@ use Rattle.rules.specs.Answers.{refuses}
 use Rattle.puts.specs.Puts.{Put}
 use Rattle.numbers.specs.Leading.{numberOf}
 use Rattle.hexes.specs.Hexes.{spelled, unhexed}
-use Rattle.reading.specs.declared.Answer.{Answer}
-use Rattle.reading.specs.Readings.{answered}
+use Rattle.deliver.specs.declared.Answer.{Answer}
+use Rattle.deliver.specs.Delivered.{answered}
 use Rattle.writing.specs.Writings.{writtenOf}
 use Rattle.streams.specs.declared.Stream.{Stream}
 use Rattle.streams.specs.Streams.{waitingOf, roomOf}

@@ -5,7 +5,7 @@
 ghost use mathlib.Core.Path.{_≡_};
 ghost use mathlib.Core.Bool.{true};
 ghost use lib.ListN.{length, take, drop};
-ghost use Rattle.reading.specs.Readings.{answered};
+ghost use Rattle.deliver.specs.Delivered.{answered};
 ghost use Rattle.write_answers.specs.Answered.{hexOf, roomIn, answerTo, Written, Answered};
 use feeds::behind;
 use feeds::stretch;

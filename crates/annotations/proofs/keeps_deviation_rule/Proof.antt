@@ -1,5 +1,6 @@
 use Rattle.annotations.specs.House.{deviationRuleOf}
 use borrow.Author.Tests.{not-true, not-false}
+use borrow.Author.Needs.{needs}
 use Rattle.annotations.proofs.keeps_deviation_rule.Statement.{statement}
 use Rattle.annotations.proofs.keeps_deviation_rule.Tie as tie
 
@@ -7,9 +8,12 @@ returns : tie.Need-returns
 unfolding deviationRuleOf
 returns c = rw (not-true (c .before .before .args .d .minus) (c .if1 .taken))
 
+value-requires : tie.Need-value-requires
+value-requires c κs = search needs
+
 returns-2 : tie.Need-returns-2
 unfolding deviationRuleOf
-returns-2 c = rw (not-false (c .before .before .before .args .d .minus) (c .before .if1 .left))
+returns-2 c = rw (not-false (c .before .before .before .before .args .d .minus) (c .before .before .if1 .left), c .value .ensures)
 
 pub keeps-deviation-rule-spec : {M : Type 1} → statement M
-keeps-deviation-rule-spec = tie.close (tie.spec returns returns-2)
+keeps-deviation-rule-spec = tie.close (tie.spec returns value-requires returns-2)

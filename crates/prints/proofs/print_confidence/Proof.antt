@@ -21,20 +21,20 @@ rest-requires c κs = search needs
 quad-at-requires : tie.Need-quad-at-requires
 quad-at-requires c κs = search needs
 
-cast-t13 : tie.Need-cast-t13
-cast-t13 c = search needs
+cast-put-pointed : tie.Need-cast-put-pointed
+cast-put-pointed c = search needs
 
 byte-of-requires-2 : tie.Need-byte-of-requires-2
 byte-of-requires-2 c κs = search needs
 
-put-decimal-requires : tie.Need-put-decimal-requires
-put-decimal-requires c κs = search needs
+put-pointed-requires : tie.Need-put-pointed-requires
+put-pointed-requires c κs = search needs
 
 same-length : tie.Need-same-length
 same-length c = search needs
 
 returns-2 : tie.Need-returns-2
-returns-2 c = put-as (put-then (c .before .before .before .before .before .before .before .before .before .put8 .ensures) (c .before .before .put-decimal .ensures)) (confidence-some (c .before .before .before .before .before .before .before .before .before .before .before .before .before .before .before .args .s .now) (c .before .before .before .before .before .before .before .before .before .before .before .before .byte-of .ensures) (c .before .before .before .before .before .before .before .before .before .before .before .if1 .left) (c .before .before .before .before .before .rest .ensures) (c .before .before .before .before .quad-at .ensures) (c .before .before .before .byte-of2 .ensures))
+returns-2 c = put-as (put-then (c .before .before .before .before .before .before .before .before .before .put8 .ensures) (c .before .before .put-pointed .ensures)) (confidence-some (c .before .before .before .before .before .before .before .before .before .before .before .before .before .before .before .args .s .now) (c .before .before .before .before .before .before .before .before .before .before .before .before .byte-of .ensures) (c .before .before .before .before .before .before .before .before .before .before .before .if1 .left) (c .before .before .before .before .before .rest .ensures) (c .before .before .before .before .quad-at .ensures) (c .before .before .before .byte-of2 .ensures))
 
 pub print-confidence-spec : {M : Type 1} → statement M
 print-confidence-spec =
@@ -45,8 +45,8 @@ print-confidence-spec =
     put8-requires
     rest-requires
     quad-at-requires
-    cast-t13
+    cast-put-pointed
     byte-of-requires-2
-    put-decimal-requires
+    put-pointed-requires
     same-length
     returns-2)

@@ -8,36 +8,36 @@ use Rattle.prints.proofs.print_signed.Tie as tie
 size-of-signed-requires : tie.Need-size-of-signed-requires
 size-of-signed-requires c κs = search needs
 
-put-decimal-requires : tie.Need-put-decimal-requires
-put-decimal-requires c κs = search needs
+put-pointed-requires : tie.Need-put-pointed-requires
+put-pointed-requires c κs = search needs
 
 same-length : tie.Need-same-length
 same-length c = search needs
 
 returns : tie.Need-returns
-returns c = put-as (c .before .before .put-decimal .ensures) (signed-plus _ _ (c .before .before .before .before .before .size-of-signed .ensures) (c .before .before .before .before .if1 .taken))
+returns c = put-as (c .before .before .put-pointed .ensures) (signed-plus _ _ (c .before .before .before .before .before .size-of-signed .ensures) (c .before .before .before .before .if1 .taken))
 
 put8-requires : tie.Need-put8-requires
 put8-requires c κs = search needs
 
-put-decimal-requires-2 : tie.Need-put-decimal-requires-2
-put-decimal-requires-2 c κs = search needs
+put-pointed-requires-2 : tie.Need-put-pointed-requires-2
+put-pointed-requires-2 c κs = search needs
 
 same-length-2 : tie.Need-same-length-2
 same-length-2 c = search needs
 
 returns-2 : tie.Need-returns-2
-returns-2 c = put-as (put-then (c .before .before .before .before .before .before .put8 .ensures) (c .before .before .put-decimal2 .ensures)) (signed-minus _ _ (c .before .before .before .before .before .before .before .before .before .size-of-signed .ensures) (c .before .before .before .before .before .before .before .before .if1 .left))
+returns-2 c = put-as (put-then (c .before .before .before .before .before .before .put8 .ensures) (c .before .before .put-pointed2 .ensures)) (signed-minus _ _ (c .before .before .before .before .before .before .before .before .before .size-of-signed .ensures) (c .before .before .before .before .before .before .before .before .if1 .left))
 
 pub print-signed-spec : {M : Type 1} → statement M
 print-signed-spec =
     tie.close
     (tie.spec
     size-of-signed-requires
-    put-decimal-requires
+    put-pointed-requires
     same-length
     returns
     put8-requires
-    put-decimal-requires-2
+    put-pointed-requires-2
     same-length-2
     returns-2)

@@ -1,8 +1,8 @@
 -- `store::put_tail` meets its contract: one field after the other. Assumes nothing.
-use Rattle.store.specs.Records.{tailBytes}
-use Rattle.puts.proofs.Laws.{put-then, put-as, put-length}
+use mathlib.Core.Path.{ap, _∙_}
 use Rattle.rules.specs.Stored.{little}
-use mathlib.Core.Path.{ap}
+use Rattle.puts.proofs.Laws.{put-then, put-as}
+use Rattle.store.specs.Records.{signedOf, tailBytes}
 use borrow.Author.Needs.{needs}
 use Rattle.store.proofs.put_tail.Statement.{statement}
 use Rattle.store.proofs.put_tail.Tie as tie
@@ -13,48 +13,44 @@ cast-put-le c = search needs
 put-le-requires : tie.Need-put-le-requires
 put-le-requires c κs = search needs
 
-cast-put-le-2 : tie.Need-cast-put-le-2
-cast-put-le-2 c = search needs
+put-kind-requires : tie.Need-put-kind-requires
+put-kind-requires c κs = search needs
 
-put-le-requires-2 : tie.Need-put-le-requires-2
-put-le-requires-2 c κs = search needs
-
-cast-put-le-3 : tie.Need-cast-put-le-3
-cast-put-le-3 c = search needs
-
-put-le-requires-3 : tie.Need-put-le-requires-3
-put-le-requires-3 c κs = search needs
-
-cast-put-le-4 : tie.Need-cast-put-le-4
-cast-put-le-4 c = search needs
-
-put-le-requires-4 : tie.Need-put-le-requires-4
-put-le-requires-4 c κs = search needs
-
-cast-put-le-5 : tie.Need-cast-put-le-5
-cast-put-le-5 c = search needs
-
-put-le-requires-5 : tie.Need-put-le-requires-5
-put-le-requires-5 c κs = search needs
+put-kind-requires-2 : tie.Need-put-kind-requires-2
+put-kind-requires-2 c κs = search needs
 
 put8-requires : tie.Need-put8-requires
 put8-requires c κs = search needs
 
+value-requires : tie.Need-value-requires
+value-requires c κs = search needs
+
 signed-requires : tie.Need-signed-requires
 signed-requires c κs = search needs
 
-put-le-requires-6 : tie.Need-put-le-requires-6
-put-le-requires-6 c κs = search needs
+put-le-requires-2 : tie.Need-put-le-requires-2
+put-le-requires-2 c κs = search needs
 
-put-le-requires-7 : tie.Need-put-le-requires-7
-put-le-requires-7 c κs = search needs
+value-requires-2 : tie.Need-value-requires-2
+value-requires-2 c κs = search needs
+
+put-le-requires-3 : tie.Need-put-le-requires-3
+put-le-requires-3 c κs = search needs
 
 same-length : tie.Need-same-length
-same-length c = put-length (put-then (c .before .before .before .before .before .before .before .before .before .before .before .before .before .before .before .before .before .before .before .before .before .before .before .before .before .before .before .before .before .before .before .before .before .before .before .put-le .ensures) (put-then (c .before .before .before .before .before .before .before .before .before .before .before .before .before .before .before .before .before .before .before .before .before .before .before .before .before .before .before .before .before .before .put-le2 .ensures) (put-then (c .before .before .before .before .before .before .before .before .before .before .before .before .before .before .before .before .before .before .before .before .before .before .before .before .before .put-le3 .ensures) (put-then (c .before .before .before .before .before .before .before .before .before .before .before .before .before .before .before .before .before .before .before .before .put-le4 .ensures) (put-then (c .before .before .before .before .before .before .before .before .before .before .before .before .before .before .before .put-le5 .ensures) (put-then (c .before .before .before .before .before .before .before .before .before .before .before .put8 .ensures) (put-then (c .before .before .before .before .before .before .put-le6 .ensures) (c .before .before .put-le7 .ensures))))))))
+same-length c = search needs
 
 returns : tie.Need-returns
 unfolding tailBytes
-returns c = put-then (c .before .before .before .before .before .before .before .before .before .before .before .before .before .before .before .before .before .before .before .before .before .before .before .before .before .before .before .before .before .before .before .before .before .before .before .put-le .ensures) (put-then (c .before .before .before .before .before .before .before .before .before .before .before .before .before .before .before .before .before .before .before .before .before .before .before .before .before .before .before .before .before .before .put-le2 .ensures) (put-then (c .before .before .before .before .before .before .before .before .before .before .before .before .before .before .before .before .before .before .before .before .before .before .before .before .before .put-le3 .ensures) (put-then (c .before .before .before .before .before .before .before .before .before .before .before .before .before .before .before .before .before .before .before .before .put-le4 .ensures) (put-then (c .before .before .before .before .before .before .before .before .before .before .before .before .before .before .before .put-le5 .ensures) (put-then (c .before .before .before .before .before .before .before .before .before .before .before .put8 .ensures) (put-then (put-as (c .before .before .before .before .before .before .put-le6 .ensures) (ap (little 8) (c .before .before .before .before .before .before .before .signed .ensures))) (c .before .before .put-le7 .ensures)))))))
+returns c =
+    let at-put-le2 = c .before .before .before .before .before .before .before in
+    let at-signed = at-put-le2 .before in
+    let at-value = at-signed .before in
+    let at-put8 = at-value .before .before .before .before in
+    let at-put-kind2 = at-put8 .before .before .before .before in
+    let at-put-kind = at-put-kind2 .before .before .before .before in
+    let at-put-le = at-put-kind .before .before .before .before in
+    put-then (at-put-le .put-le .ensures) (put-then (at-put-kind .put-kind .ensures) (put-then (at-put-kind2 .put-kind2 .ensures) (put-then (at-put8 .put8 .ensures) (put-then (put-as (at-put-le2 .put-le2 .ensures) (ap (little 8) (at-signed .signed .ensures ∙ ap (signedOf _) (at-value .value .ensures)))) (put-as (c .before .before .put-le3 .ensures) (ap (little 4) (c .before .before .before .value2 .ensures)))))))
 
 pub put-tail-spec : {M : Type 1} → statement M
 put-tail-spec =
@@ -62,17 +58,13 @@ put-tail-spec =
     (tie.spec
     cast-put-le
     put-le-requires
-    cast-put-le-2
-    put-le-requires-2
-    cast-put-le-3
-    put-le-requires-3
-    cast-put-le-4
-    put-le-requires-4
-    cast-put-le-5
-    put-le-requires-5
+    put-kind-requires
+    put-kind-requires-2
     put8-requires
+    value-requires
     signed-requires
-    put-le-requires-6
-    put-le-requires-7
+    put-le-requires-2
+    value-requires-2
+    put-le-requires-3
     same-length
     returns)

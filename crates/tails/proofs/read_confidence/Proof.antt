@@ -10,9 +10,12 @@ use Rattle.tails.proofs.read_confidence.Tie as tie
 begins-with-requires : tie.Need-begins-with-requires
 begins-with-requires c κs = search needs
 
+no-part-requires : tie.Need-no-part-requires
+no-part-requires c κs = search needs
+
 returns : tie.Need-returns
 unfolding confidenceOf
-returns c = rw (sym (c .before .begins-with .ensures) ∙ not-true _ (c .if1 .taken))
+returns c = rw (sym (c .before .before .begins-with .ensures) ∙ not-true _ (c .before .if1 .taken)) (c .no-part .ensures)
 
 rest-requires : tie.Need-rest-requires
 rest-requires c κs = search needs
@@ -41,6 +44,7 @@ read-confidence-spec =
     tie.close
     (tie.spec
     begins-with-requires
+    no-part-requires
     returns
     rest-requires
     read-decimal-requires

@@ -1,6 +1,8 @@
 -- `terms_run::say_decimal` meets its contract. Assumes nothing.
-use Rattle.puts.proofs.Laws.{put-then, put-as}
+use mathlib.Core.Path.{ap}
 use Rattle.terms_run.proofs.Saying.{decimal-fits, decimal-past}
+use Rattle.terms_run.specs.Said.{fieldText}
+use Rattle.puts.proofs.Laws.{put-then, put-as}
 use borrow.Author.Needs.{needs}
 use Rattle.terms_run.proofs.say_decimal.Statement.{statement}
 use Rattle.terms_run.proofs.say_decimal.Tie as tie
@@ -14,8 +16,14 @@ put-field-requires c κs = search needs
 enum-known-made : tie.Need-enum-known-made
 enum-known-made c = search needs
 
+value-requires : tie.Need-value-requires
+value-requires c κs = search needs
+
 put-field-requires-2 : tie.Need-put-field-requires-2
 put-field-requires-2 c κs = search needs
+
+places-requires : tie.Need-places-requires
+places-requires c κs = search needs
 
 cast-put-field : tie.Need-cast-put-field
 cast-put-field c = search needs
@@ -40,28 +48,26 @@ same-length c = search needs
 
 returns : tie.Need-returns
 returns c =
-    let p = c .before .before in
-    let q = p .before .before .before .before in
-    let s = q .before .before .before .before .before in
-    let t = s .before .before .before in
-    let u = t .before .before .before .before in
-    let v = u .before .before in
-    let w = v .before .before .before in
-    put-as (put-then (u .put-field .ensures) (put-then (s .put-field2 .ensures) (put-then (q .put-field3 .ensures) (p .put-decimal .ensures))))
-    (decimal-fits _ (w .args .text .now) (v .read-decimal .ensures) (t .made .given .1))
+    let at-put-field3 = c .before .before .before .before .before .before in
+    let at-places = at-put-field3 .before in
+    let at-put-field2 = at-places .before .before .before .before in
+    let at-value = at-put-field2 .before in
+    let at-made = at-value .before .before .before in
+    let at-put-field = at-made .before .before .before .before in
+    let at-read-decimal = at-put-field .before .before in
+    let at-args = at-read-decimal .before .before .before in
+    put-as (put-then (at-put-field .put-field .ensures) (put-then (put-as (at-put-field2 .put-field2 .ensures) (ap fieldText (at-value .value .ensures))) (put-then (put-as (at-put-field3 .put-field3 .ensures) (ap fieldText (at-places .places .ensures))) (c .before .before .put-decimal .ensures)))) (decimal-fits _ (at-args .args .text .now) (at-read-decimal .read-decimal .ensures) (at-made .made .given .1))
 
 same-length-2 : tie.Need-same-length-2
 same-length-2 c = search needs
 
 returns-2 : tie.Need-returns-2
 returns-2 c =
-    let p = c .before .before in
-    let q = p .before .before .before in
-    let s = q .before .before .before .before in
-    let t = s .before .before in
-    let u = t .before .before .before in
-    put-as (put-then (s .put-field .ensures) (p .put-run .ensures))
-    (decimal-past _ (u .args .text .now) (t .read-decimal .ensures) (q .enum-told .given .1))
+    let at-enum-told = c .before .before .before .before .before in
+    let at-put-field = at-enum-told .before .before .before .before in
+    let at-read-decimal = at-put-field .before .before in
+    let at-args = at-read-decimal .before .before .before in
+    put-as (put-then (at-put-field .put-field .ensures) (c .before .before .put-run .ensures)) (decimal-past _ (at-args .args .text .now) (at-read-decimal .read-decimal .ensures) (at-enum-told .enum-told .given .1))
 
 pub say-decimal-spec : {M : Type 1} → statement M
 say-decimal-spec =
@@ -70,7 +76,9 @@ say-decimal-spec =
     read-decimal-requires
     put-field-requires
     enum-known-made
+    value-requires
     put-field-requires-2
+    places-requires
     cast-put-field
     put-field-requires-3
     put-decimal-requires

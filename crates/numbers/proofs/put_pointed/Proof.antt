@@ -3,8 +3,8 @@ use Rattle.puts.proofs.Laws.{put-as}
 use Rattle.rules.specs.Numbers.{digits}
 use mathlib.Core.Path.{ap}
 use borrow.Author.Needs.{needs}
-use Rattle.numbers.proofs.put_decimal.Statement.{statement}
-use Rattle.numbers.proofs.put_decimal.Tie as tie
+use Rattle.numbers.proofs.put_pointed.Statement.{statement}
+use Rattle.numbers.proofs.put_pointed.Tie as tie
 
 whole-of-requires : tie.Need-whole-of-requires
 whole-of-requires c κs = search needs
@@ -36,8 +36,8 @@ returns-2 c =
     put-pointed _ _ (put-as (p .put-number .ensures) (ap digits (p .before .whole-of .ensures))) (q .before .before .if1 .left) (q .put8 .ensures)
     (c .before .before .put-last .ensures)
 
-pub put-decimal-spec : {M : Type 1} → statement M
-put-decimal-spec =
+pub put-pointed-spec : {M : Type 1} → statement M
+put-pointed-spec =
     tie.close
     (tie.spec
     whole-of-requires
