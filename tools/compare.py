@@ -3,8 +3,8 @@
 
     python3 tools/compare.py OURS OTHER [--lines N] [--seed S] [--good FILE] [--show K]
 
-OURS and OTHER are programs that read lines from standard input and print one answer a line: `target/bin/reads` and another reader,
-or `target/bin/relabel` and another relabel program.
+OURS and OTHER are programs that read lines from standard input and print one answer a line: "tools/run reads" and another reader,
+or "tools/run relabel" and another relabel program. Each is a path, or words between quotes.
 N (100,000 unless said) lines are made from good ones by damage: bytes and whole parts deleted, inserted, swapped, repeated; numbers
 moved to their bounds; parts repeated past their limits; long lines. FILE holds the good lines, one a line; without it the inputs of
 the program `reads` and lines made here serve. The same S makes the same lines. Prints each difference (K of them, 20 unless said)
@@ -15,6 +15,7 @@ import collections
 import os
 import random
 import re
+import shlex
 import subprocess
 import sys
 
@@ -164,7 +165,7 @@ class Maker:
 
 
 def answers(program, given):
-    return subprocess.run([program], input=given, stdout=subprocess.PIPE, check=True).stdout.split(b"\n")[:-1]
+    return subprocess.run(shlex.split(program), input=given, stdout=subprocess.PIPE, check=True).stdout.split(b"\n")[:-1]
 
 
 def answered(answer):

@@ -3,17 +3,18 @@
 
     python3 tools/compare_tables.py OURS OTHER.. [--tables N] [--seed S] [--show K] [--room R]
 
-OURS is `target/bin/writes`; OTHER is another writer, with its words behind it: both read stored tables in hexadecimal digits from
+OURS is "tools/run writes", a path or words between quotes; OTHER is another writer, with its words behind it: both read stored tables in hexadecimal digits from
 standard input, one a line, and print one answer a line. N (20,000 unless said) tables are made: from fields, with each field at or
 past its bound now and then, or from the stored output of the program `reads`; then bytes, words and whole records are changed,
 swapped, repeated and cut, with the header set right again or not; some have long texts, for lines around their bound. The same S makes
-the same tables. With R, OURS is `target/bin/write_rooms`, given an output of R bytes for each, and OTHER's words have to say the same. Prints each difference (K of
+the same tables. With R, OURS is "tools/run write_rooms", given an output of R bytes for each, and OTHER's words have to say the same. Prints each difference (K of
 them, 20 unless said) and how often each number was answered; the exit status is 1 where the answers differ.
 """
 import argparse
 import collections
 import os
 import random
+import shlex
 import subprocess
 import sys
 
@@ -210,7 +211,7 @@ def main():
     for start in range(0, given.tables, 5000):
         tables = [maker.table().hex().encode() for _ in range(min(5000, given.tables - start))]
         front = b"" if given.room is None else b"%d " % given.room
-        ours, other = answers([given.ours], b"".join(front + line + b"\n" for line in tables)), answers(given.other, b"".join(line + b"\n" for line in tables))
+        ours, other = answers(shlex.split(given.ours), b"".join(front + line + b"\n" for line in tables)), answers(given.other, b"".join(line + b"\n" for line in tables))
         if not len(ours) == len(other) == len(tables):
             print("%d tables, %d answers of ours, %d of the other" % (len(tables), len(ours), len(other)))
             differences += 1
