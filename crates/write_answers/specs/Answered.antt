@@ -14,7 +14,7 @@ use Rattle.reading.specs.declared.Answer.{Answer}
 use Rattle.reading.specs.Readings.{answered}
 use Rattle.writing.specs.Writings.{writtenOf}
 use Rattle.streams.specs.declared.Stream.{Stream}
-use Rattle.streams.specs.Streams.{waitingOf, roomOf}
+use Rattle.streams.specs.Streams.{waitingOf, roomOf, Roomed}
 use Rattle.tells.specs.Tells.{told}
 
 -- the bytes that digits spell, as many as there is room for, are written into room bytes; what is no digits is no table
@@ -42,11 +42,18 @@ pub record Written (room : ℕ) (a : rules.Answer) (d e : List ℕ) (r : Answer)
 abbrev pub toldOf : rules.Answer → List ℕ
 toldOf a = told (record { number = a .number; place = a .place; len = a .size }) (a .out)
 
--- where it goes, in an output of which some bytes wait: three numbers of at most 20 digits, each with a blank; the line; a line feed
-abbrev pub placeIn : List ℕ → Stream → ℕ
-placeIn d s = roomOf (length d) (s .waiting) (64 + 2 * maxLine)
+-- three numbers of at most 20 digits, each with a blank; the line; a line feed
+abbrev pub longest : ℕ
+longest = 64 + 2 * maxLine
 
--- output d is e, and s is r: what is printed of an answer waits behind what waited, or alone where that was written
+-- where it goes, in an output of which some bytes wait
+abbrev pub placeIn : List ℕ → Stream → ℕ
+placeIn d s = roomOf (length d) (s .waiting) longest
+
+-- output d is e, and s is r: what is printed of an answer waits behind what waited, or alone where that was written; where it could not
+-- be written the stream is stopped
 pub record Answered (a : rules.Answer) (s : Stream) (d e : List ℕ) (r : Stream) : Type 0 where
   pub put : Put d (placeIn d s) (toldOf a) e (r .waiting)
-  pub same : r ≡ waitingOf s (r .waiting)
+  pub room : Stream
+  pub roomed : Roomed (length d) longest s room
+  pub same : r ≡ waitingOf room (r .waiting)
