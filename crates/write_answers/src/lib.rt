@@ -40,7 +40,15 @@ pub fn answer_tables(name: &[u8], sized: bool) {
     let mut out = io::large_buffer();
     let mut table = [0u8; TABLE];
     let mut line = [0u8; MAX_LINE];
-    all(name, &machine, &mut buf, &mut out, &mut table, &mut line, sized);
+    all(
+        name,
+        &machine,
+        &mut buf,
+        &mut out,
+        &mut table,
+        &mut line,
+        sized,
+    );
 }
 
 // Table after table, until none comes. A proved loop has to end, so it counts down from a number that no run uses up.
