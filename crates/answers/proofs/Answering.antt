@@ -8,20 +8,16 @@ use Rattle.puts.specs.Puts.{Put}
 use Rattle.reading.specs.declared.Answer.{Answer}
 use Rattle.streams.specs.declared.Stream.{Stream}
 use Rattle.streams.specs.Streams.{waitingOf, Roomed}
-use Rattle.streams.proofs.Rooms.{room-at}
+use Rattle.programs.proofs.Waiting.{waits-by}
 use Rattle.tells.specs.Tells.{told}
 use Rattle.answers.specs.Reads.{ReadInto}
 use Rattle.answers.specs.Answered.{longest, Answered}
 
 pub answered-by : {m line asked t u d e : List ℕ} {sized : Bool} {s v r : Stream} {a : Answer} {end : ℕ} → Roomed (length d) longest s v → line ≡ asked
     → ReadInto m line sized t u a → Put d (v .waiting) (told a u) e end → r ≡ waitingOf v end → Answered m asked sized s t u d e r
-answered-by {m} {t = t} {u} {d} {e} {sized} {v = v} {a = a} {end = end} roomed found reads puts waits =
+answered-by {m} {t = t} {u} {sized = sized} {a = a} roomed found reads puts waits =
     record {
       answer = a;
       reads = subst (λ (l : List ℕ). ReadInto m l sized t u a) found reads;
-      end = end;
-      put = subst (λ (i : ℕ). Put d i (told a u) e end) (room-at roomed) puts;
-      room = v;
-      roomed = roomed;
-      waits = waits;
+      waits = waits-by roomed puts waits;
     }

@@ -19,7 +19,7 @@ use Rattle.reading.specs.Readings.{answered, refusedOf}
 use Rattle.writing.specs.Writings.{writtenOf}
 use Rattle.streams.specs.declared.Stream.{Stream}
 use Rattle.streams.specs.Streams.{waitingOf, Roomed}
-use Rattle.streams.proofs.Rooms.{room-at}
+use Rattle.programs.proofs.Waiting.{waits-by}
 use Rattle.tells.specs.Tells.{field, shown, told}
 use Rattle.write_answers.specs.Answered.{hexOf, digitsIn, roomIn, answerTo, Written, toldOf, longest, Answered}
 use Rattle.write_answers.proofs.Fits.{Fits, hex-fits}
@@ -102,13 +102,6 @@ told-by {room} {a} {d} {e} {r} w h =
 pub answered-by : (machine : List ℕ) (sized : Bool) (asked : List ℕ) (tableRoom all : ℕ) {w l m d e : List ℕ} {end : ℕ} {a : Answer} {s v r : Stream}
     → Roomed (length d) longest s v → w ≡ asked → Written (roomIn sized w all) (answerTo machine sized w tableRoom all) l m a → Put d (v .waiting) (told a m) e end
     → r ≡ waitingOf v end → Answered (answerTo machine sized asked tableRoom all) s d e r
-answered-by machine sized asked tableRoom all {w = w} {d = d} {e = e} {v = v} p i x q y =
-    let text = toldOf (answerTo machine sized asked tableRoom all) in
+answered-by machine sized asked tableRoom all {w = w} p i x q y =
     let t = told-by x (hex-fits machine (digitsIn sized w) tableRoom (roomIn sized w all)) ∙ ap (λ (l : List ℕ). toldOf (answerTo machine sized l tableRoom all)) i in
-    let k = sym (ap (λ (u : Stream). u .waiting) y) in
-    record {
-      put = subst₂ (λ (n o : ℕ). Put d n text e o) (room-at p) k (put-as q t);
-      room = v;
-      roomed = p;
-      same = y ∙ ap (waitingOf v) k;
-    }
+    waits-by p (put-as q t) y
