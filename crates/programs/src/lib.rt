@@ -1,5 +1,5 @@
 // How each program begins and ends: what it says of its arguments, and of what the system refused. What the system hands over and
-// takes cannot be stated: `was_asked`, `show`, `finish` and `fail` are proved safe and ending, and the others state their answers.
+// takes cannot be stated: `was_asked`, `show`, `explain`, `refuse`, `finish` and `fail` are proved safe and ending, and the others state their answers.
 ghost use mathlib.Core.List.{_++_};
 ghost use Rattle.puts.specs.Puts.{Put};
 ghost use Rattle.programs.specs.Words.{Tells, helpWord};
@@ -11,9 +11,9 @@ use streams::Failed;
 use streams::Stream;
 use streams::flush;
 
-// Whether the program was given arguments, which are answered then: `--help` alone by what the program does, all others by a line on
-// standard error.
-pub fn was_asked(name: &[u8], help: &[u8]) -> bool {
+// Whether the program was given arguments, which are answered then: `--help` alone by what the program does and, where its answers have
+// such numbers, what the numbers of refusal mean; all others by a line on standard error.
+pub fn was_asked(name: &[u8], help: &[u8], numbered: bool) -> bool {
     let words = os::arg_count();
     if words < 2 {
         return false;
@@ -21,7 +21,7 @@ pub fn was_asked(name: &[u8], help: &[u8]) -> bool {
     let mut word = [0u8; 8];
     let n = os::arg(1, &mut word);
     if words < 3 && is_help(&word[..n]) {
-        show(name, help);
+        show(name, help, numbered);
     } else {
         refuse(name);
     }
@@ -34,10 +34,36 @@ fn is_help(word: &[u8]) -> bool
     check::same(word, b"--help")
 }
 
-fn show(name: &[u8], help: &[u8]) {
-    if !io::write_all(STDOUT_FILENO, help) {
+fn show(name: &[u8], help: &[u8], numbered: bool) {
+    if !explain(help, numbered) {
         fail(name, b": standard output");
     }
+}
+
+// Whether the system took all of the text.
+fn explain(help: &[u8], numbered: bool) -> bool {
+    if !numbered {
+        return io::write_all(STDOUT_FILENO, help);
+    }
+    if !io::write_all(STDOUT_FILENO, help) {
+        return false;
+    }
+    io::write_all(
+        STDOUT_FILENO,
+        b"
+number  when                                                    place, in bytes from 0
+0       done                                                    0
+1       the line, read or to be written, has over 4,096 bytes   4096
+2       stray byte: the line does not begin any shape           how many bytes do begin one
+3       the line begins a shape and is none                     its length
+4       a number or a decimal past its bound                    its first digit
+5       too many annotations, items, units or text bytes        first byte of the first one too many
+6       a rule for one annotation is broken                     first byte of that annotation
+7       the confidences exceed 1                                first byte of the annotation that takes the sum past 1
+8       the output is too short                                 bytes needed
+9       the stored bytes are no table                           0
+",
+    )
 }
 
 fn refuse(name: &[u8]) {

@@ -35,6 +35,7 @@ Standard output has one answer a line:
   2 PLACE    a stray byte: the line does not begin any shape; so many bytes of it do
   3 LENGTH   the line begins a shape and is none
 ",
+        false,
     ) {
         return;
     }

@@ -51,6 +51,7 @@ Lines end at line feeds, and the last may lack its own.
 Standard output has one answer a line, `?` for a line that asks none of these. Bytes are how many bytes of
 the text were read; a limit's number is 4 for a number past its bound and 5 for too many units, 0 for none.
 ",
+        false,
     ) {
         return;
     }
