@@ -1,6 +1,7 @@
 // The programs `reads` and `rooms`: lines of standard input are read, and each is answered by number, place and length, and the table
-// in hexadecimal digits, `-` where there is none. Lines end at line feeds, and the last may lack its own. What is read and written
-// cannot be stated: `answer_lines` and `all` are proved safe and ending. `one_line` states what is answered to the line that was found.
+// in hexadecimal digits, `-` where there is none. Lines end at line feeds, and the last may lack its own. Which lines are
+// found is stated by `next_line`, and `one_line` states what is answered to the line that was found; what is written cannot be stated, so
+// `answer_lines` and `all` are proved safe and ending.
 ghost use mathlib.Core.Bool.{true};
 ghost use lib.ListN.{take, drop};
 ghost use Rattle.answers.specs.Answered.{Answered};
@@ -8,10 +9,10 @@ ghost use Rattle.answers.specs.Reads.{ReadInto};
 use feeds::behind;
 use feeds::stretch;
 use numbers::read_number;
-use reading::Answer;
+use programs::finish;
+use deliver::Answer;
 use reading::read_by;
 use streams::Stream;
-use streams::flush;
 use streams::next_line;
 use streams::room;
 use tells::put_answer;
@@ -22,23 +23,23 @@ pub const TABLE: usize = 21340;
 // The longest answer: three numbers of at most 20 digits, each with a blank; the table; a line feed.
 const ANSWER: usize = 64 + 2 * TABLE;
 
-// All lines. Where they are sized, each begins with the length of its output, a number of at most 21,340, and a blank; else the output
+// All lines, for the program of this name. Where they are sized, each begins with the length of its output, a number of at most 21,340, and a blank; else the output
 // is as long as any table needs.
-pub fn answer_lines(sized: bool) {
+pub fn answer_lines(name: &[u8], sized: bool) {
     let machine = shape::machine();
     let mut buf = io::large_buffer();
     let mut out = io::large_buffer();
     let mut table = [0u8; TABLE];
-    all(&machine, &mut buf, &mut out, &mut table, sized);
+    all(name, &machine, &mut buf, &mut out, &mut table, sized);
 }
 
 // Line after line, until none comes. A proved loop has to end, so it counts down from a number that no run uses up.
-fn all(machine: &[u8], buf: &mut [u8], out: &mut [u8], table: &mut [u8], sized: bool) {
+fn all(name: &[u8], machine: &[u8], buf: &mut [u8], out: &mut [u8], table: &mut [u8], sized: bool) {
     let mut s = next_line(buf, out, Stream::begin());
     let mut turns = u64::MAX;
     while turns > 0 {
         if !s.found {
-            flush(out, s.waiting);
+            finish(name, out, s);
             return;
         }
         let said = one_line(machine, buf, out, table, s, sized);
@@ -58,11 +59,11 @@ fn one_line(
 ) -> Stream
     ensures { λ r. ⌜ Answered (now (machine .entry)) (take (s .len) (drop (s .from) (now (buf .entry)))) sized s (now (table .entry)) (now (table .exit)) (now (out .entry)) (now (out .exit)) r ⌝ }
 {
-    let at = room(out, s.waiting, ANSWER);
+    let t = room(out, s, ANSWER);
     let line = stretch(buf, s.from, s.len);
     let a = read_one(machine, line, table, sized);
-    let end = put_answer(out, at, a, table);
-    s.answered(end)
+    let end = put_answer(out, t.waiting, a, table);
+    t.answered(end)
 }
 
 // A line behind its number, or, where lines are not sized, all of it into the whole table.

@@ -1,4 +1,19 @@
 // Each line of standard input, read into an output that is as long as any line needs.
+use programs::was_asked;
+
 fn main() {
-    answers::answer_lines(false);
+    if was_asked(
+        b"reads",
+        b"reads makes a table of each mzPAF line, with an output that is as long as any line needs.
+
+Standard input has one line of annotations a line. Lines end at line feeds, and the last may lack its own.
+
+Standard output has one answer a line: the number of refusal, the place, how many bytes the table has, and the
+table in hexadecimal digits, `-` where there is none.
+",
+        true,
+    ) {
+        return;
+    }
+    answers::answer_lines(b"reads", false);
 }

@@ -14,10 +14,11 @@ use Rattle.puts.proofs.Laws.{put-length, put-place}
 use Rattle.deliver.specs.declared.Answer.{Answer}
 use Rattle.deliver.specs.Delivered.{refusedOf}
 use Rattle.streams.specs.declared.Stream.{Stream}
-use Rattle.streams.specs.Streams.{waitingOf}
+use Rattle.streams.specs.Streams.{waitingOf, Roomed}
+use Rattle.streams.proofs.Rooms.{room-at}
 use Rattle.relabels.specs.Told.{Told, refusalText}
 use Rattle.relabels.specs.Spelled.{Answers, Spelled}
-use Rattle.relabels.specs.Answered.{answerText, answerLine, placeIn, Answered}
+use Rattle.relabels.specs.Answered.{answerText, answerLine, Answered}
 use Rattle.relabels.proofs.Rooms.{relabels-roomy}
 use Rattle.relabels.proofs.Short.{refusal-short, room-fits}
 
@@ -102,16 +103,19 @@ module _ {line d e : List ℕ} {at : ℕ} {a : Answer} (s : Spelled line d at e 
       let y = told-stands h g t in
       stands-then y (put-stands p (omega (arith, y .behind, y .same, text-short h g)))
 
-pub answered-by : {w line d e f x : List ℕ} {at end n : ℕ} {a : Answer} {s r : Stream} → at ≡ placeIn d s → maxLine + 1 ≤ length d
+pub answered-by : {w line d e f x : List ℕ} {end n : ℕ} {a : Answer} {s t r : Stream} → Roomed (length d) (maxLine + 1) s t → maxLine + 1 ≤ length d
     → w ≡ line → length e ≡ length d → a .number < 2 ^ 64 → a .place < 2 ^ 64
-    → Spelled w d at e a → Told e at a f end → Put f end (10 ∷ []) x n → r ≡ waitingOf s n → Answered line s d x r
-answered-by {d = d} {x = x} {s = s} p room i same h g y t q e =
+    → Spelled w d (t .waiting) e a → Told e (t .waiting) a f end → Put f end (10 ∷ []) x n → r ≡ waitingOf t n → Answered line s d x r
+answered-by {d = d} {x = x} {s = s} {t = v} roomed room i same h g y t q e =
+    let p = room-at roomed in
     let fits = room-fits (length d) (s .waiting) (maxLine + 1) room in
     let z = line-stands y (omega (arith, p)) same h g t q in
     let l = answerLine (y .answer) in
     record {
       answer = y .answer;
-      answers = subst (λ (v : List ℕ). Answers v (y .answer)) i (y .answers);
-      waits = e ∙ ap (waitingOf s) (z .behind ∙ ap (λ (k : ℕ). k + length l) p);
-      stands = ap (λ (v : Stream). take (v .waiting) x) e ∙ z .is ∙ ap (λ (k : ℕ). take k d ++ l) p;
+      answers = subst (λ (w : List ℕ). Answers w (y .answer)) i (y .answers);
+      room = v;
+      roomed = roomed;
+      waits = e ∙ ap (waitingOf v) (z .behind ∙ ap (λ (k : ℕ). k + length l) p);
+      stands = ap (λ (w : Stream). take (w .waiting) x) e ∙ z .is ∙ ap (λ (k : ℕ). take k d ++ l) p;
     }

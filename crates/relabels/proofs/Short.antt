@@ -27,7 +27,7 @@ refusal-short a h g =
 pub room-fits : (all waiting need : ℕ) → need ≤ all → roomOf all waiting need + need ≤ all
 room-fits all waiting need h = by (ltb waiting all) refl (leb need (all - waiting)) refl
   where
-    by : (b : Bool) → ltb waiting all ≡ b → (c : Bool) → leb need (all - waiting) ≡ c → cond b (cond c waiting 0) 0 + need ≤ all
+    by : (b : Bool) → ltb waiting all ≡ b → (c : Bool) → leb need (all - waiting) ≡ c → cond (cond b c false) waiting 0 + need ≤ all
     by true e true f = omega (arith, ltb-true waiting all e, leb-true need (all - waiting) f)
     by true e false f = omega arith
     by false e c f = omega arith

@@ -9,7 +9,7 @@ use Rattle.rules.specs.Limits.{maxLine}
 use Rattle.rules.specs.Answers.{Answer}
 use Rattle.deliver.specs.Delivered.{refusedOf}
 use Rattle.streams.specs.declared.Stream.{Stream}
-use Rattle.streams.specs.Streams.{waitingOf, roomOf}
+use Rattle.streams.specs.Streams.{waitingOf, roomOf, Roomed}
 use Rattle.relabels.specs.Told.{refusalText}
 use Rattle.relabels.specs.Spelled.{Answers}
 
@@ -25,9 +25,12 @@ answerLine a = answerText a ++ (10 ∷ [])
 abbrev pub placeIn : List ℕ → Stream → ℕ
 placeIn d s = roomOf (length d) (s .waiting) (maxLine + 1)
 
--- output d is e, and s is r: the answer to a line waits behind what waited, or alone where that was written
+-- output d is e, and s is r: the answer to a line waits behind what waited, or alone where that was written; where it could not be
+-- written the stream is stopped
 pub record Answered (line : List ℕ) (s : Stream) (d e : List ℕ) (r : Stream) : Type 0 where
   pub answer : Answer
   pub answers : Answers line answer
-  pub waits : r ≡ waitingOf s (placeIn d s + length (answerLine answer))
+  pub room : Stream
+  pub roomed : Roomed (length d) (maxLine + 1) s room
+  pub waits : r ≡ waitingOf room (placeIn d s + length (answerLine answer))
   pub stands : take (r .waiting) e ≡ take (placeIn d s) d ++ answerLine answer

@@ -1,6 +1,7 @@
 // The relabel program of document 01, shared by `relabel` and `examples`: for each line of standard input its preferred spelling, or `!`, the
-// number of refusal, a space and the place. Lines end at line feeds, and the last may lack its own. What is read and written cannot be
-// stated: `relabel_lines` and `all` are proved safe and ending. `one_line` states what is answered to the line that was found.
+// number of refusal, a space and the place. Lines end at line feeds, and the last may lack its own. Which lines are found is
+// stated by `next_line`, and `one_line` states what is answered to the line that was found; what is written cannot be stated, so `relabel_lines`
+// and `all` are proved safe and ending.
 ghost use Prim.Native.Nat.{_+_, _≤_};
 ghost use mathlib.Core.Path.{_≡_};
 ghost use lib.ListN.{length, take, drop};
@@ -14,32 +15,32 @@ use feeds::stretch;
 use lines::relabel_by;
 use numbers::put_number;
 use openings::ahead;
+use programs::finish;
 use puts::put8;
-use reading::Answer;
-use reading::MAX_LINE;
+use deliver::Answer;
+use deliver::MAX_LINE;
 use streams::Stream;
-use streams::flush;
 use streams::next_line;
 use streams::room;
 use tells::put_field;
 
-// All lines of standard input.
-pub fn relabel_lines() {
+// All lines of standard input, for the program of this name.
+pub fn relabel_lines(name: &[u8]) {
     let machine = shape::machine();
     let mut buf = io::large_buffer();
     let mut out = io::large_buffer();
-    all(&machine, &mut buf, &mut out);
+    all(name, &machine, &mut buf, &mut out);
 }
 
 // Line after line, until none comes. A proved loop has to end, so it counts down from a number that no run uses up.
-fn all(machine: &[u8], buf: &mut [u8], out: &mut [u8])
+fn all(name: &[u8], machine: &[u8], buf: &mut [u8], out: &mut [u8])
     requires { ⌜ (now machine ≡ machineBytes) × (maxLine + 1 ≤ length (now out)) ⌝ }
 {
     let mut s = next_line(buf, out, Stream::begin());
     let mut turns = u64::MAX;
     while turns > 0 {
         if !s.found {
-            flush(out, s.waiting);
+            finish(name, out, s);
             return;
         }
         let said = one_line(machine, buf, out, s);
@@ -53,11 +54,11 @@ fn one_line(machine: &[u8], buf: &[u8], out: &mut [u8], s: Stream) -> Stream
     requires { ⌜ (now machine ≡ machineBytes) × (maxLine + 1 ≤ length (now out)) ⌝ }
     ensures { λ r. ⌜ Answered (take (s .len) (drop (s .from) (now (buf .entry)))) s (now (out .entry)) (now (out .exit)) r ⌝ }
 {
-    let at = room(out, s.waiting, MAX_LINE + 1);
+    let t = room(out, s, MAX_LINE + 1);
     let line = stretch(buf, s.from, s.len);
-    let a = spell(machine, line, out, at);
-    let end = put_told(out, at, a);
-    s.answered(put8(out, end, b'\n'))
+    let a = spell(machine, line, out, t.waiting);
+    let end = put_told(out, t.waiting, a);
+    t.answered(put8(out, end, b'\n'))
 }
 
 // The preferred spelling at a place of the output. It is no longer than the line, so that as many bytes as the line has are lent, and the

@@ -1,127 +1,139 @@
 // The shape of each line of standard input: `fine`, `3 LENGTH` or `2 PLACE`. Lines end at line feeds, and the last may lack its own;
-// they have any bytes and any length, since a line is scanned part by part as it comes. What is read and written cannot be stated;
-// `one_part` and `answer` state what is answered to a line.
+// they have any bytes and any length, since a line is scanned part by part as it comes. Which parts are found is stated by `next_part`, and
+// `one_part` and `last` state what is answered to a line; what is written cannot be stated, so `all` is proved safe and ending.
+ghost use mathlib.Core.Path.{_≡_};
+ghost use mathlib.Core.List.{List};
+ghost use Prim.Native.Nat.{ℕ};
+ghost use lib.ListN.{length, take, drop};
 ghost use Rattle.puts.specs.Puts.{Put};
-ghost use Rattle.shapes.specs.Shown.{placeText, Shown, Parted};
-use feeds::line_end;
-use libc::STDIN_FILENO;
+ghost use Rattle.shapes.specs.Shown.{placeText, verdictText, isBegun, Shown, Parted, Last};
+use feeds::stretch;
 use numbers::put_number;
+use programs::finish;
+use programs::was_asked;
 use puts::put_run;
 use puts::put8;
 use shape::Progress;
 use shape::Verdict;
-use streams::flush;
+use streams::Stream;
+use streams::next_part;
 use streams::room;
 
 // The longest answer: a number, a blank, a place of 20 digits, a line feed.
 const ANSWER: usize = 23;
 
 fn main() {
+    if was_asked(
+        b"shapes",
+        b"shapes says of each line whether it has the shape of an mzPAF line: limits and rules play no part.
+
+Standard input has one line of text a line. Lines end at line feeds, and the last may lack its own; they may
+have any bytes and any length.
+
+Standard output has one answer a line:
+  fine       the line has the shape
+  2 PLACE    a stray byte: the line does not begin any shape; so many bytes of it do
+  3 LENGTH   the line begins a shape and is none
+",
+        false,
+    ) {
+        return;
+    }
     let machine = shape::machine();
     let mut buf = io::large_buffer();
     let mut out = io::large_buffer();
-    all(&machine, &mut buf, &mut out);
+    all(b"shapes", &machine, &mut buf, &mut out);
 }
 
-// Input until nothing comes. A proved loop has to end, so it counts down from a number that no run uses up.
-fn all(machine: &[u8], buf: &mut [u8], out: &mut [u8]) {
+// Part after part, until none comes. A proved loop has to end, so it counts down from a number that no run uses up.
+fn all(name: &[u8], machine: &[u8], buf: &mut [u8], out: &mut [u8]) {
     let mut p = Progress::begin();
+    let mut s = next_part(buf, out, Stream::begin());
     let mut turns = u64::MAX;
     while turns > 0 {
-        let Came::More(q) = one_read(machine, buf, out, p) else {
-            last(machine, out, p);
+        if !s.found {
+            let end = last(machine, out, s, p);
+            finish(name, out, end);
             return;
-        };
-        p = q;
+        }
+        let w = one_part(machine, buf, out, s, p);
+        p = w.scan;
+        let said = w.stream;
+        s = next_part(buf, out, said);
         turns -= 1;
     }
 }
 
-// What came of a read: the scan of the line that it ends in, or nothing more.
-enum Came {
-    More(Progress),
-    End,
-}
-
-fn one_read(machine: &[u8], buf: &mut [u8], out: &mut [u8], p: Progress) -> Came {
-    let got = libc::read(STDIN_FILENO, buf);
-    if got <= 0 {
-        return Came::End;
-    }
-    let n = io::count(got, buf);
-    Came::More(lines_of(machine, &buf[..n], out, p))
-}
-
-// The lines that end in these bytes are answered; the scan of the one that goes on. Answers are collected, and written here at the
-// latest, so that whoever types lines is answered at once.
-fn lines_of(machine: &[u8], buf: &[u8], out: &mut [u8], begun: Progress) -> Progress {
-    let mut w = Work {
-        scan: begun,
-        waiting: 0,
-    };
-    let mut from: usize = 0;
-    while from < buf.len() {
-        let n = line_end(&buf[from..]);
-        let end = from + n;
-        w = one_part(machine, &buf[from..end], out, w, end < buf.len());
-        from = end + 1;
-    }
-    flush(out, w.waiting);
-    w.scan
-}
-
-// The scan of the line that goes on, and how many bytes of answers wait.
+// The scan of the line that goes on, and the stream, in which answers wait.
 struct Work {
     scan: Progress,
-    waiting: usize,
+    stream: Stream,
 }
 
-// A part of a line, which may be its last.
-fn one_part(machine: &[u8], part: &[u8], out: &mut [u8], w: Work, ends: bool) -> Work
-    ensures { λ r. ⌜ Parted (now (machine .entry)) (now (part .entry)) w ends (now (out .entry)) (now (out .exit)) r ⌝ }
+// The part that was found, which may be the last of its line.
+fn one_part(machine: &[u8], buf: &[u8], out: &mut [u8], s: Stream, p: Progress) -> Work
+    ensures { λ r. ⌜ Parted (now (machine .entry)) (take (s .len) (drop (s .from) (now (buf .entry)))) s p (now (out .entry)) (now (out .exit)) r ⌝ }
 {
-    let begun = w.scan;
-    let p = begun.over(machine, part);
-    if ends {
-        let n = answer(machine, out, w.waiting, p);
+    let part = stretch(buf, s.from, s.len);
+    let scan = p.over(machine, part);
+    if s.fed {
+        let stream = answer(machine, out, s, scan);
         let fresh = Progress::begin();
         return Work {
             scan: fresh,
-            waiting: n,
+            stream,
         };
     }
-    Work {
-        scan: p,
-        waiting: w.waiting,
-    }
+    Work { scan, stream: s }
 }
 
 // A last line without line feed.
-fn last(machine: &[u8], out: &mut [u8], p: Progress) {
-    if p.state != 0 || p.at != 0 {
-        let waiting = answer(machine, out, 0, p);
-        flush(out, waiting);
+fn last(machine: &[u8], out: &mut [u8], s: Stream, p: Progress) -> Stream
+    ensures { λ r. ⌜ Last (now (machine .entry)) s p (now (out .entry)) (now (out .exit)) r ⌝ }
+{
+    if is_begun(p) {
+        return answer(machine, out, s, p);
     }
+    s
 }
 
-// The answer for a line, behind those that wait; how many bytes wait then.
-fn answer(machine: &[u8], out: &mut [u8], waiting: usize, p: Progress) -> usize
-    ensures { λ r. ⌜ Shown (now (machine .entry)) p (now (out .entry)) waiting (now (out .exit)) r ⌝ }
+// Whether anything was scanned.
+fn is_begun(p: Progress) -> bool
+    ensures { λ r. ⌜ r ≡ isBegun p ⌝ }
 {
-    let at = room(out, waiting, ANSWER);
+    if p.state != 0 {
+        return true;
+    }
+    0 < p.at
+}
+
+// The answer for a line, behind those that wait.
+fn answer(machine: &[u8], out: &mut [u8], s: Stream, p: Progress) -> Stream
+    ensures { λ r. ⌜ Shown (now (machine .entry)) p s (now (out .entry)) (now (out .exit)) r ⌝ }
+{
+    let t = room(out, s, ANSWER);
     let v = p.verdict(machine);
+    let end = put_verdict(out, t.waiting, v, p.at);
+    t.answered(end)
+}
+
+// The answer by the verdict on a line of so many bytes.
+fn put_verdict(out: &mut [u8], at: usize, v: Verdict, n: usize) -> usize
+    ensures { λ r. ⌜ ((line : List ℕ) → length line ≡ n → Put (now (out .entry)) at (verdictText line v) (now (out .exit)) r) ⌝ }
+{
     match v {
         Verdict::Fine => put_run(out, at, b"fine\n"),
-        Verdict::Short => put_place(out, at, b"3 ", p.at),
-        Verdict::Stray(k) => put_place(out, at, b"2 ", k),
+        Verdict::Short => put_place(out, at, 3, n),
+        Verdict::Stray(k) => put_place(out, at, 2, k),
     }
 }
 
 // A number and a blank, a place, a line feed.
-fn put_place(out: &mut [u8], at: usize, number: &[u8], place: usize) -> usize
-    ensures { λ r. ⌜ Put (now (out .entry)) at (placeText (now (number .entry)) place) (now (out .exit)) r ⌝ }
+fn put_place(out: &mut [u8], at: usize, number: u64, place: usize) -> usize
+    ensures { λ r. ⌜ Put (now (out .entry)) at (placeText number place) (now (out .exit)) r ⌝ }
 {
-    let behind = put_run(out, at, number);
+    let blank = put_number(out, at, number);
+    let behind = put8(out, blank, b' ');
     let end = put_number(out, behind, place as u64);
     put8(out, end, b'\n')
 }

@@ -1,39 +1,54 @@
--- Where the next line stands, from what the parts of a look say. Assumes nothing.
-use Prim.Native.Nat.{ℕ, _+_, _-_, _≤_, _<_, min}
-use mathlib.Core.Path.{_≡_, ap, ap₂, _∙_}
+-- Where the next line, or part of one, stands in what was read. Assumes nothing.
+use Prim.Native.Nat.{ℕ, zero, suc, _+_, _-_, _≤_, _<_, min}
+use mathlib.Core.Path.{_≡_, sym, ap, _∙_}
 use mathlib.Core.Bool.{true, false}
-use mathlib.Core.List.{List}
+use mathlib.Core.List.{List, [], _∷_}
+use native.Mathlib.Omega.{arith}
+use native.Mathlib.Decide.{decLe}
 use lib.Dec.{ltb}
-use lib.ListN.{take, drop}
-use borrow.Author.Tests.{lt-ltb, le-ltb, le-leb, lt-leb}
+use lib.ListN.{length, take, drop, length-take, length-drop}
+use lib.Seq.{take-all, take-nil}
+use borrow.Author.Tests.{lt-ltb, le-ltb}
 use Rattle.feeds.specs.Feeds.{beforeFeed}
 use Rattle.streams.specs.declared.Stream.{Stream}
-use Rattle.streams.specs.Streams.{maxPlace, lineOf, sumOf, ahead, lookedAt, roomOf}
+use Rattle.streams.specs.Streams.{lineOf, left, partOf, lineBy}
 
--- the bytes before the feed, by way of how many are left and which they are
-pub ahead-is : (buf : List ℕ) (s : Stream) {k n : ℕ} {t : List ℕ} → k ≡ min (s .filled - s .next) maxPlace → t ≡ take k (drop (s .next) buf) → n ≡ beforeFeed t → n ≡ ahead buf s
-ahead-is buf s a b c = c ∙ ap beforeFeed (b ∙ ap (λ (m : ℕ). take m (drop (s .next) buf)) a)
+-- as many as there are
+pub take-least : (a m : ℕ) (l : List ℕ) → length l ≤ m → Dec (a ≤ m) → take (min a m) l ≡ take a l
+take-least a m l h (yes g) = let e : min a m ≡ a = omega arith in ap (λ (k : ℕ). take k l) e
+take-least a m l h (no g) = take-all (min a m) l (omega arith) ∙ sym (take-all a l (omega arith))
 
--- a look is by these two numbers
-pub by-both : (buf : List ℕ) (s : Stream) {n feed : ℕ} → n ≡ ahead buf s → feed ≡ sumOf (s .next) n → lookedAt s n feed ≡ lookedAt s (ahead buf s) (sumOf (s .next) (ahead buf s))
-by-both buf s e f = ap₂ (lookedAt s) e (f ∙ ap (sumOf (s .next)) e)
+pub drop-take : (m x : ℕ) (l : List ℕ) → drop m (take x l) ≡ take (x - m) (drop m l)
+drop-take zero x l = let e : x - 0 ≡ x = omega arith in ap (λ (k : ℕ). take k l) (sym e)
+drop-take (suc m) zero l = let e : 0 - suc m ≡ 0 = omega arith in ap (λ (k : ℕ). take k (drop (suc m) l)) (sym e)
+drop-take (suc m) (suc x) [] = sym (take-nil (suc x - suc m))
+drop-take (suc m) (suc x) (b ∷ l) = let e : x - m ≡ suc x - suc m = omega arith in drop-take m x l ∙ ap (λ (k : ℕ). take k (drop m l)) e
 
-module _ (s : Stream) (n feed : ℕ) where
-  pub at-feed : feed < s .filled → lineOf s true n (feed + 1) ≡ lookedAt s n feed
-  at-feed h = simp (lt-ltb feed (s .filled) h)
+-- what is looked through, by way of how many bytes are left and which they are
+pub left-is : (buf : List ℕ) (s : Stream) {k : ℕ} {t : List ℕ} → k ≡ min (s .filled - s .next) (length buf) → t ≡ take k (drop (s .next) buf) → t ≡ left buf s
+left-is buf s e f =
+    f
+    ∙ ap (λ (m : ℕ). take m (drop (s .next) buf)) e
+    ∙ take-least (s .filled - s .next) (length buf) (drop (s .next) buf) (omega (arith, length-drop (s .next) buf)) (decLe (s .filled - s .next) (length buf))
 
-  pub goes-on : s .filled ≤ feed → s .ended ≡ false → lineOf s false 0 (s .next) ≡ lookedAt s n feed
-  goes-on h e = simp (le-ltb feed (s .filled) h, e)
+-- a line feed in it stands inside the buffer
+pub feed-inside : (buf : List ℕ) (from k n : ℕ) {t : List ℕ} → t ≡ take k (drop from buf) → n < length t → from + n + 1 ≤ length buf
+feed-inside buf from k n {t} e h = omega (arith, ap length e, length-take k (drop from buf), length-drop from buf)
 
-  pub at-end : s .filled ≤ feed → s .ended ≡ true → lineOf s (ltb 0 n) n feed ≡ lookedAt s n feed
-  at-end h e = simp (le-ltb feed (s .filled) h, e)
+module _ (s : Stream) (t : List ℕ) (n : ℕ) (q : n ≡ beforeFeed t) where
+  pub part-fed : n < length t → lineOf s true true n (s .next + n + 1) ≡ partOf s t
+  part-fed h = let g : beforeFeed t < length t = omega (arith, q) in simp (q, lt-ltb (beforeFeed t) (length t) g)
 
-module _ (all waiting need : ℕ) where
-  pub room-behind : waiting < all → need ≤ all - waiting → waiting ≡ roomOf all waiting need
-  room-behind h g = simp (lt-ltb waiting all h, le-leb need (all - waiting) g)
+  pub part-all : length t ≤ n → lineOf s (ltb 0 n) false n (s .filled) ≡ partOf s t
+  part-all h = let g : length t ≤ beforeFeed t = omega (arith, q) in simp (q, le-ltb (beforeFeed t) (length t) g)
 
-  pub no-room : waiting < all → all - waiting < need → 0 ≡ roomOf all waiting need
-  no-room h g = simp (lt-ltb waiting all h, lt-leb need (all - waiting) g)
+-- a look that finds a line feed, or the end of all, or neither
+module _ (s p : Stream) where
+  pub look-fed : p .fed ≡ true → p ≡ lineBy s p
+  look-fed e = simp e
 
-  pub full : all ≤ waiting → 0 ≡ roomOf all waiting need
-  full h = simp (le-ltb waiting all h)
+  pub look-ended : p .fed ≡ false → s .ended ≡ true → p ≡ lineBy s p
+  look-ended e g = simp (e, g)
+
+  pub look-on : p .fed ≡ false → s .ended ≡ false → lineOf s false false 0 (s .next) ≡ lineBy s p
+  look-on e g = simp (e, g)

@@ -7,7 +7,7 @@ ghost use Rattle.tells.specs.Tells.{hexDigit, hexByte, field, shown, tol
 use feeds::stretch;
 use numbers::put_number;
 use puts::put8;
-use reading::Answer;
+use deliver::Answer;
 
 // The digit of a byte's low half.
 fn low_digit(b: u8) -> u8

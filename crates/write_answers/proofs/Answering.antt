@@ -18,9 +18,10 @@ use Rattle.deliver.specs.declared.Answer.{Answer}
 use Rattle.deliver.specs.Delivered.{answered, refusedOf}
 use Rattle.writing.specs.Writings.{writtenOf}
 use Rattle.streams.specs.declared.Stream.{Stream}
-use Rattle.streams.specs.Streams.{waitingOf}
+use Rattle.streams.specs.Streams.{waitingOf, Roomed}
+use Rattle.programs.proofs.Waiting.{waits-by}
 use Rattle.tells.specs.Tells.{field, shown, told}
-use Rattle.write_answers.specs.Answered.{hexOf, digitsIn, roomIn, answerTo, Written, toldOf, placeIn, Answered}
+use Rattle.write_answers.specs.Answered.{hexOf, digitsIn, roomIn, answerTo, Written, toldOf, longest, Answered}
 use Rattle.write_answers.proofs.Fits.{Fits, hex-fits}
 
 -- ---- by the digits
@@ -98,14 +99,9 @@ told-by {room} {a} {d} {e} {r} w h =
     ap (λ (l : List ℕ). field (r .number) ++ (field (r .place) ++ (field (r .len) ++ (shown l ++ (10 ∷ []))))) (sym (take-take (r .len) room e k))
     ∙ ap toldOf (w .is)
 
-pub answered-by : (machine : List ℕ) (sized : Bool) (asked : List ℕ) (tableRoom all : ℕ) {w l m d e : List ℕ} {at end : ℕ} {a : Answer} {s r : Stream}
-    → at ≡ placeIn d s → w ≡ asked → Written (roomIn sized w all) (answerTo machine sized w tableRoom all) l m a → Put d at (told a m) e end
-    → r ≡ waitingOf s end → Answered (answerTo machine sized asked tableRoom all) s d e r
-answered-by machine sized asked tableRoom all {w = w} {d = d} {e = e} {s = s} p i x q y =
-    let text = toldOf (answerTo machine sized asked tableRoom all) in
-    let t = told-by x (hex-fits machine (digitsIn sized w) tableRoom (roomIn sized w all)) ∙ ap (λ (v : List ℕ). toldOf (answerTo machine sized v tableRoom all)) i in
-    let k = sym (ap (λ (v : Stream). v .waiting) y) in
-    record {
-      put = subst₂ (λ (n o : ℕ). Put d n text e o) p k (put-as q t);
-      same = y ∙ ap (waitingOf s) k;
-    }
+pub answered-by : (machine : List ℕ) (sized : Bool) (asked : List ℕ) (tableRoom all : ℕ) {w l m d e : List ℕ} {end : ℕ} {a : Answer} {s v r : Stream}
+    → Roomed (length d) longest s v → w ≡ asked → Written (roomIn sized w all) (answerTo machine sized w tableRoom all) l m a → Put d (v .waiting) (told a m) e end
+    → r ≡ waitingOf v end → Answered (answerTo machine sized asked tableRoom all) s d e r
+answered-by machine sized asked tableRoom all {w = w} p i x q y =
+    let t = told-by x (hex-fits machine (digitsIn sized w) tableRoom (roomIn sized w all)) ∙ ap (λ (l : List ℕ). toldOf (answerTo machine sized l tableRoom all)) i in
+    waits-by p (put-as q t) y

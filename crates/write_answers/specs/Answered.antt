@@ -3,18 +3,17 @@ use Prim.Native.Nat.{ℕ, _+_, _*_, min}
 use mathlib.Core.Path.{_≡_}
 use mathlib.Core.Bool.{Bool, cond}
 use mathlib.Core.List.{List}
-use lib.ListN.{length, take, drop}
+use lib.ListN.{take, drop}
 use Rattle.rules.specs.Limits.{maxLine}
 use Rattle.rules.specs.Answers as rules
 use Rattle.rules.specs.Answers.{refuses}
-use Rattle.puts.specs.Puts.{Put}
 use Rattle.numbers.specs.Leading.{numberOf}
 use Rattle.hexes.specs.Hexes.{spelled, unhexed}
 use Rattle.deliver.specs.declared.Answer.{Answer}
 use Rattle.deliver.specs.Delivered.{answered}
 use Rattle.writing.specs.Writings.{writtenOf}
 use Rattle.streams.specs.declared.Stream.{Stream}
-use Rattle.streams.specs.Streams.{waitingOf, roomOf}
+use Rattle.programs.specs.Waits.{Waits}
 use Rattle.tells.specs.Tells.{told}
 
 -- the bytes that digits spell, as many as there is room for, are written into room bytes; what is no digits is no table
@@ -42,11 +41,10 @@ pub record Written (room : ℕ) (a : rules.Answer) (d e : List ℕ) (r : Answer)
 abbrev pub toldOf : rules.Answer → List ℕ
 toldOf a = told (record { number = a .number; place = a .place; len = a .size }) (a .out)
 
--- where it goes, in an output of which some bytes wait: three numbers of at most 20 digits, each with a blank; the line; a line feed
-abbrev pub placeIn : List ℕ → Stream → ℕ
-placeIn d s = roomOf (length d) (s .waiting) (64 + 2 * maxLine)
+-- three numbers of at most 20 digits, each with a blank; the line; a line feed
+abbrev pub longest : ℕ
+longest = 64 + 2 * maxLine
 
--- output d is e, and s is r: what is printed of an answer waits behind what waited, or alone where that was written
-pub record Answered (a : rules.Answer) (s : Stream) (d e : List ℕ) (r : Stream) : Type 0 where
-  pub put : Put d (placeIn d s) (toldOf a) e (r .waiting)
-  pub same : r ≡ waitingOf s (r .waiting)
+-- output d is e, and s is r: what is printed of an answer waits
+abbrev pub Answered : rules.Answer → Stream → List ℕ → List ℕ → Stream → Type 0
+Answered a = Waits longest (toldOf a)

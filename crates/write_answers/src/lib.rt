@@ -1,7 +1,7 @@
 // The programs `writes` and `write_rooms`: stored tables come from standard input, one a line in hexadecimal digits, and each is
 // answered by number, place and length, and its line in such digits, `-` where there is none or it is empty. Lines end at line feeds,
-// and the last may lack its own. What is read and written cannot be stated: `answer_tables` and `all` are proved safe and ending.
-// `one_table` states what is answered to the table that was found.
+// and the last may lack its own. Which lines are found is stated by `next_line`, and `one_table` states what is answered to the
+// table that was found; what is written cannot be stated, so `answer_tables` and `all` are proved safe and ending.
 ghost use mathlib.Core.Path.{_≡_};
 ghost use mathlib.Core.Bool.{true};
 ghost use lib.ListN.{length, take, drop};
@@ -12,12 +12,12 @@ use feeds::stretch;
 use hexes::is_hex;
 use hexes::put_unhexed;
 use numbers::read_number;
+use programs::finish;
 use puts::clear;
-use reading::Answer;
-use reading::MAX_LINE;
-use reading::refuse;
+use deliver::Answer;
+use deliver::MAX_LINE;
+use deliver::refuse;
 use streams::Stream;
-use streams::flush;
 use streams::next_line;
 use streams::room;
 use tells::put_answer;
@@ -32,19 +32,28 @@ const BUFFER: usize = 4 * TABLE;
 // The longest answer: three numbers of at most 20 digits, each with a blank; the line; a line feed.
 const ANSWER: usize = 64 + 2 * MAX_LINE;
 
-// All tables. Where they are sized, each stands behind the length of its output, a number of at most 4,096, and a blank; else the
+// All tables, for the program of this name. Where they are sized, each stands behind the length of its output, a number of at most 4,096, and a blank; else the
 // output is as long as a line may be.
-pub fn answer_tables(sized: bool) {
+pub fn answer_tables(name: &[u8], sized: bool) {
     let machine = shape::machine();
     let mut buf = [0u8; BUFFER];
     let mut out = io::large_buffer();
     let mut table = [0u8; TABLE];
     let mut line = [0u8; MAX_LINE];
-    all(&machine, &mut buf, &mut out, &mut table, &mut line, sized);
+    all(
+        name,
+        &machine,
+        &mut buf,
+        &mut out,
+        &mut table,
+        &mut line,
+        sized,
+    );
 }
 
 // Table after table, until none comes. A proved loop has to end, so it counts down from a number that no run uses up.
 fn all(
+    name: &[u8],
     machine: &[u8],
     buf: &mut [u8],
     out: &mut [u8],
@@ -56,7 +65,7 @@ fn all(
     let mut turns = u64::MAX;
     while turns > 0 {
         if !s.found {
-            flush(out, s.waiting);
+            finish(name, out, s);
             return;
         }
         let said = one_table(machine, buf, out, table, line, s, sized);
@@ -77,11 +86,11 @@ fn one_table(
 ) -> Stream
     ensures { λ r. ⌜ Answered (answerTo (now (machine .entry)) sized (take (s .len) (drop (s .from) (now (buf .entry)))) (length (now (table .entry))) (length (now (line .entry)))) s (now (out .entry)) (now (out .exit)) r ⌝ }
 {
-    let at = room(out, s.waiting, ANSWER);
+    let t = room(out, s, ANSWER);
     let asked = stretch(buf, s.from, s.len);
     let a = write_one(machine, asked, table, line, sized);
-    let end = put_answer(out, at, a, line);
-    s.answered(end)
+    let end = put_answer(out, t.waiting, a, line);
+    t.answered(end)
 }
 
 // What is asked, sized or not.

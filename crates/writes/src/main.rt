@@ -1,4 +1,19 @@
 // Each line of standard input is a stored table in hexadecimal digits, written into an output that is as long as a line may be.
+use programs::was_asked;
+
 fn main() {
-    write_answers::answer_tables(false);
+    if was_asked(
+        b"writes",
+        b"writes spells each stored table as an mzPAF line, with an output that is as long as a line may be.
+
+Standard input has one stored table a line, in hexadecimal digits. Lines end at line feeds, and the last may lack its own.
+
+Standard output has one answer a line: the number of refusal, the place, how many bytes the line has, and the
+line in hexadecimal digits, `-` where there is none or it is empty.
+",
+        true,
+    ) {
+        return;
+    }
+    write_answers::answer_tables(b"writes", false);
 }

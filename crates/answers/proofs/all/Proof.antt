@@ -1,16 +1,16 @@
--- `answers::all` is safe and ends. Assumes nothing.
-use borrow.Author.Needs.{needs}
+-- `answers::all` meets its contract. Assumes nothing.
 use mathlib.Core.Path.{_≡_, refl}
 use lib.ListN.{length}
 use native.Mathlib.Omega.{arith}
+use borrow.Author.Needs.{needs}
 use Rattle.answers.proofs.all.Statement.{statement}
 use Rattle.answers.proofs.all.Tie as tie
 
 abbrev Inv-loop : tie.InvT-loop
-Inv-loop machine buf₀ out₀ table₀ sized s₀ turns₀ buf out table s turns = (length buf ≡ length buf₀) × ((length out ≡ length out₀) × (length table ≡ length table₀))
+Inv-loop name machine buf₀ out₀ table₀ sized s₀ turns₀ buf out table s turns = (length buf ≡ length buf₀) × ((length out ≡ length out₀) × (length table ≡ length table₀))
 
 abbrev μ-loop : tie.MeasureT-loop
-μ-loop machine buf₀ out₀ table₀ sized s₀ turns₀ buf out table s turns = turns
+μ-loop name machine buf₀ out₀ table₀ sized s₀ turns₀ buf out table s turns = turns
 
 begin-requires : tie.Need-begin-requires Inv-loop μ-loop
 begin-requires c κs = search needs
@@ -21,8 +21,8 @@ next-line-requires c κs = search needs
 loop-holds : tie.Need-loop-holds Inv-loop μ-loop
 loop-holds c = (search needs, (refl, refl))
 
-flush-requires : tie.Need-flush-requires Inv-loop μ-loop
-flush-requires c κs = search needs
+finish-requires : tie.Need-finish-requires Inv-loop μ-loop
+finish-requires c κs = search needs
 
 same-length : tie.Need-same-length Inv-loop μ-loop
 same-length c = omega arith
@@ -72,7 +72,7 @@ all-spec =
     begin-requires
     next-line-requires
     loop-holds
-    flush-requires
+    finish-requires
     same-length
     same-length-2
     same-length-3

@@ -1,6 +1,6 @@
 -- `answers::one_line` meets its contract. Assumes nothing.
-use borrow.Author.Needs.{needs}
 use Rattle.answers.proofs.Answering.{answered-by}
+use borrow.Author.Needs.{needs}
 use Rattle.answers.proofs.one_line.Statement.{statement}
 use Rattle.answers.proofs.one_line.Tie as tie
 

@@ -1,16 +1,16 @@
 -- `relabels::all` meets its contract. Assumes nothing.
-use borrow.Author.Needs.{needs}
-use native.Mathlib.Omega.{arith}
-use lib.ListN.{length}
 use mathlib.Core.Path.{_≡_, refl}
+use lib.ListN.{length}
+use native.Mathlib.Omega.{arith}
+use borrow.Author.Needs.{needs}
 use Rattle.relabels.proofs.all.Statement.{statement}
 use Rattle.relabels.proofs.all.Tie as tie
 
 abbrev Inv-loop : tie.InvT-loop
-Inv-loop machine buf₀ out₀ s₀ turns₀ buf out s turns = (length buf ≡ length buf₀) × (length out ≡ length out₀)
+Inv-loop name machine buf₀ out₀ s₀ turns₀ buf out s turns = (length buf ≡ length buf₀) × (length out ≡ length out₀)
 
 abbrev μ-loop : tie.MeasureT-loop
-μ-loop machine buf₀ out₀ s₀ turns₀ buf out s turns = turns
+μ-loop name machine buf₀ out₀ s₀ turns₀ buf out s turns = turns
 
 begin-requires : tie.Need-begin-requires Inv-loop μ-loop
 begin-requires c κs = search needs
@@ -21,8 +21,8 @@ next-line-requires c κs = search needs
 loop-holds : tie.Need-loop-holds Inv-loop μ-loop
 loop-holds c = (search needs, refl)
 
-flush-requires : tie.Need-flush-requires Inv-loop μ-loop
-flush-requires c κs = search needs
+finish-requires : tie.Need-finish-requires Inv-loop μ-loop
+finish-requires c κs = search needs
 
 same-length : tie.Need-same-length Inv-loop μ-loop
 same-length c = omega arith
@@ -34,7 +34,7 @@ returns : tie.Need-returns Inv-loop μ-loop
 returns c = tt
 
 one-line-requires : tie.Need-one-line-requires Inv-loop μ-loop
-one-line-requires c κs = (c .before .before .before .before .before .before .before .before .before .before .before .before .before .before .before .pre .0, omega (arith, c .before .before .before .before .before .before .before .before .before .before .before .before .before .before .before .pre .1))
+one-line-requires c κs = (c .before .before .before .before .before .before .before .before .before .before .before .before .before .before .before .before .pre .0, omega (arith, c .before .before .before .before .before .before .before .before .before .before .before .before .before .before .before .before .pre .1))
 
 next-line-requires-2 : tie.Need-next-line-requires-2 Inv-loop μ-loop
 next-line-requires-2 c κs = search needs
@@ -66,7 +66,7 @@ all-spec =
     begin-requires
     next-line-requires
     loop-holds
-    flush-requires
+    finish-requires
     same-length
     same-length-2
     returns

@@ -1,8 +1,9 @@
 -- `relabels::one_line` meets its contract. Assumes nothing.
-use Rattle.relabels.proofs.Short.{room-fits}
-use Rattle.relabels.proofs.Answering.{answered-by}
-use lib.ListN.{length}
 use native.Mathlib.Omega.{arith}
+use lib.ListN.{length}
+use Rattle.streams.proofs.Rooms.{room-at}
+use Rattle.relabels.proofs.Answering.{answered-by}
+use Rattle.relabels.proofs.Short.{room-fits}
 use borrow.Author.Needs.{needs}
 use Rattle.relabels.proofs.one_line.Statement.{statement}
 use Rattle.relabels.proofs.one_line.Tie as tie
@@ -17,7 +18,7 @@ stretch-requires : tie.Need-stretch-requires
 stretch-requires c κs = search needs
 
 spell-requires : tie.Need-spell-requires
-spell-requires c κs = (c .before .before .before .before .before .before .before .pre .0, omega (arith, c .before .before .room .ensures, room-fits (length (c .before .before .before .before .before .before .before .args .out .now)) (c .before .before .before .before .before .before .before .args .s .waiting) 4097 (c .before .before .before .before .before .before .before .pre .1)))
+spell-requires c κs = let a = c .before .before .before .before .before .before .before .args in let p = c .before .before .before .before .before .before .before .pre in (p .0, omega (arith, room-at (c .before .before .room .ensures), room-fits (length (a .out .now)) (a .s .waiting) 4097 (p .1)))
 
 put-told-requires : tie.Need-put-told-requires
 put-told-requires c κs = search needs

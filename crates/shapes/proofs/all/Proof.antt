@@ -1,34 +1,34 @@
--- `shapes::all` is safe and ends. Assumes nothing.
-use borrow.Author.Needs.{needs}
+-- `shapes::all` meets its contract. Assumes nothing.
 use mathlib.Core.Path.{_≡_, refl}
 use lib.ListN.{length}
 use native.Mathlib.Omega.{arith}
+use borrow.Author.Needs.{needs}
 use Rattle.shapes.proofs.all.Statement.{statement}
 use Rattle.shapes.proofs.all.Tie as tie
 
 abbrev Inv-loop : tie.InvT-loop
-Inv-loop machine buf₀ out₀ p₀ turns₀ buf out p turns = (length buf ≡ length buf₀) × (length out ≡ length out₀)
+Inv-loop name machine buf₀ out₀ p₀ s₀ turns₀ buf out p s turns = (length buf ≡ length buf₀) × (length out ≡ length out₀)
 
 abbrev μ-loop : tie.MeasureT-loop
-μ-loop machine buf₀ out₀ p₀ turns₀ buf out p turns = turns
+μ-loop name machine buf₀ out₀ p₀ s₀ turns₀ buf out p s turns = turns
 
 begin-requires : tie.Need-begin-requires Inv-loop μ-loop
 begin-requires c κs = search needs
 
+begin-requires-2 : tie.Need-begin-requires-2 Inv-loop μ-loop
+begin-requires-2 c κs = search needs
+
+next-part-requires : tie.Need-next-part-requires Inv-loop μ-loop
+next-part-requires c κs = search needs
+
 loop-holds : tie.Need-loop-holds Inv-loop μ-loop
-loop-holds c = (refl, refl)
-
-one-read-requires : tie.Need-one-read-requires Inv-loop μ-loop
-one-read-requires c κs = search needs
-
-enum-known-q : tie.Need-enum-known-q Inv-loop μ-loop
-enum-known-q c = search needs
-
-enum-told : tie.Need-enum-told Inv-loop μ-loop
-enum-told c = search needs
+loop-holds c = (search needs, refl)
 
 last-requires : tie.Need-last-requires Inv-loop μ-loop
 last-requires c κs = search needs
+
+finish-requires : tie.Need-finish-requires Inv-loop μ-loop
+finish-requires c κs = search needs
 
 same-length : tie.Need-same-length Inv-loop μ-loop
 same-length c = omega arith
@@ -38,6 +38,12 @@ same-length-2 c = omega arith
 
 returns : tie.Need-returns Inv-loop μ-loop
 returns c = tt
+
+one-part-requires : tie.Need-one-part-requires Inv-loop μ-loop
+one-part-requires c κs = search needs
+
+next-part-requires-2 : tie.Need-next-part-requires-2 Inv-loop μ-loop
+next-part-requires-2 c κs = search needs
 
 sub-turns : tie.Need-sub-turns Inv-loop μ-loop
 sub-turns c = search needs
@@ -49,10 +55,10 @@ loop-again : tie.Need-loop-again Inv-loop μ-loop
 loop-again c = (omega arith, omega arith)
 
 same-length-3 : tie.Need-same-length-3 Inv-loop μ-loop
-same-length-3 c = search needs
+same-length-3 c = omega arith
 
 same-length-4 : tie.Need-same-length-4 Inv-loop μ-loop
-same-length-4 c = search needs
+same-length-4 c = omega arith
 
 returns-2 : tie.Need-returns-2 Inv-loop μ-loop
 returns-2 c = tt
@@ -64,14 +70,16 @@ all-spec =
     Inv-loop
     μ-loop
     begin-requires
+    begin-requires-2
+    next-part-requires
     loop-holds
-    one-read-requires
-    enum-known-q
-    enum-told
     last-requires
+    finish-requires
     same-length
     same-length-2
     returns
+    one-part-requires
+    next-part-requires-2
     sub-turns
     loop-less
     loop-again

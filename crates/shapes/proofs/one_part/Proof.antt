@@ -4,6 +4,9 @@ use borrow.Author.Needs.{needs}
 use Rattle.shapes.proofs.one_part.Statement.{statement}
 use Rattle.shapes.proofs.one_part.Tie as tie
 
+stretch-requires : tie.Need-stretch-requires
+stretch-requires c κs = search needs
+
 over-requires : tie.Need-over-requires
 over-requires c κs = search needs
 
@@ -17,11 +20,19 @@ same-length : tie.Need-same-length
 same-length c = search needs
 
 returns : tie.Need-returns
-returns c = part-ends (c .before .before .before .before .before .if1 .taken) (c .before .before .before .before .before .before .over .ensures) (c .before .before .before .answer .ensures) (c .begin .ensures)
+returns c = part-ends (c .before .before .before .before .before .if1 .taken) (c .before .before .before .before .before .before .before .stretch .ensures) (c .before .before .before .before .before .before .over .ensures) (c .before .before .before .answer .ensures) (c .begin .ensures)
 
 returns-2 : tie.Need-returns-2
-returns-2 c = part-goes-on (c .if1 .left) (c .before .over .ensures)
+returns-2 c = part-goes-on (c .if1 .left) (c .before .before .stretch .ensures) (c .before .over .ensures)
 
 pub one-part-spec : {M : Type 1} → statement M
 one-part-spec =
-    tie.close (tie.spec over-requires answer-requires begin-requires same-length returns returns-2)
+    tie.close
+    (tie.spec
+    stretch-requires
+    over-requires
+    answer-requires
+    begin-requires
+    same-length
+    returns
+    returns-2)

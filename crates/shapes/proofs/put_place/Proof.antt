@@ -4,21 +4,31 @@ use borrow.Author.Needs.{needs}
 use Rattle.shapes.proofs.put_place.Statement.{statement}
 use Rattle.shapes.proofs.put_place.Tie as tie
 
-put-run-requires : tie.Need-put-run-requires
-put-run-requires c κs = search needs
-
 put-number-requires : tie.Need-put-number-requires
 put-number-requires c κs = search needs
 
 put8-requires : tie.Need-put8-requires
 put8-requires c κs = search needs
 
+put-number-requires-2 : tie.Need-put-number-requires-2
+put-number-requires-2 c κs = search needs
+
+put8-requires-2 : tie.Need-put8-requires-2
+put8-requires-2 c κs = search needs
+
 same-length : tie.Need-same-length
 same-length c = search needs
 
 returns : tie.Need-returns
-returns c = put-then (c .before .before .before .before .before .before .before .before .before .before .put-run .ensures) (put-then (c .before .before .before .before .before .before .put-number .ensures) (c .before .before .put8 .ensures))
+returns c = put-then (c .before .before .before .before .before .before .before .before .before .before .before .before .before .before .put-number .ensures) (put-then (c .before .before .before .before .before .before .before .before .before .before .put8 .ensures) (put-then (c .before .before .before .before .before .before .put-number2 .ensures) (c .before .before .put82 .ensures)))
 
 pub put-place-spec : {M : Type 1} → statement M
 put-place-spec =
-    tie.close (tie.spec put-run-requires put-number-requires put8-requires same-length returns)
+    tie.close
+    (tie.spec
+    put-number-requires
+    put8-requires
+    put-number-requires-2
+    put8-requires-2
+    same-length
+    returns)

@@ -1,8 +1,14 @@
+-- `terms_run::one_line` meets its contract. Assumes nothing.
+use Rattle.terms_run.proofs.Answering.{answered-by}
 use borrow.Author.Needs.{needs}
-use mathlib.Core.Path.{sym}
-use lib.Seq.{length-take-le}
 use Rattle.terms_run.proofs.one_line.Statement.{statement}
 use Rattle.terms_run.proofs.one_line.Tie as tie
+
+room-requires : tie.Need-room-requires
+room-requires c κs = search needs
+
+stretch-requires : tie.Need-stretch-requires
+stretch-requires c κs = search needs
 
 answer-requires : tie.Need-answer-requires
 answer-requires c κs = search needs
@@ -10,37 +16,23 @@ answer-requires c κs = search needs
 put8-requires : tie.Need-put8-requires
 put8-requires c κs = search needs
 
-slice-reshare-prefix-write-all : tie.Need-slice-reshare-prefix-write-all
-slice-reshare-prefix-write-all c = search needs
-
-slice-aggregate-write-all : tie.Need-slice-aggregate-write-all
-slice-aggregate-write-all c = sym (length-take-le _ _ (search needs))
-
-write-all-requires : tie.Need-write-all-requires
-write-all-requires c κs = search needs
+answered-requires : tie.Need-answered-requires
+answered-requires c κs = search needs
 
 same-length : tie.Need-same-length
 same-length c = search needs
 
 returns : tie.Need-returns
-returns c = search needs
-
-same-length-2 : tie.Need-same-length-2
-same-length-2 c = search needs
-
-returns-2 : tie.Need-returns-2
-returns-2 c = search needs
+returns c = answered-by (c .before .before .before .before .before .before .before .before .before .before .room .ensures) (c .before .before .before .before .before .before .before .before .before .stretch .ensures) (c .before .before .before .before .before .before .before .answer .ensures) (c .before .before .before .put8 .ensures) (c .answered .ensures)
 
 pub one-line-spec : {M : Type 1} → statement M
 one-line-spec =
     tie.close
     (tie.spec
+    room-requires
+    stretch-requires
     answer-requires
     put8-requires
-    slice-reshare-prefix-write-all
-    slice-aggregate-write-all
-    write-all-requires
+    answered-requires
     same-length
-    returns
-    same-length-2
-    returns-2)
+    returns)

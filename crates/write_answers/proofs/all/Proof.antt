@@ -1,16 +1,16 @@
--- `write_answers::all` is safe and ends. Assumes nothing.
-use mathlib.Core.Path.{_≡_, refl}
-use borrow.Author.Needs.{needs}
-use lib.ListN.{length}
+-- `write_answers::all` meets its contract. Assumes nothing.
 use native.Mathlib.Omega.{arith}
+use lib.ListN.{length}
+use borrow.Author.Needs.{needs}
+use mathlib.Core.Path.{_≡_, refl}
 use Rattle.write_answers.proofs.all.Statement.{statement}
 use Rattle.write_answers.proofs.all.Tie as tie
 
 abbrev Inv-loop : tie.InvT-loop
-Inv-loop machine buf₀ out₀ table₀ line₀ sized s₀ turns₀ buf out table line s turns = (length buf ≡ length buf₀) × ((length out ≡ length out₀) × ((length table ≡ length table₀) × (length line ≡ length line₀)))
+Inv-loop name machine buf₀ out₀ table₀ line₀ sized s₀ turns₀ buf out table line s turns = (length buf ≡ length buf₀) × ((length out ≡ length out₀) × ((length table ≡ length table₀) × (length line ≡ length line₀)))
 
 abbrev μ-loop : tie.MeasureT-loop
-μ-loop machine buf₀ out₀ table₀ line₀ sized s₀ turns₀ buf out table line s turns = turns
+μ-loop name machine buf₀ out₀ table₀ line₀ sized s₀ turns₀ buf out table line s turns = turns
 
 begin-requires : tie.Need-begin-requires Inv-loop μ-loop
 begin-requires c κs = search needs
@@ -21,8 +21,8 @@ next-line-requires c κs = search needs
 loop-holds : tie.Need-loop-holds Inv-loop μ-loop
 loop-holds c = (search needs, (refl, (refl, refl)))
 
-flush-requires : tie.Need-flush-requires Inv-loop μ-loop
-flush-requires c κs = search needs
+finish-requires : tie.Need-finish-requires Inv-loop μ-loop
+finish-requires c κs = search needs
 
 same-length : tie.Need-same-length Inv-loop μ-loop
 same-length c = omega arith
@@ -52,9 +52,7 @@ loop-less : tie.Need-loop-less Inv-loop μ-loop
 loop-less c = search needs
 
 loop-again : tie.Need-loop-again Inv-loop μ-loop
-loop-again c =
-    let i = c .before .before .before .before .before .before .before .before .before .before .before .before .before .before .before .before .before .before .before .loop .inv .1 .1 in
-    (omega arith, (omega arith, (omega (arith, c .before .before .before .before .before .before .before .before .table .given, i .0), omega (arith, c .before .before .before .before .before .before .line .given, i .1))))
+loop-again c = let i = c .before .before .before .before .before .before .before .before .before .before .before .before .before .before .before .before .before .before .before .loop .inv .1 in (omega arith, (omega (arith, c .before .before .before .before .before .before .before .before .before .before .out .given, i .0), (omega (arith, c .before .before .before .before .before .before .before .before .table .given, i .1 .0), omega (arith, c .before .before .before .before .before .before .line .given, i .1 .1))))
 
 same-length-5 : tie.Need-same-length-5 Inv-loop μ-loop
 same-length-5 c = omega arith
@@ -80,7 +78,7 @@ all-spec =
     begin-requires
     next-line-requires
     loop-holds
-    flush-requires
+    finish-requires
     same-length
     same-length-2
     same-length-3

@@ -1,6 +1,6 @@
 -- `write_answers::one_table` meets its contract. Assumes nothing.
-use lib.ListN.{length, take, drop}
 use Rattle.write_answers.proofs.Answering.{answered-by}
+use lib.ListN.{length, take, drop}
 use borrow.Author.Needs.{needs}
 use Rattle.write_answers.proofs.one_table.Statement.{statement}
 use Rattle.write_answers.proofs.one_table.Tie as tie
@@ -30,10 +30,7 @@ same-length-3 : tie.Need-same-length-3
 same-length-3 c = search needs
 
 returns : tie.Need-returns
-returns c =
-    let a = c .before .before .before .before .before .before .before .before .before .before .before .before .before .before .before .before .before .before .before .before .before .args in
-    answered-by (a .machine .now) (a .sized) (take (a .s .len) (drop (a .s .from) (a .buf .now))) (length (a .table .now)) (length (a .line .now))
-    (c .before .before .before .before .before .before .before .before .before .before .before .before .before .before .room .ensures) (c .before .before .before .before .before .before .before .before .before .before .before .before .before .stretch .ensures) (c .before .before .before .before .before .before .before .before .before .before .write-one .ensures) (c .before .before .before .put-answer .ensures) (c .answered .ensures)
+returns c = let a = c .before .before .before .before .before .before .before .before .before .before .before .before .before .before .before .before .before .before .before .before .before .args in answered-by (a .machine .now) (a .sized) (take (a .s .len) (drop (a .s .from) (a .buf .now))) (length (a .table .now)) (length (a .line .now)) (c .before .before .before .before .before .before .before .before .before .before .before .before .before .before .room .ensures) (c .before .before .before .before .before .before .before .before .before .before .before .before .before .stretch .ensures) (c .before .before .before .before .before .before .before .before .before .before .write-one .ensures) (c .before .before .before .put-answer .ensures) (c .answered .ensures)
 
 pub one-table-spec : {M : Type 1} → statement M
 one-table-spec =
