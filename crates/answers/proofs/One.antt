@@ -18,10 +18,11 @@ pub read-into-one : {machine asked d e f : List ℕ} {sized : Bool} {r q : Answe
     → ReadInto machine asked sized d e r → ReadInto machine asked sized d f q → (e ≡ f) × (r ≡ q)
 read-into-one {asked = asked} {d = d} {sized = sized} a b = answered-in-one (roomIn sized asked (length d)) (a .read) (a .kept) (b .read) (b .kept)
 
--- the table, the output, and the stream
-pub answered-one : {machine asked t u v d e f : List ℕ} {sized : Bool} {s r q : Stream}
-    → Answered machine asked sized s t u d e r → Answered machine asked sized s t v d f q → (u ≡ v) × ((e ≡ f) × (r ≡ q))
+-- the table, the output, and the streams where the system did the same
+pub answered-one : {machine asked t u v d e f : List ℕ} {sized : Bool} {s r q : Stream} (a : Answered machine asked sized s t u d e r)
+    (b : Answered machine asked sized s t v d f q) → (u ≡ v) × ((e ≡ f) × (a .waits .room ≡ b .waits .room → r ≡ q))
 answered-one {s = s} a b =
     let x = read-into-one (a .reads) (b .reads) in
-    let y = put-one (put-as (a .put) (ap₂ told (x .1) (x .0))) (b .put) in
-    (x .0, (y .0, a .waits ∙ ap (waitingOf s) (y .1) ∙ sym (b .waits)))
+    let w = a .waits in
+    let y = put-one (put-as (w .put) (ap₂ told (x .1) (x .0))) (b .waits .put) in
+    (x .0, (y .0, λ h. w .waits ∙ ap₂ waitingOf h (y .1) ∙ sym (b .waits .waits)))

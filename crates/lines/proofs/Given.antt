@@ -7,7 +7,7 @@ use lib.Dec.{eqb}
 use borrow.Author.Tests.{eq-eqb, ne-eqb}
 use Rattle.puts.specs.Puts.{Put}
 use Rattle.annotations.specs.declared.Parts.{Parts}
-use Rattle.reading.specs.declared.Totals.{Totals}
+use Rattle.totals.specs.declared.Totals.{Totals}
 use Rattle.lines.specs.Plain.{isPlain, lineSpelled, spellingOf}
 
 -- ---- the four tests, one after the other

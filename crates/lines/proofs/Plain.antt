@@ -25,9 +25,9 @@ use Rattle.rules.specs.Stored.{ionFields, lostUnits, addedUnits, isotopeRecords
 use Rattle.rules.proofs.Totals.{perm-length, total}
 use Rattle.puts.specs.Puts.{maxPlace}
 use Rattle.respells.proofs.Kept.{ion-filled}
-use Rattle.reading.specs.declared.Totals.{Totals}
-use Rattle.reading.specs.Totals.{nothing, totalsOf}
-use Rattle.reading.proofs.Through.{lossesIn, isotopesIn, itemsIn, unitsIn, Counts, totals-read}
+use Rattle.totals.specs.declared.Totals.{Totals}
+use Rattle.totals.specs.Totals.{nothing, totalsOf}
+use Rattle.totals.proofs.Through.{lossesIn, isotopesIn, itemsIn, unitsIn, Counts, totals-read}
 use Rattle.lines.specs.Plain.{isPlain}
 
 -- ---- the parts of an annotation, as a table has them

@@ -17,10 +17,10 @@ use Rattle.shape.specs.declared.Verdict.the-variants.{Fine, Short, Stray}
 use Rattle.terms.specs.declared.Fault.{Fault}
 use Rattle.annotations.specs.declared.Parts.{Parts}
 use Rattle.deliver.specs.declared.Answer.{Answer}
-use Rattle.reading.specs.declared.Totals.{Totals}
-use Rattle.reading.specs.Totals.{partsAt, totalsBy}
+use Rattle.totals.specs.declared.Totals.{Totals}
+use Rattle.totals.specs.Totals.{partsAt, totalsBy}
 use Rattle.deliver.specs.Delivered.{answered, refusedOf}
-use Rattle.reading.specs.Readings.{firstOf}
+use Rattle.totals.specs.Refusals.{firstOf}
 use Rattle.deliver.specs.Delivered.{cleared, lineOver}
 use Rattle.deliver.proofs.Lines.{line-cleared, line-long, line-no-room, line-fits}
 use Rattle.lines.specs.Plain.{spellingOf}

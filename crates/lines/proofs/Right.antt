@@ -29,11 +29,12 @@ use Rattle.annotations.proofs.Worded.{firstWord, nextWord, Worded}
 use Rattle.respells.specs.Annotations.{annotationSpelled}
 use Rattle.respells.proofs.Laws.{annotation-worded}
 use Rattle.pages.specs.Headers.{endAt}
-use Rattle.reading.specs.declared.Totals.{Totals}
-use Rattle.reading.specs.Totals.{partsAt, totalsOf}
-use Rattle.reading.specs.Readings.{firstOf, countsIn, tableOver, spelledOver, anyOver, readOf}
-use Rattle.reading.proofs.Given.{Gives, line-given}
-use Rattle.reading.proofs.Worded.{line-worded}
+use Rattle.totals.specs.declared.Totals.{Totals}
+use Rattle.totals.specs.Totals.{partsAt, totalsOf}
+use Rattle.totals.specs.Refusals.{firstOf}
+use Rattle.reading.specs.Readings.{countsIn, tableOver, spelledOver, anyOver, readOf}
+use Rattle.totals.proofs.Given.{Gives, line-given}
+use Rattle.totals.proofs.Worded.{line-worded}
 use Rattle.reading.proofs.Right.{read-right}
 use Rattle.deliver.specs.Delivered.{lineOver}
 use Rattle.writing.proofs.Holds.{spelling-as, no-number, take-given}

@@ -13,9 +13,9 @@ use Rattle.heads.specs.declared.Respelled.{Respelled}
 use Rattle.annotations.specs.declared.Parts.{Parts}
 use Rattle.annotations.specs.Measured.{annotationSize}
 use Rattle.respells.specs.Annotations.{annotationSpelled, SpellsAnnotation}
-use Rattle.reading.specs.Totals.{partsAt}
-use Rattle.reading.specs.Walks.{behindBy}
-use Rattle.reading.proofs.Walking.{walked-none, Walking, walking-begins, walking-turns, walking-falls, walking-ends}
+use Rattle.totals.specs.Totals.{partsAt}
+use Rattle.totals.specs.Walks.{behindBy}
+use Rattle.totals.proofs.Walking.{walked-none, Walking, walking-begins, walking-turns, walking-falls, walking-ends}
 use Rattle.lines.specs.Plain.{nextSpelled, lineSpelled}
 
 -- from output d and places to₀ and at₀ of output and line on, the annotations up to `at` are spelled

@@ -6,8 +6,8 @@ use lib.Dec.{eqb}
 use Rattle.rules.specs.Bytes.{bytes}
 use Rattle.annotations.specs.declared.Parts.{Parts}
 use Rattle.respells.specs.Annotations.{annotationSpelled}
-use Rattle.reading.specs.declared.Totals.{Totals}
-use Rattle.reading.specs.Walks.{lineGivenBy}
+use Rattle.totals.specs.declared.Totals.{Totals}
+use Rattle.totals.specs.Walks.{lineGivenBy}
 
 -- no losses, no isotopes, no adduct items, and no units
 unfoldable pub isPlain : Totals → Bool

@@ -10,9 +10,9 @@ use Rattle.rules.specs.Answers.{Answer, refuses, Reads, Writes}
 use Rattle.shape.specs.declared.Verdict.{Verdict}
 use Rattle.shape.specs.Verdicts.{numberOf, placeOf}
 use Rattle.annotations.specs.declared.Parts.{Parts}
-use Rattle.reading.specs.declared.Totals.{Totals}
-use Rattle.reading.specs.Totals.{partsAt, totalsOf}
-use Rattle.reading.specs.Readings.{firstOf}
+use Rattle.totals.specs.declared.Totals.{Totals}
+use Rattle.totals.specs.Totals.{partsAt, totalsOf}
+use Rattle.totals.specs.Refusals.{firstOf}
 use Rattle.deliver.specs.Delivered.{lineOver}
 use Rattle.lines.specs.Plain.{spellingOf}
 

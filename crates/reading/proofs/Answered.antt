@@ -14,10 +14,11 @@ use Rattle.annotations.specs.declared.Parts.{Parts}
 use Rattle.shape.specs.declared.Verdict.{Verdict}
 use Rattle.shape.specs.declared.Verdict.the-variants.{Fine, Short, Stray}
 use Rattle.deliver.specs.declared.Answer.{Answer}
-use Rattle.reading.specs.declared.Totals.{Totals}
-use Rattle.reading.specs.Totals.{partsAt, totalsBy}
+use Rattle.totals.specs.declared.Totals.{Totals}
+use Rattle.totals.specs.Totals.{partsAt, totalsBy}
 use Rattle.reading.specs.Stores.{lineEventsBy, lineEvents, StoresLine}
-use Rattle.reading.specs.Readings.{firstOf, countsIn, tableOver, storedOver, countedOver, spelledOver, ReadsSpelled, anyOver, readOf}
+use Rattle.totals.specs.Refusals.{firstOf}
+use Rattle.reading.specs.Readings.{countsIn, tableOver, storedOver, countedOver, spelledOver, ReadsSpelled, anyOver, readOf}
 use Rattle.deliver.specs.Delivered.{answered, refusedOf}
 
 -- ---- a line with a shape

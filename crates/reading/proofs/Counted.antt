@@ -24,10 +24,10 @@ use Rattle.rules.proofs.Bounds.{each-length}
 use Rattle.puts.specs.Puts.{maxPlace}
 use Rattle.pages.specs.Headers.{endAt, countsOf}
 use Rattle.annotations.specs.Groups.{plus}
-use Rattle.reading.specs.declared.Totals.{Totals}
-use Rattle.reading.specs.Totals.{nothing}
+use Rattle.totals.specs.declared.Totals.{Totals}
+use Rattle.totals.specs.Totals.{nothing}
 use Rattle.reading.specs.Readings.{countsIn}
-use Rattle.reading.proofs.Through.{Counts, lossesIn, isotopesIn, itemsIn, unitsIn, textIn}
+use Rattle.totals.proofs.Through.{Counts, lossesIn, isotopesIn, itemsIn, unitsIn, textIn}
 
 -- ---- an annotation has as many of each as the table has of it
 

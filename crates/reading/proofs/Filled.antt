@@ -17,7 +17,7 @@ use Rattle.terms.specs.Faults.{fault}
 use Rattle.store.specs.Events.{annotationEvents}
 use Rattle.store.proofs.Laws.{StoresRead, store-read}
 use Rattle.reading.specs.Stores.{lineEvents}
-use Rattle.reading.proofs.Given.{Gives, Given, empty, some, line-given}
+use Rattle.totals.proofs.Given.{Gives, Given, empty, some, line-given}
 
 -- events es, and then those of a table that the annotations s say
 pub record FilledBy (s : Spelling) (es fs : List Event) : Type 0 where

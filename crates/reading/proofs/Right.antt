@@ -32,17 +32,18 @@ use Rattle.pages.proofs.Tables.{table-stored}
 use Rattle.shape.specs.declared.Verdict.{Verdict}
 use Rattle.shape.specs.declared.Verdict.the-variants.{Fine, Short, Stray}
 use Rattle.shape.specs.Verdicts.{JudgedBy}
-use Rattle.reading.specs.declared.Totals.{Totals}
-use Rattle.reading.specs.Totals.{totalsOf}
+use Rattle.totals.specs.declared.Totals.{Totals}
+use Rattle.totals.specs.Totals.{totalsOf}
 use Rattle.reading.specs.Stores.{lineEvents}
-use Rattle.reading.specs.Readings.{firstOf, countsIn, tableOver, storedOver, countedOver, spelledOver, anyOver, readOf}
-use Rattle.reading.proofs.Folds as folds
-use Rattle.reading.proofs.Folds.{breach-told, excess-told}
-use Rattle.reading.proofs.Through.{TotalsRead, totals-read}
+use Rattle.totals.specs.Refusals.{firstOf}
+use Rattle.reading.specs.Readings.{countsIn, tableOver, storedOver, countedOver, spelledOver, anyOver, readOf}
+use Rattle.totals.proofs.Folds as folds
+use Rattle.totals.proofs.Folds.{breach-told, excess-told}
+use Rattle.totals.proofs.Through.{TotalsRead, totals-read}
 use Rattle.reading.proofs.Filled.{line-filled}
-use Rattle.reading.proofs.Numbered.{told, after-first, first-numbered, line-numbered}
+use Rattle.totals.proofs.Numbered.{told, after-first, first-numbered, line-numbered}
 use Rattle.reading.proofs.Counted.{counts-are, end-is}
-use Rattle.reading.proofs.Firsts.{first-limit, first-breach, first-excess}
+use Rattle.totals.proofs.Firsts.{first-limit, first-breach, first-excess}
 
 -- ---- the table, over a cleared output
 

@@ -15,9 +15,9 @@ use Rattle.store.specs.declared.Stored.{Stored}
 use Rattle.annotations.specs.Measured.{annotationSize}
 use Rattle.store.specs.Events.{annotationEvents, StoresAnnotation}
 use Rattle.reading.specs.declared.Going.{Going}
-use Rattle.reading.specs.Totals.{partsAt}
+use Rattle.totals.specs.Totals.{partsAt}
 use Rattle.reading.specs.Stores.{StoresNext, lineEventsBy, StoresLine}
-use Rattle.reading.proofs.Walking.{walked-none, Walking, walking-begins, walking-turns, walking-falls, walking-ends}
+use Rattle.totals.proofs.Walking.{walked-none, Walking, walking-begins, walking-turns, walking-falls, walking-ends}
 
 -- one annotation
 pub next-stored : (line : List ℕ) (from : ℕ) (p : Parts) {d e r : List ℕ} {c : Cursors} {x : Stored} {at : ℕ} → r ≡ drop from line → StoresAnnotation r p d c e x

@@ -1,6 +1,3 @@
-pub mod Loops
-pub mod Totals
-pub mod Walks
 pub mod Stores
 pub mod Readings
 pub mod Same

@@ -9,7 +9,6 @@ use lib.Seq.{sets}
 use Rattle.rules.specs.Limits.{maxLine}
 use Rattle.rules.specs.Answers as rules
 use Rattle.rules.specs.Answers.{refuses}
-use Rattle.terms.specs.declared.Fault.{Fault}
 use Rattle.pages.specs.declared.Counts.{Counts}
 use Rattle.pages.specs.Pages.{run}
 use Rattle.pages.specs.Headers.{startsOf, endAt, headerBytes}
@@ -17,13 +16,10 @@ use Rattle.shape.specs.declared.Verdict.{Verdict}
 use Rattle.shape.specs.Verdicts.{numberOf, placeOf}
 use Rattle.deliver.specs.declared.Answer.{Answer}
 use Rattle.deliver.specs.Delivered.{answered}
-use Rattle.reading.specs.declared.Totals.{Totals}
-use Rattle.reading.specs.Totals.{totalsOf}
+use Rattle.totals.specs.declared.Totals.{Totals}
+use Rattle.totals.specs.Totals.{totalsOf}
+use Rattle.totals.specs.Refusals.{firstOf}
 use Rattle.reading.specs.Stores.{lineEvents}
-
--- 4 and 5, then 6, then 7
-unfoldable pub firstOf : Totals → Fault
-firstOf t = cond (eqb (t .limit .number) 0) (cond (eqb (t .breach .number) 0) (t .excess) (t .breach)) (t .limit)
 
 abbrev pub countsIn : Totals → Counts
 countsIn t =

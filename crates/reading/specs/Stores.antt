@@ -8,8 +8,8 @@ use Rattle.pages.specs.Pages.{Event, Ran, ends}
 use Rattle.annotations.specs.declared.Parts.{Parts}
 use Rattle.store.specs.Events.{annotationEvents}
 use Rattle.reading.specs.declared.Going.{Going}
-use Rattle.reading.specs.Totals.{partsAt}
-use Rattle.reading.specs.Walks.{behindBy, lineGivenBy}
+use Rattle.totals.specs.Totals.{partsAt}
+use Rattle.totals.specs.Walks.{behindBy, lineGivenBy}
 
 pub record StoresNext (line : List ℕ) (from : ℕ) (p : Parts) (d : List ℕ) (c : Cursors) (e : List ℕ) (r : Going) : Type 0 where
   pub at : r .at ≡ behindBy line from p

@@ -1,24 +1,28 @@
--- Two answers that meet a contract of this crate are equal. Assumes nothing.
+-- Two answers that meet a contract of this crate are equal: the bytes of the output, the scan, and the streams where the system did the
+-- same. Assumes nothing.
+use Prim.Native.Nat.{ℕ}
 use mathlib.Core.Path.{_≡_, refl, sym, _∙_}
 use mathlib.Core.Bool.{Bool, true, false}
 use mathlib.Core.List.{List}
-use Prim.Native.Nat.{ℕ}
-use Rattle.puts.proofs.One.{put-one}
+use lib.ListN.{length, replicate, length-replicate}
 use Rattle.shape.specs.declared.Progress.{Progress}
+use Rattle.shape.specs.Steps.{takenBy}
+use Rattle.streams.specs.declared.Stream.{Stream}
+use Rattle.programs.proofs.One.{waits-one}
 use Rattle.shapes.specs.declared.Work.{Work}
 use Rattle.shapes.specs.Shown.{Shown, Parted}
 
-pub shown-one : (machine : List ℕ) (p : Progress) (d : List ℕ) (waiting : ℕ) {e f : List ℕ} {r q : ℕ}
-    → Shown machine p d waiting e r → Shown machine p d waiting f q → (e ≡ f) × (r ≡ q)
-shown-one machine p d waiting x y = put-one x y
+pub shown-one : {machine : List ℕ} {p : Progress} {s r q : Stream} {d e f : List ℕ} (line : List ℕ) (h : length line ≡ p .at)
+    (x : Shown machine p s d e r) (y : Shown machine p s d f q) → (e ≡ f) × (x .waits line h .room ≡ y .waits line h .room → r ≡ q)
+shown-one line h x y = waits-one (x .waits line h) (y .waits line h)
 
-pub parted-one : {machine part : List ℕ} {w : Work} {ends : Bool} {d e f : List ℕ} {r q : Work}
-    → Parted machine part w ends d e r → Parted machine part w ends d f q → (e ≡ f) × (r ≡ q)
-parted-one {ends = true} x y =
-    let z = put-one (x .shown refl) (y .shown refl) in
-    let scan = x .fresh refl ∙ sym (y .fresh refl) in
-    (z .0, λ i. record { scan = scan i; waiting = z .1 i })
-parted-one {ends = false} x y =
-    let scan = x .scanned refl ∙ sym (y .scanned refl) in
-    let waiting = x .waits refl ∙ sym (y .waits refl) in
-    (x .kept refl ∙ sym (y .kept refl), λ i. record { scan = scan i; waiting = waiting i })
+pub parted-one : {machine part : List ℕ} {s : Stream} {p : Progress} {d e f : List ℕ} {r q : Work}
+    → Parted machine part s p d e r → Parted machine part s p d f q → (e ≡ f) × (r .scan ≡ q .scan)
+parted-one {machine} {part} {s} {p} {e = e} {f = f} {r = r} {q = q} x y = by (s .fed) refl
+  where
+    by : (b : Bool) → s .fed ≡ b → (e ≡ f) × (r .scan ≡ q .scan)
+    by true h =
+        let n = takenBy machine p part .at in
+        let z = shown-one (replicate n 0) (length-replicate {A = ℕ} n 0) (x .shown h) (y .shown h) in
+        (z .0, x .fresh h ∙ sym (y .fresh h))
+    by false h = (x .kept h ∙ sym (y .kept h), x .scanned h ∙ sym (y .scanned h))

@@ -30,7 +30,7 @@ use Rattle.shape.specs.declared.Verdict.the-variants.{Fine, Short, Stray}
 use Rattle.shape.specs.Verdicts.{JudgedBy}
 use Rattle.reading.specs.Readings.{spelledOver, anyOver}
 use Rattle.shape.proofs.OneSpelling.{one-spelling}
-use Rattle.reading.proofs.Numbered.{first-numbered, line-numbered}
+use Rattle.totals.proofs.Numbered.{first-numbered, line-numbered}
 use Rattle.reading.proofs.Right.{spelled-right}
 use Rattle.reading.specs.Same.{sameBytes, allBytes}
 use Rattle.reading.specs.Back.{isRead, readsTo, zeros}

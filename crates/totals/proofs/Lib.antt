@@ -1,0 +1,10 @@
+pub mod Loops
+pub mod Firsts
+pub mod Steps
+pub mod Turns
+pub mod Walking
+pub mod Folds
+pub mod Through
+pub mod Given
+pub mod Worded
+pub mod Numbered

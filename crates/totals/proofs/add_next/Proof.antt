@@ -1,0 +1,23 @@
+use Rattle.totals.proofs.Turns.{next-added}
+use borrow.Author.Needs.{needs}
+use Rattle.totals.proofs.add_next.Statement.{statement}
+use Rattle.totals.proofs.add_next.Tie as tie
+
+ahead-requires : tie.Need-ahead-requires
+ahead-requires c κs = search needs
+
+rest-requires : tie.Need-rest-requires
+rest-requires c κs = search needs
+
+read-parts-requires : tie.Need-read-parts-requires
+read-parts-requires c κs = search needs
+
+add-requires : tie.Need-add-requires
+add-requires c κs = search needs
+
+returns : tie.Need-returns
+returns c = next-added (c .before .before .before .before .before .before .args .line .now) (c .before .before .before .before .before .before .args .t) (c .before .before .before .ahead .ensures) (c .before .before .rest .ensures) (c .before .read-parts .ensures) (c .add .ensures)
+
+pub add-next-spec : {M : Type 1} → statement M
+add-next-spec =
+    tie.close (tie.spec ahead-requires rest-requires read-parts-requires add-requires returns)

@@ -1,0 +1,4 @@
+pub mod Loops
+pub mod Totals
+pub mod Walks
+pub mod Refusals
