@@ -48,8 +48,8 @@ Standard input has one question a line: a letter, a space and a text.
   f TEXT   the formula: units, bytes, number and place of the first broken limit, preferred spelling
 Lines end at line feeds, and the last may lack its own.
 
-Standard output has one answer a line, `?` for a line that asks none of these. Bytes are how many bytes of
-the text were read; a limit's number is 4 for a number past its bound and 5 for too many units, 0 for none.
+Standard output has one answer a line, `?` where a line asks none of these. Bytes are how many bytes of
+the text were read; a limit's number is 4 (a number past its bound), 5 (too many units) or 0 (none).
 ",
         false,
     ) {

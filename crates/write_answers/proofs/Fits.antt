@@ -12,7 +12,9 @@ use Rattle.rules.specs.Answers.{Answer, refuses, gives}
 use Rattle.shape.specs.Steps.{scannedBy}
 use Rattle.print_lines.specs.Tables.{printedTable}
 use Rattle.hexes.specs.Hexes.{spelled, unhexed}
-use Rattle.writing.specs.Writings.{readsTo, lineOver, foundIn, few, longest, largest, zeros, writtenOf}
+use Rattle.deliver.specs.Delivered.{lineOver}
+use Rattle.reading.specs.Back.{readsTo, few, largest, zeros}
+use Rattle.writing.specs.Writings.{foundOf, foundIn, longest, writtenOf}
 use Rattle.write_answers.specs.Answered.{hexOf}
 
 -- an answer within its room
@@ -35,7 +37,7 @@ line-fits w room = either (ltb maxLine (length w)) (refused room 1 maxLine) (by 
     by false h = record { is = ltb-false room (length w) h }
 
 found-fits : (machine : List ℕ) (most : ℕ) (scratch w table : List ℕ) (room : ℕ) → Fits room (foundIn machine most scratch w table room)
-unfolding foundIn
+unfolding foundIn foundOf
 found-fits machine most scratch w table room =
     either (ltb most (length w)) (refused room 9 0)
     (either (readsTo (scannedBy machine w) scratch w table) (line-fits w room) (refused room 9 0))
