@@ -158,6 +158,7 @@ pub fn letters_of(n: u16) -> Letters
 }
 
 // The atomic number of the symbol with these letters, b being 0 where it has one letter. 0: no symbol.
+// To be read down as an index: by the first letter, under it by the second, each symbol beside its number.
 pub fn atomic(a: u8, b: u8) -> u16
     ensures { λ r. ⌜ r ≡ atomicOf a b ⌝ }
 {
@@ -244,7 +245,7 @@ pub fn atomic(a: u8, b: u8) -> u16
             b'r' => 77, // Ir
             _ => 0,
         },
-        b'J' => 0,
+        b'J' => 0, // no symbol begins with it
         b'K' => match b {
             0 => 19, // K
             b'r' => 36, // Kr
@@ -297,7 +298,7 @@ pub fn atomic(a: u8, b: u8) -> u16
             b'u' => 94, // Pu
             _ => 0,
         },
-        b'Q' => 0,
+        b'Q' => 0, // no symbol begins with it
         b'R' => match b {
             b'a' => 88, // Ra
             b'b' => 37, // Rb
@@ -388,7 +389,7 @@ fn second_letter(s: &[u8]) -> u8
     b
 }
 
-// How many letters the symbol has that a part begins with; 0 where no capital stands first. No table is walked.
+// How many letters the symbol has that a part begins with; 0 where no capital stands first. No symbol is looked up.
 pub fn symbol_len(s: &[u8]) -> usize
     ensures { λ r. ⌜ r ≡ elementOf (now (s .entry)) .len ⌝ }
 {
