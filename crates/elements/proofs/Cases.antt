@@ -3,15 +3,16 @@ use Prim.Native.Nat.{ℕ, _≤_, _<_}
 use Prim.Native.Char.{Char, code}
 use Prim.Native.String.{String}
 use mathlib.Core.Path.{_≡_, sym, ap₂}
-use mathlib.Core.Bool.{Bool, true, false, cond, _||_}
+use mathlib.Core.Bool.{Bool, true, false, cond, _&&_, _||_}
+use mathlib.Core.Logic.{_⊎_}
 use mathlib.Core.List.{List, [], _∷_}
 use native.Mathlib.Decide.{ℕ-discrete}
 use native.Mathlib.Omega.{arith}
-use lib.Dec.{T, eqb, eqb→eq}
+use lib.Dec.{T, eqb, leb, eqb→eq, leb→le}
 use lib.ListN.{getD}
 use borrow.Author.Tests.{eq-eqb}
 use Rattle.lang.specs.Re.{either}
-use Rattle.lang.proofs.Deriv.{or-e}
+use Rattle.lang.proofs.Deriv.{and-0, and-1, or-e}
 use Rattle.lang.proofs.Machine.{allB, all→}
 use Rattle.rules.specs.Bytes.{bytes}
 use Rattle.rules.specs.Elements.{symbols}
@@ -48,9 +49,12 @@ besides P (k ∷ ks) x h =
 none-of : (ks : List ℕ) (x : ℕ) → NoneOf ks x → T (among ks x) → ⊥
 none-of ks x h = besides (Unit {0}) ks x h .1
 
--- a test of each symbol's two letters
+-- a test of the two letters of a symbol, and of those of each symbol
+abbrev pub passes : (ℕ → ℕ → Bool) → ℕ → Bool
+passes ok w = ok (spelled (getD symbols w []) .first) (spelled (getD symbols w []) .second)
+
 abbrev pub everySymbol : (ℕ → ℕ → Bool) → Bool
-everySymbol ok = allB (λ w. ok (spelled (getD symbols w []) .first) (spelled (getD symbols w []) .second)) 118
+everySymbol ok = allB (passes ok) 118
 
 -- letters that fail a test which every symbol passes are no symbol
 fails : (ok : ℕ → ℕ → Bool) → T (everySymbol ok) → (a b : ℕ) → (T (ok a b) → ⊥) → 0 ≡ atomicOf a b
@@ -60,7 +64,7 @@ fails ok t a b h = by (ℕ-discrete (atomicOf a b) 0)
     by (yes e) = sym e
     by (no n) =
         let k = atomic-which a b n in
-        let u = all→ (λ w. ok (spelled (getD symbols w []) .first) (spelled (getD symbols w []) .second)) 118 t (k .which .which) (which-below (k .which)) in
+        let u = all→ (passes ok) 118 t (k .which .which) (which-below (k .which)) in
         absurd (h (rw (k .letters, spelled-word a b) at u))
 
 -- with f first: one of ks is second
@@ -73,10 +77,14 @@ miss f ks t a b p h = fails (follows (code f) ks) t a b (λ u. none-of ks b h (r
 pub miss-first : (fs : List ℕ) → T (everySymbol (λ a b. among fs a)) → (a b : ℕ) → NoneOf fs a → 0 ≡ atomicOf a b
 miss-first fs t a b h = fails (λ a b. among fs a) t a b (none-of fs a h)
 
--- ---- an arm of ranges alone: bytes that are no second letter
+-- ---- an arm of ranges alone
 
-pub below-small : (a b : ℕ) → 1 ≤ b → b < 97 → 0 ≡ atomicOf a b
-below-small a b h g = sym (no-small a b (λ e. omega arith) (λ k l. omega arith))
+-- a range from lo to below hi that has neither 0 nor a small letter in it: no such byte stands second
+pub outside : (lo hi : ℕ) → T (leb 1 lo && (leb hi 97 || leb 123 lo)) → (a b : ℕ) → lo ≤ b → b < hi → 0 ≡ atomicOf a b
+outside lo hi t a b h g = sym (no-small a b (λ e. omega (arith, low)) (λ k l. either (λ u. omega (arith, leb→le hi 97 u)) (λ u. omega (arith, leb→le 123 lo u)) beside))
+  where
+    low : 1 ≤ lo
+    low = leb→le 1 lo (and-0 (leb 1 lo) (leb hi 97 || leb 123 lo) t)
 
-pub above-small : (a b : ℕ) → 123 ≤ b → 0 ≡ atomicOf a b
-above-small a b h = sym (no-small a b (λ e. omega arith) (λ k l. omega arith))
+    beside : T (leb hi 97) ⊎ T (leb 123 lo)
+    beside = or-e (leb hi 97) (leb 123 lo) (and-1 (leb 1 lo) (leb hi 97 || leb 123 lo) t)

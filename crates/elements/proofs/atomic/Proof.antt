@@ -1,16 +1,19 @@
 use mathlib.Core.List.{[], _∷_}
+use native.Mathlib.Omega.{arith}
 use Rattle.rules.specs.Bytes.{bytes}
 use Rattle.rules.specs.Elements.{symbols}
 use Rattle.elements.specs.Numbers.{numberIn, atomicOf}
-use Rattle.elements.proofs.Cases.{hit, miss, miss-first, below-small, above-small}
+use Rattle.elements.proofs.Cases.{hit, miss, miss-first, outside}
 use Rattle.elements.proofs.atomic.Statement.{statement}
 use Rattle.elements.proofs.atomic.Tie as tie
 
 returns : tie.Need-returns
-returns c = below-small _ _ (c .before .if1 .left) (c .if2 .taken)
+returns c = outside 1 97 tt _ _ (c .before .if1 .left) (c .if2 .taken)
 
 returns-2 : tie.Need-returns-2
-returns-2 c = above-small _ _ (c .if3 .left)
+returns-2 c =
+    let f = c .before .before .before in
+    outside 123 256 tt (f .args .a) (f .args .b) (c .if3 .left) (omega (arith, f .fits .b))
 
 returns-3 : tie.Need-returns-3
 unfolding atomicOf numberIn symbols
