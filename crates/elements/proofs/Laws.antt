@@ -119,7 +119,7 @@ spelt-from l t =
 pub spelt-symbol : (x : Symbol) → Spelt (spelled (wordOf x))
 spelt-symbol x = spelt-from (spelled (wordOf x)) (spelt-at (x .which) (which-below x))
 
-spelled-word : (a b : ℕ) → spelled (word a b) ≡ record { first = a; second = b }
+pub spelled-word : (a b : ℕ) → spelled (word a b) ≡ record { first = a; second = b }
 spelled-word a b = either (λ p. rw (p, eqb-true b 0 p)) (λ p. rw p) (case (eqb b 0))
 
 -- letters that have a number

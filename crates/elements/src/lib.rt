@@ -158,18 +158,209 @@ pub fn letters_of(n: u16) -> Letters
 }
 
 // The atomic number of the symbol with these letters, b being 0 where it has one letter. 0: no symbol.
+// To be read down as an index: by the first letter, under it by the second, each symbol beside its number.
 pub fn atomic(a: u8, b: u8) -> u16
     ensures { λ r. ⌜ r ≡ atomicOf a b ⌝ }
 {
-    let code = a as u16 * 256 + b as u16;
-    let mut n: u16 = 1;
-    while n <= 118 {
-        if code_of(n) == code {
-            return n;
-        }
-        n += 1;
+    match b {
+        1..=96 | 123..=255 => return 0, // neither a small letter nor none
+        _ => {}
     }
-    0
+    match a {
+        0..=64 | 91..=255 => 0, // no capital
+        b'A' => match b {
+            b'c' => 89, // Ac
+            b'g' => 47, // Ag
+            b'l' => 13, // Al
+            b'm' => 95, // Am
+            b'r' => 18, // Ar
+            b's' => 33, // As
+            b't' => 85, // At
+            b'u' => 79, // Au
+            _ => 0,
+        },
+        b'B' => match b {
+            0 => 5, // B
+            b'a' => 56, // Ba
+            b'e' => 4, // Be
+            b'h' => 107, // Bh
+            b'i' => 83, // Bi
+            b'k' => 97, // Bk
+            b'r' => 35, // Br
+            _ => 0,
+        },
+        b'C' => match b {
+            0 => 6, // C
+            b'a' => 20, // Ca
+            b'd' => 48, // Cd
+            b'e' => 58, // Ce
+            b'f' => 98, // Cf
+            b'l' => 17, // Cl
+            b'm' => 96, // Cm
+            b'n' => 112, // Cn
+            b'o' => 27, // Co
+            b'r' => 24, // Cr
+            b's' => 55, // Cs
+            b'u' => 29, // Cu
+            _ => 0,
+        },
+        b'D' => match b {
+            b'b' => 105, // Db
+            b's' => 110, // Ds
+            b'y' => 66, // Dy
+            _ => 0,
+        },
+        b'E' => match b {
+            b'r' => 68, // Er
+            b's' => 99, // Es
+            b'u' => 63, // Eu
+            _ => 0,
+        },
+        b'F' => match b {
+            0 => 9, // F
+            b'e' => 26, // Fe
+            b'l' => 114, // Fl
+            b'm' => 100, // Fm
+            b'r' => 87, // Fr
+            _ => 0,
+        },
+        b'G' => match b {
+            b'a' => 31, // Ga
+            b'd' => 64, // Gd
+            b'e' => 32, // Ge
+            _ => 0,
+        },
+        b'H' => match b {
+            0 => 1, // H
+            b'e' => 2, // He
+            b'f' => 72, // Hf
+            b'g' => 80, // Hg
+            b'o' => 67, // Ho
+            b's' => 108, // Hs
+            _ => 0,
+        },
+        b'I' => match b {
+            0 => 53, // I
+            b'n' => 49, // In
+            b'r' => 77, // Ir
+            _ => 0,
+        },
+        b'J' => 0, // no symbol begins with it
+        b'K' => match b {
+            0 => 19, // K
+            b'r' => 36, // Kr
+            _ => 0,
+        },
+        b'L' => match b {
+            b'a' => 57, // La
+            b'i' => 3, // Li
+            b'r' => 103, // Lr
+            b'u' => 71, // Lu
+            b'v' => 116, // Lv
+            _ => 0,
+        },
+        b'M' => match b {
+            b'c' => 115, // Mc
+            b'd' => 101, // Md
+            b'g' => 12, // Mg
+            b'n' => 25, // Mn
+            b'o' => 42, // Mo
+            b't' => 109, // Mt
+            _ => 0,
+        },
+        b'N' => match b {
+            0 => 7, // N
+            b'a' => 11, // Na
+            b'b' => 41, // Nb
+            b'd' => 60, // Nd
+            b'e' => 10, // Ne
+            b'h' => 113, // Nh
+            b'i' => 28, // Ni
+            b'o' => 102, // No
+            b'p' => 93, // Np
+            _ => 0,
+        },
+        b'O' => match b {
+            0 => 8, // O
+            b'g' => 118, // Og
+            b's' => 76, // Os
+            _ => 0,
+        },
+        b'P' => match b {
+            0 => 15, // P
+            b'a' => 91, // Pa
+            b'b' => 82, // Pb
+            b'd' => 46, // Pd
+            b'm' => 61, // Pm
+            b'o' => 84, // Po
+            b'r' => 59, // Pr
+            b't' => 78, // Pt
+            b'u' => 94, // Pu
+            _ => 0,
+        },
+        b'Q' => 0, // no symbol begins with it
+        b'R' => match b {
+            b'a' => 88, // Ra
+            b'b' => 37, // Rb
+            b'e' => 75, // Re
+            b'f' => 104, // Rf
+            b'g' => 111, // Rg
+            b'h' => 45, // Rh
+            b'n' => 86, // Rn
+            b'u' => 44, // Ru
+            _ => 0,
+        },
+        b'S' => match b {
+            0 => 16, // S
+            b'b' => 51, // Sb
+            b'c' => 21, // Sc
+            b'e' => 34, // Se
+            b'g' => 106, // Sg
+            b'i' => 14, // Si
+            b'm' => 62, // Sm
+            b'n' => 50, // Sn
+            b'r' => 38, // Sr
+            _ => 0,
+        },
+        b'T' => match b {
+            b'a' => 73, // Ta
+            b'b' => 65, // Tb
+            b'c' => 43, // Tc
+            b'e' => 52, // Te
+            b'h' => 90, // Th
+            b'i' => 22, // Ti
+            b'l' => 81, // Tl
+            b'm' => 69, // Tm
+            b's' => 117, // Ts
+            _ => 0,
+        },
+        b'U' => match b {
+            0 => 92, // U
+            _ => 0,
+        },
+        b'V' => match b {
+            0 => 23, // V
+            _ => 0,
+        },
+        b'W' => match b {
+            0 => 74, // W
+            _ => 0,
+        },
+        b'X' => match b {
+            b'e' => 54, // Xe
+            _ => 0,
+        },
+        b'Y' => match b {
+            0 => 39, // Y
+            b'b' => 70, // Yb
+            _ => 0,
+        },
+        b'Z' => match b {
+            b'n' => 30, // Zn
+            b'r' => 40, // Zr
+            _ => 0,
+        },
+    }
 }
 
 fn is_capital(b: u8) -> bool
@@ -198,7 +389,7 @@ fn second_letter(s: &[u8]) -> u8
     b
 }
 
-// How many letters the symbol has that a part begins with; 0 where no capital stands first. No table is walked.
+// How many letters the symbol has that a part begins with; 0 where no capital stands first. No symbol is looked up.
 pub fn symbol_len(s: &[u8]) -> usize
     ensures { λ r. ⌜ r ≡ elementOf (now (s .entry)) .len ⌝ }
 {
