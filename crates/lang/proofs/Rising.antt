@@ -1,6 +1,6 @@
 -- Limits rise with the text. A limit that is not broken may stand anywhere (the 256th byte of a short text lies past its end), so only
 -- broken ones are spoken of: those of a part lie within its text, so those of parts one after the other come in the order of the parts.
--- At one place only a limit of the highest number, top, may have others behind it. Assumes nothing.
+-- Their numbers lie between two, bottom and top; at one place only a limit of the highest may have others behind it. Assumes nothing.
 use Prim.Native.Nat.{ℕ, _+_, _<_, _≤_}
 use mathlib.Core.Path.{_≡_}
 use mathlib.Core.List.{List, [], _∷_, _++_}
@@ -38,56 +38,57 @@ order-append (m ∷ ms) ns o q h = (front, order-append ms ns (o .1) q (λ x n i
 
 -- ---- marks
 
--- a place from lo to below hi, and a number that is not past the highest
-pub record Lies (top lo hi : ℕ) (m : Mark) : Type 0 where
+-- a place from lo to below hi, and a number from the lowest to the highest
+pub record Lies (bottom top lo hi : ℕ) (m : Mark) : Type 0 where
   pub above : lo ≤ m .place
   pub below : m .place < hi
+  pub least : bottom ≤ m .number
   pub number : m .number ≤ top
 
-pub record Rises (top lo hi : ℕ) (ms : List Mark) : Type 0 where
-  pub within : (m : Mark) → In m ms → T (m .broken) → Lies top lo hi m
+pub record Rises (bottom top lo hi : ℕ) (ms : List Mark) : Type 0 where
+  pub within : (m : Mark) → In m ms → T (m .broken) → Lies bottom top lo hi m
   pub order : InOrder ms
 
-pub rise-none : {top lo hi : ℕ} → Rises top lo hi []
+pub rise-none : {bottom top lo hi : ℕ} → Rises bottom top lo hi []
 rise-none = record { within = λ m i t. absurd (in-none i); order = tt }
 
-pub rise-one : {top lo hi : ℕ} {m : Mark} → (T (m .broken) → Lies top lo hi m) → Rises top lo hi (m ∷ [])
-rise-one {top} {lo} {hi} {m} h = record { within = within; order = (λ b n i t. absurd (in-none i), tt) }
+pub rise-one : {bottom top lo hi : ℕ} {m : Mark} → (T (m .broken) → Lies bottom top lo hi m) → Rises bottom top lo hi (m ∷ [])
+rise-one {bottom} {top} {lo} {hi} {m} h = record { within = within; order = (λ b n i t. absurd (in-none i), tt) }
   where
-    within : (n : Mark) → In n (m ∷ []) → T (n .broken) → Lies top lo hi n
+    within : (n : Mark) → In n (m ∷ []) → T (n .broken) → Lies bottom top lo hi n
     within n here t = h t
     within n (later i) t = absurd (in-none i)
 
 -- in front of the others, at the lowest place, one of the highest number: on a tie it is the one that is reported
-pub rise-first : {top lo hi : ℕ} {m : Mark} {ms : List Mark}
-    → m .place ≡ lo → m .number ≡ top → lo < hi → Rises top lo hi ms → Rises top lo hi (m ∷ ms)
-rise-first {top} {lo} {hi} {m} {ms} p q l r = record { within = within; order = (λ b. front, r .order) }
+pub rise-first : {bottom top lo hi : ℕ} {m : Mark} {ms : List Mark}
+    → m .place ≡ lo → bottom ≤ m .number → m .number ≡ top → lo < hi → Rises bottom top lo hi ms → Rises bottom top lo hi (m ∷ ms)
+rise-first {bottom} {top} {lo} {hi} {m} {ms} p b q l r = record { within = within; order = (λ t. front, r .order) }
   where
-    within : (n : Mark) → In n (m ∷ ms) → T (n .broken) → Lies top lo hi n
-    within n here t = record { above = omega arith; below = omega arith; number = omega arith }
+    within : (n : Mark) → In n (m ∷ ms) → T (n .broken) → Lies bottom top lo hi n
+    within n here t = record { above = omega arith; below = omega arith; least = b; number = omega arith }
     within n (later i) t = r .within n i t
 
     front : (n : Mark) → In n ms → T (n .broken) → Before m n
     front n i t = by (decLe (n .place) lo) (r .within n i t)
       where
-        by : Dec (n .place ≤ lo) → Lies top lo hi n → Before m n
+        by : Dec (n .place ≤ lo) → Lies bottom top lo hi n → Before m n
         by (yes y) w = let a = w .above in let k = w .number in inr (omega arith, omega arith)
         by (no z) w = inl (omega arith)
 
-pub rise-wide : {top lo hi low high : ℕ} {ms : List Mark} → low ≤ lo → hi ≤ high → Rises top lo hi ms → Rises top low high ms
-rise-wide {top} {lo} {hi} {low} {high} {ms} a b r = record { within = within; order = r .order }
+pub rise-wide : {bottom top lo hi low high : ℕ} {ms : List Mark} → low ≤ lo → hi ≤ high → Rises bottom top lo hi ms → Rises bottom top low high ms
+rise-wide {bottom} {top} {lo} {hi} {low} {high} {ms} a b r = record { within = within; order = r .order }
   where
-    within : (m : Mark) → In m ms → T (m .broken) → Lies top low high m
-    within m i t = let w = r .within m i t in record { above = omega arith; below = omega arith; number = w .number }
+    within : (m : Mark) → In m ms → T (m .broken) → Lies bottom top low high m
+    within m i t = let w = r .within m i t in record { above = omega arith; below = omega arith; least = w .least; number = w .number }
 
-pub rise-append : {top lo mid hi : ℕ} {ms ns : List Mark}
-    → lo ≤ mid → mid ≤ hi → Rises top lo mid ms → Rises top mid hi ns → Rises top lo hi (ms ++ ns)
-rise-append {top} {lo} {mid} {hi} {ms} {ns} a b r s = record { within = within; order = order-append ms ns (r .order) (s .order) apart }
+pub rise-append : {bottom top lo mid hi : ℕ} {ms ns : List Mark}
+    → lo ≤ mid → mid ≤ hi → Rises bottom top lo mid ms → Rises bottom top mid hi ns → Rises bottom top lo hi (ms ++ ns)
+rise-append {bottom} {top} {lo} {mid} {hi} {ms} {ns} a b r s = record { within = within; order = order-append ms ns (r .order) (s .order) apart }
   where
-    within : (m : Mark) → In m (ms ++ ns) → T (m .broken) → Lies top lo hi m
+    within : (m : Mark) → In m (ms ++ ns) → T (m .broken) → Lies bottom top lo hi m
     within m i t = by (in-either ms ns i)
       where
-        by : In m ms ⊎ In m ns → Lies top lo hi m
+        by : In m ms ⊎ In m ns → Lies bottom top lo hi m
         by (inl j) = rise-wide (le-refl lo) b r .within m j t
         by (inr j) = rise-wide a (le-refl hi) s .within m j t
 
@@ -102,14 +103,14 @@ room [] = 0
 room (p ∷ ps) = length (p .text) + room ps
 
 -- wherever the part begins, its broken limits lie in its text
-pub record Fits (top : ℕ) (p : Part) : Type 0 where
-  pub rises : (at : ℕ) → Rises top at (at + length (p .text)) (p .marks at)
+pub record Fits (bottom top : ℕ) (p : Part) : Type 0 where
+  pub rises : (at : ℕ) → Rises bottom top at (at + length (p .text)) (p .marks at)
 
-pub data AllFit (top : ℕ) : List Part → Type 0 where
-  none : AllFit top []
-  also : {p : Part} {ps : List Part} → Fits top p → AllFit top ps → AllFit top (p ∷ ps)
+pub data AllFit (bottom top : ℕ) : List Part → Type 0 where
+  none : AllFit bottom top []
+  also : {p : Part} {ps : List Part} → Fits bottom top p → AllFit bottom top ps → AllFit bottom top (p ∷ ps)
 
-pub parts-rise : {top : ℕ} {ps : List Part} → AllFit top ps → (at : ℕ) → Rises top at (at + room ps) (marksOf at ps)
+pub parts-rise : {bottom top : ℕ} {ps : List Part} → AllFit bottom top ps → (at : ℕ) → Rises bottom top at (at + room ps) (marksOf at ps)
 parts-rise none at = rise-none
 parts-rise (also {p = p} {ps = ps} f fs) at =
     let mid = at + length (p .text) in

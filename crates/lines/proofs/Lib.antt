@@ -7,3 +7,5 @@ pub mod Back
 pub mod Small
 pub mod Enough
 pub mod One
+pub mod StrayStays
+pub mod Same

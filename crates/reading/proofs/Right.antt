@@ -19,7 +19,7 @@ use Rattle.rules.specs.House.{firstBreach, firstExcess}
 use Rattle.rules.specs.Stored.{stored}
 use Rattle.rules.specs.Answers as rules
 use Rattle.rules.specs.Answers.{refuses, Delivers, no-room, done, Sound, ReadsSum, ReadsRules, ReadsSpelling, Reads}
-use Rattle.rules.proofs.FirstBroken.{first-wins, first-keeps}
+use Rattle.rules.proofs.FirstBroken.{first-wins, first-keeps, wins-number}
 use Rattle.rules.proofs.OneShape.{judged-shape, judged-misshapen}
 use Rattle.puts.specs.Puts.{maxPlace}
 use Rattle.terms.specs.declared.Fault.{Fault}
@@ -41,7 +41,7 @@ use Rattle.totals.proofs.Folds as folds
 use Rattle.totals.proofs.Folds.{breach-told, excess-told}
 use Rattle.totals.proofs.Through.{TotalsRead, totals-read}
 use Rattle.reading.proofs.Filled.{line-filled}
-use Rattle.totals.proofs.Numbered.{told, after-first, first-numbered, line-numbered}
+use Rattle.totals.proofs.Numbered.{told, line-first}
 use Rattle.reading.proofs.Counted.{counts-are, end-is}
 use Rattle.totals.proofs.Firsts.{first-limit, first-breach, first-excess}
 
@@ -104,7 +104,7 @@ module _ (room : ℕ) (small : room ≤ maxPlace) (s : Spelling) (fits : length 
   answer = countedOver (replicate room 0) line u
 
   limit-is : (o : Opt Mark) → firstBroken (lineMarks s) ≡ o → u .limit ≡ told o
-  limit-is o e = r .finds .limit ∙ after-first (lineMarks s) (line-numbered s) ∙ ap told e
+  limit-is o e = r .finds .limit ∙ line-first s ∙ ap told e
 
   -- within the limits
   module _ (kept : Kept (lineMarks s)) (e : u .limit .number ≡ 0) where
@@ -139,9 +139,10 @@ module _ (room : ℕ) (small : room ≤ maxPlace) (s : Spelling) (fits : length 
   spelling-read : (o : Opt Mark) → firstBroken (lineMarks s) ≡ o → ReadsSpelling s room answer
   spelling-read (written m) z =
       let b = limit-is (written m) z in
-      let n = first-numbered (lineMarks s) (line-numbered s) m z in
+      let w = first-wins s m z in
+      let n = wins-number s m w in
       let f = first-limit u (λ x. let y = ap (λ (g : Fault). g .number) b in omega arith) ∙ b in
-      subst (ReadsSpelling s room) (refused room line u (fault (m .number) (m .place)) f (λ x. omega arith)) (ReadsSpelling.limit m (first-wins s m z))
+      subst (ReadsSpelling s room) (refused room line u (fault (m .number) (m .place)) f (λ x. omega arith)) (ReadsSpelling.limit m w)
   spelling-read silent z =
       let kept = first-keeps s z in
       ReadsSpelling.kept kept (rules-read kept (ap (λ (g : Fault). g .number) (limit-is silent z)) (firstBreach 0 s) refl)

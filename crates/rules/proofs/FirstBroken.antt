@@ -1,5 +1,6 @@
 -- Document 01, "Numbers of refusal", 4 and 5: the broken limit of the lowest place is reported, 5 before 4 on a tie. It is the first
 -- broken one in the order of the line's limits, so a reader may stop at it. Assumes nothing.
+use Prim.Native.Nat.{_≤_}
 use mathlib.Core.Path.{_≡_}
 use Rattle.lang.specs.Parts.{silent, written}
 use Rattle.lang.specs.Mark.{Mark, Kept, Wins}
@@ -22,3 +23,8 @@ wins-first s m w = wins-written (lineMarks s) (line-rises s .order) m w
 
 pub keeps-first : (s : Spelling) → Kept (lineMarks s) → firstBroken (lineMarks s) ≡ silent
 keeps-first s k = keeps-silent (lineMarks s) k
+
+-- ---- its number
+
+pub wins-number : (s : Spelling) (m : Mark) → Wins (lineMarks s) m → 4 ≤ m .number
+wins-number s m w = line-rises s .within m (w .is-in) (w .broken) .least

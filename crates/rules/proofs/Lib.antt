@@ -18,6 +18,7 @@ pub mod Rising
 pub mod RisesParts
 pub mod Rises
 pub mod FirstBroken
+pub mod StrayStays
 pub mod Bounds
 pub mod Lengths
 pub mod Sizes

@@ -20,15 +20,15 @@ use Rattle.rules.specs.Limits.{maxText, numberMark, manyMark, decimalMar
 use Rattle.rules.specs.Limits.{bare, optPart, numberPart, decimalPart, rowMarks, rowPart, closedPart}
 use Rattle.rules.proofs.Digits.{digits-some}
 
--- 5 is the highest number of a limit
+-- the number of a limit is 4 or 5
 abbrev pub Rises : ℕ → ℕ → List Mark → Type 0
-Rises lo hi ms = R.Rises 5 lo hi ms
+Rises lo hi ms = R.Rises 4 5 lo hi ms
 
 abbrev pub Fits : Part → Type 0
-Fits p = R.Fits 5 p
+Fits p = R.Fits 4 5 p
 
 abbrev pub AllFit : List Part → Type 0
-AllFit ps = R.AllFit 5 ps
+AllFit ps = R.AllFit 4 5 ps
 
 -- ---- one mark
 
@@ -36,10 +36,10 @@ pub bare-fits : (w : List ℕ) → Fits (bare w)
 bare-fits w = record { rises = λ at. rise-none }
 
 pub number-rises : (bound n at hi : ℕ) → at < hi → Rises at hi (numberMark bound n at)
-number-rises bound n at hi h = rise-one (λ t. record { above = le-refl at; below = h; number = omega arith })
+number-rises bound n at hi h = rise-one (λ t. record { above = le-refl at; below = h; least = omega arith; number = omega arith })
 
 pub decimal-rises : (d : Decimal) (at hi : ℕ) → at < hi → Rises at hi (decimalMark d at)
-decimal-rises d at hi h = rise-one (λ t. record { above = le-refl at; below = h; number = omega arith })
+decimal-rises d at hi h = rise-one (λ t. record { above = le-refl at; below = h; least = omega arith; number = omega arith })
 
 pub number-fits : {m : ℕ} (bound : ℕ) (n : From m) → Fits (numberPart bound n)
 number-fits bound n = record { rises = λ at. number-rises bound (n .value) at _ (omega (arith, digits-some (n .value))) }
@@ -58,7 +58,7 @@ closed-fits text t h =
     record {
       rises = λ at. rise-one (λ b.
           let l = ltb→lt maxText (length (t .bytes)) b in
-          record { above = omega arith; below = omega arith; number = omega arith });
+          record { above = omega arith; below = omega arith; least = omega arith; number = omega arith });
     }
 
 pub braced-fits : {f : List ℕ → Bool} (t : Such f) → Fits (closedPart bracedText t)
@@ -83,7 +83,7 @@ parts-within {ps} f at n h = let k : at + room ps ≤ at + n = omega arith in ri
 
 -- a limit on how many there are, at the first byte of one of them, and then its own limits
 pub many-first : (bound i at n : ℕ) {ms : List Mark} → 0 < n → Rises at (at + n) ms → Rises at (at + n) (manyMark bound i at ∷ ms)
-many-first bound i at n h r = rise-first refl refl (omega arith) r
+many-first bound i at n h r = rise-first refl (omega arith) refl (omega arith) r
 
 -- things in a row, each with its limits in its own text
 module _ {A : Type 0} (text : A → List ℕ) (marks : ℕ → A → ℕ → List Mark)

@@ -21,7 +21,7 @@ use Rattle.rules.specs.Preferred.{preferred, preferredSpelling}
 use Rattle.rules.specs.Stored.{stored}
 use Rattle.rules.specs.Answers.{Answer, gives, Delivers, no-room, done, ReadsSum, ReadsRules, ReadsSpelling, Sound, Holds}
 use Rattle.rules.proofs.OneShape.{judged-shape, judged-misshapen}
-use Rattle.rules.proofs.FirstBroken.{wins-first}
+use Rattle.rules.proofs.FirstBroken.{wins-number}
 use Rattle.rules.proofs.OneShape.{misshapen-no-shape}
 use Rattle.rules.proofs.OneTable as OneTable
 use Rattle.puts.specs.Puts.{maxPlace}
@@ -30,7 +30,6 @@ use Rattle.shape.specs.declared.Verdict.the-variants.{Fine, Short, Stray}
 use Rattle.shape.specs.Verdicts.{JudgedBy}
 use Rattle.reading.specs.Readings.{spelledOver, anyOver}
 use Rattle.shape.proofs.OneSpelling.{one-spelling}
-use Rattle.totals.proofs.Numbered.{first-numbered, line-numbered}
 use Rattle.reading.proofs.Right.{spelled-right}
 use Rattle.reading.specs.Same.{sameBytes, allBytes}
 use Rattle.reading.specs.Back.{isRead, readsTo, zeros}
@@ -69,9 +68,7 @@ rules-as s room k (ReadsRules.breach p z) e = absurd (omega arith)
 rules-as s room k (ReadsRules.kept z r) e = sum-as s room k z r e
 
 pub spelling-as : (s : Spelling) (room : ℕ) {a : Answer} → ReadsSpelling s room a → a .number ≡ 0 → ReadAs s room a
-spelling-as s room (ReadsSpelling.limit m w) e =
-    let x = wins-first s m w in
-    absurd (let n = first-numbered (lineMarks s) (line-numbered s) (x .0) (x .1) in omega (arith, x .3))
+spelling-as s room (ReadsSpelling.limit m w) e = absurd (omega (arith, wins-number s m w))
 spelling-as s room (ReadsSpelling.kept k r) e = rules-as s room k r e
 
 -- ---- what is read of the preferred spelling of a sound table: the table

@@ -1,0 +1,45 @@
+-- A preferred spelling is relabelled to itself: what was given for a line, in an output that holds it, is given again. Assumes nothing.
+use Prim.Native.Nat.{ℕ, _≤_}
+use mathlib.Core.Path.{_≡_, refl, sym, ap, subst}
+use mathlib.Core.List.{List}
+use native.Mathlib.Omega.{arith}
+use lib.ListN.{length, take}
+use Rattle.rules.specs.Lines.{lineText}
+use Rattle.rules.specs.Limits.{maxLine}
+use Rattle.rules.specs.Preferred.{preferred}
+use Rattle.rules.specs.Answers.{Answer, gives, no-room, done, Reads, Writes, no-table, long, fits}
+use Rattle.writing.proofs.Holds.{take-given}
+use Rattle.lines.specs.Relabels.{maxTable, Relabels, refused, relabelled}
+use Rattle.lines.proofs.Small.{table-small}
+use Rattle.lines.proofs.Right.{reads-table, bytes-read}
+use Rattle.lines.proofs.Back.{read-back, relabels-one}
+
+-- the same bytes written again, in an output of another length
+writes-again : {bytes : List ℕ} {room room′ : ℕ} {a : Answer} → Writes bytes room a → a .number ≡ 0 → a .size ≤ room′
+    → Writes bytes room′ (gives room′ (take (a .size) (a .out)))
+writes-again (no-table n) e l = absurd (omega arith)
+writes-again (long t h g) e l = absurd (omega arith)
+writes-again (fits t h g (no-room d)) e l = absurd (omega arith)
+writes-again {bytes} {room} {room′} (fits t h g (done d)) e l =
+    subst (λ (w : List ℕ). Writes bytes room′ (gives room′ w)) (sym (take-given room (preferred t))) (fits t h g (done l))
+
+-- what was read has no more bytes than any table
+read-small : (line : List ℕ) {a : Answer} → Reads line maxTable a → a .number ≡ 0 → length (take (a .size) (a .out)) ≤ maxTable
+read-small line r e =
+    let x = reads-table line maxTable r e in
+    let h : length (lineText (x .spelling)) ≤ maxLine = omega (arith, x .short, ap length (x .text)) in
+    omega (arith, table-small (x .says) (x .sound) h, ap length (bytes-read line maxTable x))
+
+-- there is such an answer
+pub given-again : {line : List ℕ} {room room′ : ℕ} {a : Answer} → Relabels line room a → a .number ≡ 0 → a .size ≤ room′
+    → Relabels (take (a .size) (a .out)) room′ (gives room′ (take (a .size) (a .out)))
+given-again (refused r h) e l = absurd (h e)
+given-again {line} {room} {room′} {b} (relabelled {a = a} r n w) e l =
+    let table = take (a .size) (a .out) in
+    let again = subst (λ (v : List ℕ). Writes v room′ (gives room′ (take (b .size) (b .out)))) (sym (take-given maxTable table)) (writes-again w e l) in
+    relabelled (read-back w e maxTable (read-small line r n)) refl again
+
+-- and every answer is this one
+pub relabel-same : {line : List ℕ} {room room′ : ℕ} {a b : Answer} → Relabels line room a → a .number ≡ 0 → a .size ≤ room′
+    → Relabels (take (a .size) (a .out)) room′ b → b ≡ gives room′ (take (a .size) (a .out))
+relabel-same {a = a} r e l x = relabels-one (take (a .size) (a .out)) x (given-again r e l)
