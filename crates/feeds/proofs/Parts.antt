@@ -1,14 +1,11 @@
--- Ends in the rest of a slice, as places of the whole, and stretches of it. Assumes nothing.
-use Prim.Native.Nat.{ℕ, _+_, _-_, _≤_, _<_, min}
+-- Stretches of a slice. Assumes nothing.
+use Prim.Native.Nat.{ℕ, _+_, _-_, _≤_, min}
 use mathlib.Core.Path.{_≡_, sym, ap, _∙_}
 use mathlib.Core.List.{List}
 use native.Mathlib.Omega.{arith}
 use native.Mathlib.Decide.{decLe}
-use lib.ListN.{length, length-take, length-drop, take, drop, drop-of-length-le}
+use lib.ListN.{length, length-drop, take, drop, drop-of-length-le}
 use lib.Seq.{take-all, take-nil}
-
-pub within : (l : List ℕ) (a r : ℕ) → a < length l → r ≤ length (take (length l - a) (drop a l)) → a + r ≤ length l
-within l a r h e = omega (arith, length-take (length l - a) (drop a l), length-drop a l)
 
 -- as many as there are
 take-most : (l : List ℕ) (n : ℕ) → Dec (n ≤ length l) → take (min (length l) n) l ≡ take n l

@@ -6,10 +6,11 @@ fn main() {
         b"relabel",
         b"relabel spells each mzPAF line in its preferred form.
 
-Standard input has one line of annotations a line, as y5-NH3-H2O/0.20ppm. Lines end at line feeds, and the last may lack its own.
+Standard input has one line of annotations a line, as y5-NH3-H2O/0.20ppm. Lines end at line feeds,
+and the last may lack its own.
 
 Standard output has one answer a line: the preferred spelling, as y5-H2O-NH3/0.20ppm; or `!`, the number of
-refusal, a space and the place, as !3 4. It is never 0, 8 or 9.
+refusal, a space and the place, as !3 4. The number is never 0, 8 or 9.
 ",
         true,
     ) {

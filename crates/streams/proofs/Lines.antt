@@ -6,6 +6,7 @@ use mathlib.Core.List.{List, [], _∷_, _++_}
 use native.Mathlib.Omega.{arith}
 use lib.Dec.{ltb}
 use lib.ListN.{length, length-append}
+use borrow.Author.Tests.{lt-ltb}
 use Rattle.streams.specs.declared.Stream.{Stream}
 use Rattle.streams.specs.Streams.{maxPlace, left, lineIn}
 use Rattle.streams.specs.Found.{StandsFor, all, cut, Line, Ending, line, end, stops, goesOn, Next}
@@ -27,6 +28,14 @@ module _ {h : ℕ} {whole kept : List ℕ} where
   -- one that is longer than a limit below half a buffer is kept longer than that
   pub long-stays-long : (most : ℕ) → most < h → Line h whole kept → most < length whole → most < length kept
   long-stays-long most g l long = long-by most g (l .stands) long
+
+  found-by : 0 < h → StandsFor h whole kept → ltb 0 (length kept) ≡ ltb 0 (length whole)
+  found-by g (all e) = ap (λ (l : List ℕ). ltb 0 (length l)) e
+  found-by g (cut a b e) = lt-ltb 0 (length kept) (omega arith) ∙ sym (lt-ltb 0 (length whole) (omega arith))
+
+  -- a last line is found where there is one
+  pub last-found : 0 < h → Line h whole kept → ltb 0 (length kept) ≡ ltb 0 (length whole)
+  last-found g l = found-by g (l .stands)
 
 -- where the input is over and nothing is left, as in a stream that was stopped, nothing is found, and what failed is kept
 module _ (d e : List ℕ) (s r : Stream) (over : s .ended ≡ true) (none : left d s ≡ []) where

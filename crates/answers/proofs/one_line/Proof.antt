@@ -26,7 +26,11 @@ same-length-2 : tie.Need-same-length-2
 same-length-2 c = search needs
 
 returns : tie.Need-returns
-returns c = answered-by (c .before .before .before .before .before .before .before .before .before .before .before .room .ensures) (c .before .before .before .before .before .before .before .before .before .before .stretch .ensures) (c .before .before .before .before .before .before .before .before .read-one .ensures) (c .before .before .before .put-answer .ensures) (c .answered .ensures)
+returns c =
+    let at-read-one = c .before .before .before .before .before .before .before .before in
+    let at-stretch = at-read-one .before .before in
+    let at-room = at-stretch .before in
+    answered-by (at-room .room .ensures) (at-stretch .stretch .ensures) (at-read-one .read-one .ensures) (c .before .before .before .put-answer .ensures) (c .answered .ensures)
 
 pub one-line-spec : {M : Type 1} → statement M
 one-line-spec =

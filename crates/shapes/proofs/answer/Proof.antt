@@ -20,7 +20,11 @@ same-length : tie.Need-same-length
 same-length c = search needs
 
 returns : tie.Need-returns
-returns c = let a = c .before .before .before .before .before .before .before .before .before .before .args in shown-by (a .machine .now) (a .p) (c .before .before .before .before .before .before .room .ensures) (c .before .before .before .before .before .verdict .ensures) (c .before .before .before .put-verdict .ensures) (c .answered .ensures)
+returns c =
+    let at-verdict = c .before .before .before .before .before in
+    let at-room = at-verdict .before in
+    let at-args = at-room .before .before .before .before in
+    let a = at-args .args in shown-by (a .machine .now) (a .p) (at-room .room .ensures) (at-verdict .verdict .ensures) (c .before .before .before .put-verdict .ensures) (c .answered .ensures)
 
 pub answer-spec : {M : Type 1} → statement M
 answer-spec =

@@ -20,7 +20,11 @@ same-length : tie.Need-same-length
 same-length c = search needs
 
 returns : tie.Need-returns
-returns c = part-ends (c .before .before .before .before .before .if1 .taken) (c .before .before .before .before .before .before .before .stretch .ensures) (c .before .before .before .before .before .before .over .ensures) (c .before .before .before .answer .ensures) (c .begin .ensures)
+returns c =
+    let at-if1 = c .before .before .before .before .before in
+    let at-over = at-if1 .before in
+    let at-stretch = at-over .before in
+    part-ends (at-if1 .if1 .taken) (at-stretch .stretch .ensures) (at-over .over .ensures) (c .before .before .before .answer .ensures) (c .begin .ensures)
 
 returns-2 : tie.Need-returns-2
 returns-2 c = part-goes-on (c .if1 .left) (c .before .before .stretch .ensures) (c .before .over .ensures)

@@ -20,7 +20,11 @@ same-length : tie.Need-same-length
 same-length c = search needs
 
 returns : tie.Need-returns
-returns c = put-then (c .before .before .before .before .before .before .before .before .before .before .before .before .before .before .put-number .ensures) (put-then (c .before .before .before .before .before .before .before .before .before .before .put8 .ensures) (put-then (c .before .before .before .before .before .before .put-number2 .ensures) (c .before .before .put82 .ensures)))
+returns c =
+    let at-put-number2 = c .before .before .before .before .before .before in
+    let at-put8 = at-put-number2 .before .before .before .before in
+    let at-put-number = at-put8 .before .before .before .before in
+    put-then (at-put-number .put-number .ensures) (put-then (at-put8 .put8 .ensures) (put-then (at-put-number2 .put-number2 .ensures) (c .before .before .put82 .ensures)))
 
 pub put-place-spec : {M : Type 1} → statement M
 put-place-spec =

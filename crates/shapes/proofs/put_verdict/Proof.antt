@@ -30,19 +30,25 @@ same-length : tie.Need-same-length
 same-length c = search needs
 
 returns : tie.Need-returns
-returns c = verdict-as (sym (c .before .before .before .before .before .enum-told .given .1)) (λ line h. c .before .before .put-run .ensures)
+returns c =
+    let at-enum-told = c .before .before .before .before .before in
+    verdict-as (sym (at-enum-told .enum-told .given .1)) (λ line h. c .before .before .put-run .ensures)
 
 same-length-2 : tie.Need-same-length-2
 same-length-2 c = search needs
 
 returns-2 : tie.Need-returns-2
-returns-2 c = verdict-as (sym (c .before .before .before .before .enum-told2 .given .1)) (short-as (c .before .before .put-place .ensures))
+returns-2 c =
+    let at-enum-told2 = c .before .before .before .before in
+    verdict-as (sym (at-enum-told2 .enum-told2 .given .1)) (short-as (c .before .before .put-place .ensures))
 
 same-length-3 : tie.Need-same-length-3
 same-length-3 c = search needs
 
 returns-3 : tie.Need-returns-3
-returns-3 c = verdict-as (sym (c .before .before .before .before .before .v .given .1)) (λ line h. c .before .before .put-place2 .ensures)
+returns-3 c =
+    let at-v = c .before .before .before .before .before in
+    verdict-as (sym (at-v .v .given .1)) (λ line h. c .before .before .put-place2 .ensures)
 
 pub put-verdict-spec : {M : Type 1} → statement M
 put-verdict-spec =

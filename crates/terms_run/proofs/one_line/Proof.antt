@@ -23,7 +23,11 @@ same-length : tie.Need-same-length
 same-length c = search needs
 
 returns : tie.Need-returns
-returns c = answered-by (c .before .before .before .before .before .before .before .before .before .before .room .ensures) (c .before .before .before .before .before .before .before .before .before .stretch .ensures) (c .before .before .before .before .before .before .before .answer .ensures) (c .before .before .before .put8 .ensures) (c .answered .ensures)
+returns c =
+    let at-answer = c .before .before .before .before .before .before .before in
+    let at-stretch = at-answer .before .before in
+    let at-room = at-stretch .before in
+    answered-by (at-room .room .ensures) (at-stretch .stretch .ensures) (at-answer .answer .ensures) (c .before .before .before .put8 .ensures) (c .answered .ensures)
 
 pub one-line-spec : {M : Type 1} → statement M
 one-line-spec =

@@ -30,7 +30,12 @@ same-length-3 : tie.Need-same-length-3
 same-length-3 c = search needs
 
 returns : tie.Need-returns
-returns c = let a = c .before .before .before .before .before .before .before .before .before .before .before .before .before .before .before .before .before .before .before .before .before .args in answered-by (a .machine .now) (a .sized) (take (a .s .len) (drop (a .s .from) (a .buf .now))) (length (a .table .now)) (length (a .line .now)) (c .before .before .before .before .before .before .before .before .before .before .before .before .before .before .room .ensures) (c .before .before .before .before .before .before .before .before .before .before .before .before .before .stretch .ensures) (c .before .before .before .before .before .before .before .before .before .before .write-one .ensures) (c .before .before .before .put-answer .ensures) (c .answered .ensures)
+returns c =
+    let at-write-one = c .before .before .before .before .before .before .before .before .before .before in
+    let at-stretch = at-write-one .before .before .before in
+    let at-room = at-stretch .before in
+    let at-args = at-room .before .before .before .before .before .before .before in
+    let a = at-args .args in answered-by (a .machine .now) (a .sized) (take (a .s .len) (drop (a .s .from) (a .buf .now))) (length (a .table .now)) (length (a .line .now)) (at-room .room .ensures) (at-stretch .stretch .ensures) (at-write-one .write-one .ensures) (c .before .before .before .put-answer .ensures) (c .answered .ensures)
 
 pub one-table-spec : {M : Type 1} → statement M
 one-table-spec =
