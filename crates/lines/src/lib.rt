@@ -16,17 +16,17 @@ use openings::ahead;
 use puts::clear;
 use puts::put_run;
 use puts::put8;
-use totals::Totals;
-use totals::first_refusal;
-use totals::read_at;
 use reading::read_by;
-use totals::total;
 use respells::spell_annotation;
 use shape::Verdict;
 use shape::machine;
 use shape::scan_by;
 use terms::begins_with;
 use terms::rest;
+use totals::Totals;
+use totals::first_refusal;
+use totals::read_at;
+use totals::total;
 use writing::write_by;
 
 // The table that a line spells, or why there is none.

@@ -4,10 +4,10 @@ ghost use mathlib.Core.Path.{_≡_};
 ghost use Rattle.lang.specs.Parts.{flat};
 ghost use Rattle.puts.specs.Puts.{Put};
 ghost use Rattle.tells.specs.Tells.{hexDigit, hexByte, field, shown, told};
+use deliver::Answer;
 use feeds::stretch;
 use numbers::put_number;
 use puts::put8;
-use deliver::Answer;
 
 // The digit of a byte's low half.
 fn low_digit(b: u8) -> u8
