@@ -34,10 +34,10 @@ read-small line r e =
 pub given-again : {line : List ℕ} {room room′ : ℕ} {a : Answer} → Relabels line room a → a .number ≡ 0 → a .size ≤ room′
     → Relabels (take (a .size) (a .out)) room′ (gives room′ (take (a .size) (a .out)))
 given-again (refused r h) e l = absurd (h e)
-given-again {line} {room} {room′} {b} (relabelled {a = a} r n w) e l =
-    let table = take (a .size) (a .out) in
-    let again = subst (λ (v : List ℕ). Writes v room′ (gives room′ (take (b .size) (b .out)))) (sym (take-given maxTable table)) (writes-again w e l) in
-    relabelled (read-back w e maxTable (read-small line r n)) refl again
+given-again {line} {room} {room′} {a} (relabelled {a = t} r n w) e l =
+    let read = read-back w e maxTable (read-small line r n) in
+    let back = sym (take-given maxTable (take (t .size) (t .out))) in
+    relabelled read refl (subst (λ (v : List ℕ). Writes v room′ (gives room′ (take (a .size) (a .out)))) back (writes-again w e l))
 
 -- and every answer is this one
 pub relabel-same : {line : List ℕ} {room room′ : ℕ} {a b : Answer} → Relabels line room a → a .number ≡ 0 → a .size ≤ room′

@@ -8,10 +8,10 @@ use native.Mathlib.Omega.{arith}
 use lib.ListN.{length, take}
 use Rattle.lang.specs.Scan.{Stray}
 use Rattle.lang.proofs.OneStray.{stray-agrees}
-use Rattle.rules.specs.Lines.{Spelling, Shape, Misshapen, stray, short}
+use Rattle.rules.specs.Lines.{Spelling, Shape, Misshapen, stray, short, Judged, fine}
 use Rattle.rules.specs.Limits.{maxLine}
 use Rattle.rules.specs.Answers.{Answer, refuses, Delivers, no-room, done, ReadsSum, excess, ReadsRules, breach, ReadsSpelling, limit, Reads, long, misshapen, spelled}
-use Rattle.rules.proofs.OneShape.{misshapen-no-shape, misshapen-one}
+use Rattle.rules.proofs.OneShape.{misshapen-no-shape, misshapen-one, judged-one}
 use Rattle.rules.proofs.FirstBroken.{wins-number}
 
 -- ---- 2 is a stray byte and nothing else
@@ -59,3 +59,14 @@ stray-answered {a = a} r e small agrees = misshapen small (stray (a .place) (sti
 pub stray-stays : {line other : List ℕ} {room room′ : ℕ} {a b : Answer} → Reads line room a → a .number ≡ 2 → length other ≤ maxLine
     → take (a .place + 1) other ≡ take (a .place + 1) line → Reads other room′ b → b ≡ refuses room′ 2 (a .place)
 stray-stays r e small agrees x = stray-refused small (still-stray r e agrees) x
+
+-- ---- of the shape alone, of lines of any length
+
+judged-stray : {line : List ℕ} {n k : ℕ} → Judged line n k → n ≡ 2 → Stray Shape line k
+judged-stray (fine x) e = absurd (omega arith)
+judged-stray (Judged.misshapen (stray k s)) e = s
+judged-stray (Judged.misshapen (short b n)) e = absurd (omega arith)
+
+pub judged-stays : {line other : List ℕ} {m n j k : ℕ} → Judged line m j → m ≡ 2 → take (j + 1) other ≡ take (j + 1) line → Judged other n k
+    → (n ≡ 2) × (k ≡ j)
+judged-stays {j = j} x e agrees y = judged-one y (Judged.misshapen (stray j (stray-agrees Shape agrees (judged-stray x e))))
