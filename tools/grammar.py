@@ -1,4 +1,3 @@
-#!/usr/bin/env python3
 """The grammar of a line, read from where it stands: crates/shape/proofs/Grammar.antt, and the classes of bytes and the words that it takes from crates/rules/specs.
 
 It knows the forms that stand there and no others; where it meets another it says the line, and stops. A file has comments, `use PATH.{NAMES}`, and definitions:
