@@ -1,109 +1,18 @@
 #!/usr/bin/env python3
-"""Makes the scan's tables from the grammar of a line. Run it at the top of the repository when crates/shape/proofs/Grammar.antt changes:
+"""Makes the scan's tables from the grammar of a line, as it stands in crates/shape/proofs/Grammar.antt (tools/grammar.py reads it). Run it when that changes:
 
     python3 tools/tables.py
 
 It writes crates/shape/specs/Tables.antt, crates/shape/proofs/Rows.antt and crates/shape/src/tables.rt. Nothing is trusted of it:
-the check proves that the tables are those of the grammar, and that the grammar is that of the rules. The grammar below has the
-form of Grammar.antt, part by part, since the states are told apart by the stacks of parts that may follow.
+the check proves that the tables are those of the grammar, and that the grammar is that of the rules.
 """
 import functools
 import sys
 
+sys.dont_write_bytecode = True
+from grammar import ROOT, line_grammar
+
 sys.setrecursionlimit(100000)
-
-# ---- grammars: ('eps',), ('cls', ranges), ('seq', r, s), ('alt', r, s), ('star', r)
-
-EPS = ('eps',)
-
-
-def cls(*ranges):
-    return ('cls', tuple((ord(r[0]), ord(r[-1])) for r in ranges))
-
-
-def seq(r, *rest):
-    return ('seq', r, seq(*rest)) if rest else r
-
-
-def alt(r, *rest):
-    return ('alt', r, alt(*rest)) if rest else r
-
-
-def star(r):
-    return ('star', r)
-
-
-def opt(r):
-    return alt(EPS, r)
-
-
-def some(r):
-    return seq(r, star(r))
-
-
-def word(w):
-    if not w:
-        return EPS
-    return cls(w[0]) if len(w) == 1 else ('seq', cls(w[0]), word(w[1:]))
-
-
-def words(ws):
-    return ('alt', word(ws[0]), words(ws[1:])) if ws else ('cls', ())
-
-
-def head(first, others):
-    return seq(cls(*first), star(cls(*others)))
-
-
-def closed(opening, r, closing):
-    return seq(word(opening), seq(r, word(closing)))
-
-
-SYMBOLS = """H He Li Be B C N O F Ne Na Mg Al Si P S Cl Ar K Ca Sc Ti V Cr Mn Fe Co Ni Cu Zn Ga Ge As Se Br Kr Rb Sr Y Zr Nb Mo Tc Ru
-Rh Pd Ag Cd In Sn Sb Te I Xe Cs Ba La Ce Pr Nd Pm Sm Eu Gd Tb Dy Ho Er Tm Yb Lu Hf Ta W Re Os Ir Pt Au Hg Tl Pb Bi Po At Rn Fr Ra
-Ac Th Pa U Np Pu Am Cm Bk Cf Es Fm Md No Lr Rf Db Sg Bh Hs Mt Ds Rg Cn Nh Fl Mc Lv Ts Og""".split()
-SERIES = 'a b c d v w x y z da db wa wb'.split()
-
-
-def grammar():
-    digit = ['09']
-    number = head(['19'], digit)
-    two = alt(head(['29'], digit), seq(word('1'), head(digit, digit)))
-    nat = alt(word('0'), number)
-    decimal = seq(nat, opt(seq(word('.'), head(digit, digit))))
-    text_byte, name_byte = [' z', '|', '~'], [' Z', '\\', '^~']
-    braces = lambda r: closed('{', r, '}')
-    brackets = lambda r: closed('[', r, ']')
-    text, name = head(text_byte, text_byte), head(name_byte, name_byte)
-    loss_name = head(['AZ', 'az'], name_byte)
-    modification = alt(head([' L', 'NZ', '\\', '^~'], name_byte), seq(word('M'), opt(head([' *', ',', '.Z', '\\', '^~'], name_byte))))
-    symbol = words(SYMBOLS)
-    unit = alt(seq(symbol, opt(number)), brackets(seq(number, symbol, number)))
-    formula = some(unit)
-    ion = alt(
-        seq(words(SERIES), number, opt(braces(text))),
-        seq(word('m'), number, word(':'), number, opt(braces(text))),
-        seq(word('I'), cls('AZ'), opt(brackets(modification))),
-        word('p'),
-        seq(word('r'), brackets(name)),
-        seq(word('_'), braces(text)),
-        seq(word('f'), braces(formula)),
-        seq(word('s'), braces(text)),
-        seq(word('?'), opt(number)))
-    sign = alt(word('-'), word('+'))
-    loss = seq(sign, opt(two), alt(formula, brackets(loss_name)))
-    shift = seq(sign, opt(number), word('i'))
-    specific = seq(shift, number, symbol)
-    isotopes = alt(EPS, shift, seq(shift, word('A')), some(specific))
-    item = seq(sign, opt(number), alt(formula, word('e')))
-    adduct = alt(EPS, closed('[M', some(item), ']'))
-    analyte = seq(nat, word('@'))
-    charge = seq(word('^'), two)
-    deviation = seq(word('/'), opt(word('-')), decimal, opt(word('ppm')))
-    confidence = seq(word('*'), decimal)
-    annotation = seq(opt(word('&')), opt(analyte), ion, star(loss), isotopes, adduct, opt(charge), opt(deviation), opt(confidence))
-    return alt(EPS, seq(annotation, star(seq(word(','), annotation))))
-
 
 # ---- the machine: its states are lists of stacks of grammars
 
@@ -288,11 +197,10 @@ def tables_rt(classes, rows, accepts):
 
 
 def main():
-    classes, reps, rows, accepts, paths = machine(grammar())
+    classes, reps, rows, accepts, paths = machine(line_grammar())
     for path, text in [('crates/shape/specs/Tables.antt', tables_antt(classes, reps, rows, accepts, paths)),
                        ('crates/shape/proofs/Rows.antt', rows_antt(rows)), ('crates/shape/src/tables.rt', tables_rt(classes, rows, accepts))]:
-        with open(path, 'w', encoding='utf-8') as f:
-            f.write(text)
+        (ROOT / path).write_text(text, encoding='utf-8')
     print(f'{len(rows)} states, {len(reps)} classes')
 
 
