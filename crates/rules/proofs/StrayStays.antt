@@ -8,7 +8,7 @@ use native.Mathlib.Omega.{arith}
 use lib.ListN.{length, take}
 use Rattle.lang.specs.Scan.{Stray}
 use Rattle.lang.proofs.OneStray.{stray-agrees}
-use Rattle.rules.specs.Lines.{Spelling, Shape, Misshapen, stray, short, Judged, fine}
+use Rattle.rules.specs.Lines.{Spelling, Shape, stray, short, Judged, fine}
 use Rattle.rules.specs.Limits.{maxLine}
 use Rattle.rules.specs.Answers.{Answer, refuses, Delivers, no-room, done, ReadsSum, excess, ReadsRules, breach, ReadsSpelling, limit, Reads, long, misshapen, spelled}
 use Rattle.rules.proofs.OneShape.{misshapen-no-shape, misshapen-one, judged-one}
@@ -43,7 +43,7 @@ two-is-stray (spelled h s q r) e = absurd (spelling-not-two s r e)
 -- by the stray byte every answer is this one
 stray-refused : {line : List ℕ} {room k : ℕ} {a : Answer} → length line ≤ maxLine → Stray Shape line k → Reads line room a → a ≡ refuses room 2 k
 stray-refused l s (long h) = absurd (omega arith)
-stray-refused {room = room} {k} l s (misshapen h x) = let q = misshapen-one x (stray k s) in rw (q .0, q .1)
+stray-refused {k = k} l s (misshapen h x) = let q = misshapen-one x (stray k s) in rw (q .0, q .1)
 stray-refused {k = k} l s (spelled h u q r) = absurd (misshapen-no-shape (stray k s) (u, q))
 
 still-stray : {line other : List ℕ} {room : ℕ} {a : Answer} → Reads line room a → a .number ≡ 2
