@@ -20,7 +20,9 @@ begins-with-requires-2 : tie.Need-begins-with-requires-2
 begins-with-requires-2 c κs = search needs
 
 returns-2 : tie.Need-returns-2
-returns-2 c = (c .begins-with2 .ensures) ∙ ap (startsWith (bytes "M")) (c .before .rest .ensures) ∙ adduct-behind (c .before .before .before .before .before .args .s .now) (sym (c .before .before .before .begins-with .ensures) ∙ not-false _ (c .before .before .if1 .left))
+returns-2 c =
+    let at-args = c .before .before .before .before .before in
+    (c .begins-with2 .ensures) ∙ ap (startsWith (bytes "M")) (c .before .rest .ensures) ∙ adduct-behind (at-args .args .s .now) (sym (c .before .before .before .begins-with .ensures) ∙ not-false _ (c .before .before .if1 .left))
 
 pub begins-adduct-spec : {M : Type 1} → statement M
 begins-adduct-spec =

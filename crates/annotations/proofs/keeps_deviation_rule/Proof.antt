@@ -13,7 +13,9 @@ value-requires c κs = search needs
 
 returns-2 : tie.Need-returns-2
 unfolding deviationRuleOf
-returns-2 c = rw (not-false (c .before .before .before .before .args .d .minus) (c .before .before .if1 .left), c .value .ensures)
+returns-2 c =
+    let at-args = c .before .before .before .before in
+    rw (not-false (at-args .args .d .minus) (c .before .before .if1 .left), c .value .ensures)
 
 pub keeps-deviation-rule-spec : {M : Type 1} → statement M
 keeps-deviation-rule-spec = tie.close (tie.spec returns value-requires returns-2)

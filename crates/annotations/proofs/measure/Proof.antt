@@ -28,7 +28,13 @@ less-requires : tie.Need-less-requires
 less-requires c κs = search needs
 
 returns : tie.Need-returns
-returns c = measure-is (c .before .before .before .before .before .before .before .before .before .before .before .before .before .before .before .before .args .s .now) (c .before .before .before .before .before .before .before .before .before .before .before .before .before .before .before .before .args .p) (c .before .before .before .before .before .before .before .share-of .ensures) (c .before .before .before .before .before .before .rest .ensures) (c .before .before .before .before .before .rest2 .ensures) (c .before .before .before .before .ahead .ensures) (c .before .before .before .ahead2 .ensures) (c .before .before .keeps-rules .ensures) (c .before .rest3 .ensures) (c .less .ensures)
+returns c =
+    let at-ahead = c .before .before .before .before in
+    let at-rest2 = at-ahead .before in
+    let at-rest = at-rest2 .before in
+    let at-share-of = at-rest .before in
+    let at-args = at-share-of .before .before .before .before .before .before .before .before .before in
+    measure-is (at-args .args .s .now) (at-args .args .p) (at-share-of .share-of .ensures) (at-rest .rest .ensures) (at-rest2 .rest2 .ensures) (at-ahead .ahead .ensures) (c .before .before .before .ahead2 .ensures) (c .before .before .keeps-rules .ensures) (c .before .rest3 .ensures) (c .less .ensures)
 
 pub measure-spec : {M : Type 1} → statement M
 measure-spec =

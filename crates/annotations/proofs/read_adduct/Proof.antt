@@ -23,7 +23,10 @@ adduct-len-requires c κs = search needs
 
 returns-2 : tie.Need-returns-2
 unfolding adductOf
-returns-2 c = rw (sym (c .before .before .before .before .before .begins-adduct .ensures) ∙ not-false _ (c .before .before .before .before .if1 .left), c .adduct-len .ensures, c .before .before .read-pieces .ensures, c .before .before .before .rest .ensures)
+returns-2 c =
+    let at-if1 = c .before .before .before .before in
+    let at-begins-adduct = at-if1 .before in
+    rw (sym (at-begins-adduct .begins-adduct .ensures) ∙ not-false _ (at-if1 .if1 .left), c .adduct-len .ensures, c .before .before .read-pieces .ensures, c .before .before .before .rest .ensures)
 
 pub read-adduct-spec : {M : Type 1} → statement M
 read-adduct-spec =

@@ -19,7 +19,10 @@ less-requires : tie.Need-less-requires
 less-requires c κs = search needs
 
 returns : tie.Need-returns
-returns c = front-is (c .before .before .before .before .before .before .before .args .end) (c .before .before .before .before .before .before .before .args .s .now) (c .before .before .before .before .before .before .before .args .f) (c .before .before .before .before .before .read-prefix .ensures) (c .before .before .before .rest .ensures) (c .before .before .ion .ensures) (c .before .rest2 .ensures) (c .less .ensures)
+returns c =
+    let at-read-prefix = c .before .before .before .before .before in
+    let at-args = at-read-prefix .before .before in
+    front-is (at-args .args .end) (at-args .args .s .now) (at-args .args .f) (at-read-prefix .read-prefix .ensures) (c .before .before .before .rest .ensures) (c .before .before .ion .ensures) (c .before .rest2 .ensures) (c .less .ensures)
 
 pub read-front-spec : {M : Type 1} → statement M
 read-front-spec =

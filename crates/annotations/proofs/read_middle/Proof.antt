@@ -37,7 +37,14 @@ less-requires : tie.Need-less-requires
 less-requires c κs = search needs
 
 returns-2 : tie.Need-returns-2
-returns-2 c = middle-is (c .before .before .before .before .before .before .before .before .before .before .before .before .before .before .args .end) (c .before .before .before .before .before .before .before .before .before .before .before .before .before .before .args .s .now) (c .before .before .before .before .before .before .before .before .before .before .before .before .before .before .args .f) (c .before .before .before .before .before .before .before .before .before .before .read-pieces .ensures) (c .before .before .before .before .before .before .before .before .rest .ensures) (c .before .before .before .before .before .before .before .isotopes .ensures) (c .before .before .before .before .before .rest2 .ensures) (c .before .before .before .before .read-adduct .ensures) (c .before .before .ahead .ensures) (c .before .rest3 .ensures) (c .less .ensures)
+returns-2 c =
+    let at-read-adduct = c .before .before .before .before in
+    let at-rest2 = at-read-adduct .before in
+    let at-isotopes = at-rest2 .before .before in
+    let at-rest = at-isotopes .before in
+    let at-read-pieces = at-rest .before .before in
+    let at-args = at-read-pieces .before .before .before .before in
+    middle-is (at-args .args .end) (at-args .args .s .now) (at-args .args .f) (at-read-pieces .read-pieces .ensures) (at-rest .rest .ensures) (at-isotopes .isotopes .ensures) (at-rest2 .rest2 .ensures) (at-read-adduct .read-adduct .ensures) (c .before .before .ahead .ensures) (c .before .rest3 .ensures) (c .less .ensures)
 
 pub read-middle-spec : {M : Type 1} → statement M
 read-middle-spec =

@@ -25,7 +25,13 @@ read-tail-requires : tie.Need-read-tail-requires
 read-tail-requires c κs = search needs
 
 returns : tie.Need-returns
-returns c = parts-are (c .before .before .before .before .before .before .before .before .before .before .before .args .end) (c .before .before .before .before .before .before .before .before .before .before .before .args .s .now) (c .before .before .before .before .before .before .before .before .before .before .before .args .f) (c .before .before .before .before .before .before .before .before .before .before .before .args .i) (c .before .before .before .before .before .before .before .before .before .less .ensures) (c .before .before .before .before .before .before .before .before .many .ensures) (c .before .before .before .before .before .before .before .read-front .ensures) (c .before .before .before .before .rest .ensures) (c .before .before .before .read-middle .ensures) (c .before .rest2 .ensures) (c .read-tail .ensures)
+returns c =
+    let at-rest = c .before .before .before .before in
+    let at-read-front = at-rest .before .before .before in
+    let at-many = at-read-front .before in
+    let at-less = at-many .before in
+    let at-args = at-less .before .before in
+    parts-are (at-args .args .end) (at-args .args .s .now) (at-args .args .f) (at-args .args .i) (at-less .less .ensures) (at-many .many .ensures) (at-read-front .read-front .ensures) (at-rest .rest .ensures) (c .before .before .before .read-middle .ensures) (c .before .rest2 .ensures) (c .read-tail .ensures)
 
 pub read-parts-spec : {M : Type 1} → statement M
 read-parts-spec =

@@ -38,7 +38,13 @@ ahead-requires-2 c κs = search needs
 
 returns-2 : tie.Need-returns-2
 unfolding prefixOf
-returns-2 c = rw (← c .before .before .before .before .before .before .before .before .flag .ensures, ← c .before .before .before .before .before .before .before .rest .ensures, sym (c .before .before .before .before .before .before .begins-in .ensures) ∙ not-false _ (c .before .before .before .before .before .if1 .left), ← c .before .before .before .before .read-number .ensures, c .ahead2 .ensures, c .before .ahead .ensures, c .before .before .past .ensures, c .before .before .before .less .ensures)
+returns-2 c =
+    let at-read-number = c .before .before .before .before in
+    let at-if1 = at-read-number .before in
+    let at-begins-in = at-if1 .before in
+    let at-rest = at-begins-in .before in
+    let at-flag = at-rest .before in
+    rw (← at-flag .flag .ensures, ← at-rest .rest .ensures, sym (at-begins-in .begins-in .ensures) ∙ not-false _ (at-if1 .if1 .left), ← at-read-number .read-number .ensures, c .ahead2 .ensures, c .before .ahead .ensures, c .before .before .past .ensures, c .before .before .before .less .ensures)
 
 pub read-prefix-spec : {M : Type 1} → statement M
 read-prefix-spec =

@@ -25,7 +25,12 @@ less-requires : tie.Need-less-requires
 less-requires c κs = search needs
 
 returns : tie.Need-returns
-returns c = tail-is (c .before .before .before .before .before .before .before .before .before .before .args .end) (c .before .before .before .before .before .before .before .before .before .before .args .s .now) (c .before .before .before .before .before .before .before .before .before .before .args .f) (c .before .before .before .before .before .before .before .before .read-charge .ensures) (c .before .before .before .before .before .before .rest .ensures) (c .before .before .before .before .before .read-deviation .ensures) (c .before .before .before .rest2 .ensures) (c .before .before .read-confidence .ensures) (c .before .rest3 .ensures) (c .less .ensures)
+returns c =
+    let at-read-deviation = c .before .before .before .before .before in
+    let at-rest = at-read-deviation .before in
+    let at-read-charge = at-rest .before .before in
+    let at-args = at-read-charge .before .before in
+    tail-is (at-args .args .end) (at-args .args .s .now) (at-args .args .f) (at-read-charge .read-charge .ensures) (at-rest .rest .ensures) (at-read-deviation .read-deviation .ensures) (c .before .before .before .rest2 .ensures) (c .before .before .read-confidence .ensures) (c .before .rest3 .ensures) (c .less .ensures)
 
 pub read-tail-spec : {M : Type 1} → statement M
 read-tail-spec =

@@ -27,7 +27,8 @@ same-length-2 c = search needs
 
 returns : tie.Need-returns
 returns c =
-    let at-read-one = c .before .before .before .before .before .before .before .before in
+    let at-way = c .before .before .before .before .before .before .before .before in
+    let at-read-one = at-way in
     let at-stretch = at-read-one .before .before in
     let at-room = at-stretch .before in
     answered-by (at-room .room .ensures) (at-stretch .stretch .ensures) (at-read-one .read-one .ensures) (c .before .before .before .put-answer .ensures) (c .answered .ensures)

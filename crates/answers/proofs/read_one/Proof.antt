@@ -11,7 +11,9 @@ same-length : tie.Need-same-length
 same-length c = search needs
 
 returns : tie.Need-returns
-returns c = read-tested (c .before .before .before .before .if1 .taken) (c .before .before .read-sized .ensures)
+returns c =
+    let at-if1 = c .before .before .before .before in
+    read-tested (at-if1 .if1 .taken) (c .before .before .read-sized .ensures)
 
 read-by-requires : tie.Need-read-by-requires
 read-by-requires c κs = search needs
@@ -20,7 +22,9 @@ same-length-2 : tie.Need-same-length-2
 same-length-2 c = search needs
 
 returns-2 : tie.Need-returns-2
-returns-2 c = read-tested (c .before .before .before .before .if1 .left) (read-whole _ _ _ (c .before .table2 .given) (c .before .before .read-by .ensures))
+returns-2 c =
+    let at-if1 = c .before .before .before .before in
+    read-tested (at-if1 .if1 .left) (read-whole _ _ _ (c .before .table2 .given) (c .before .before .read-by .ensures))
 
 pub read-one-spec : {M : Type 1} → statement M
 read-one-spec =

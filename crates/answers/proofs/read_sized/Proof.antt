@@ -35,8 +35,13 @@ same-length c = search needs
 
 returns : tie.Need-returns
 returns c =
-    let a = c .before .before .before .before .before .before .before .before .before .before .before .before .args in
-    read-behind (a .asked .now) (a .table .now) _ _ (c .before .before .before .before .before .before .before .before .read-number .ensures) (c .before .before .before .before .before .before .before .stretch .ensures) (c .before .before .before .before .before .before .stretch2 .ensures) (c .before .before .before .before .behind .ensures) (c .before .before .read-by .ensures) (c .before .table .given .0) refl
+    let at-behind = c .before .before .before .before in
+    let at-stretch2 = at-behind .before .before in
+    let at-stretch = at-stretch2 .before in
+    let at-read-number = at-stretch .before in
+    let at-args = at-read-number .before .before .before .before in
+    let a = at-args .args in
+    read-behind (a .asked .now) (a .table .now) _ _ (at-read-number .read-number .ensures) (at-stretch .stretch .ensures) (at-stretch2 .stretch2 .ensures) (at-behind .behind .ensures) (c .before .before .read-by .ensures) (c .before .table .given .0) refl
 
 pub read-sized-spec : {M : Type 1} → statement M
 read-sized-spec =

@@ -32,7 +32,12 @@ loop-less : tie.Need-loop-less Inv-loop μ-loop
 loop-less c = omega (arith, moves (c .before .before .before .before .before .before .before .loop .inv) (c .before .before .before .before .before .before .rest .ensures) (sym (c .before .before .before .before .before .begins-piece .ensures) ∙ c .before .before .before .before .if1 .taken) (c .before .before .grow .ensures))
 
 loop-again : tie.Need-loop-again Inv-loop μ-loop
-loop-again c = turn (c .before .before .before .before .before .before .before .loop .inv) (c .before .before .before .before .before .before .rest .ensures) (sym (c .before .before .before .before .before .begins-piece .ensures) ∙ c .before .before .before .before .if1 .taken) (c .before .before .grow .ensures)
+loop-again c =
+    let at-if1 = c .before .before .before .before in
+    let at-begins-piece = at-if1 .before in
+    let at-rest = at-begins-piece .before in
+    let at-loop = at-rest .before in
+    turn (at-loop .loop .inv) (at-rest .rest .ensures) (sym (at-begins-piece .begins-piece .ensures) ∙ at-if1 .if1 .taken) (c .before .before .grow .ensures)
 
 same-length : tie.Need-same-length Inv-loop μ-loop
 same-length c = same-long (c .before .before .before .loop .inv)

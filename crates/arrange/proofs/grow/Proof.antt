@@ -28,7 +28,13 @@ same-length : tie.Need-same-length
 same-length c = search needs
 
 returns : tie.Need-returns
-returns c = grown (c .before .before .before .before .before .before .before .before .before .before .before .rest .ensures) (c .before .before .before .before .before .before .before .before .before .before .read-piece .ensures) (c .before .before .before .before .before .before .before .before .put-key .ensures) (c .before .before .before .before .before .ahead .ensures) (c .before .before .before .before .less .ensures) (c .before .with .ensures) (c .ahead2 .ensures)
+returns c =
+    let at-less = c .before .before .before .before in
+    let at-ahead = at-less .before in
+    let at-put-key = at-ahead .before .before .before in
+    let at-read-piece = at-put-key .before .before in
+    let at-rest = at-read-piece .before in
+    grown (at-rest .rest .ensures) (at-read-piece .read-piece .ensures) (at-put-key .put-key .ensures) (at-ahead .ahead .ensures) (at-less .less .ensures) (c .before .with .ensures) (c .ahead2 .ensures)
 
 pub grow-spec : {M : Type 1} → statement M
 grow-spec =

@@ -14,7 +14,10 @@ same-length : tie.Need-same-length
 same-length c = search needs
 
 returns : tie.Need-returns
-returns c = put-as (c .before .before .put-preferred .ensures) (key-units _ (c .before .before .before .before .before .before .before .before .before .args .x) (c .before .before .before .before .before .if1 .taken) (c .before .before .before .rest .ensures))
+returns c =
+    let at-if1 = c .before .before .before .before .before in
+    let at-args = at-if1 .before .before .before .before in
+    put-as (c .before .before .put-preferred .ensures) (key-units _ (at-args .args .x) (at-if1 .if1 .taken) (c .before .before .before .rest .ensures))
 
 less-requires : tie.Need-less-requires
 less-requires c κs = search needs
@@ -29,7 +32,11 @@ same-length-2 : tie.Need-same-length-2
 same-length-2 c = search needs
 
 returns-2 : tie.Need-returns-2
-returns-2 c = put-as (c .before .before .put-run .ensures) (key-rest _ (c .before .before .before .before .before .before .before .before .before .before .args .x) (c .before .before .before .before .before .before .if1 .left) (c .before .before .before .before .less .ensures) (c .before .before .before .part .ensures))
+returns-2 c =
+    let at-less = c .before .before .before .before in
+    let at-if1 = at-less .before .before in
+    let at-args = at-if1 .before .before .before .before in
+    put-as (c .before .before .put-run .ensures) (key-rest _ (at-args .args .x) (at-if1 .if1 .left) (at-less .less .ensures) (c .before .before .before .part .ensures))
 
 pub put-key-spec : {M : Type 1} → statement M
 put-key-spec =

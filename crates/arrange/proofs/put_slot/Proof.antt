@@ -29,7 +29,14 @@ same-length : tie.Need-same-length
 same-length c = search needs
 
 returns : tie.Need-returns
-returns c = ran-as (ran-then (ran-at _ (c .before .before .before .before .before .before .before .before .before .before .before .before .before .cursor .ensures) (c .before .before .before .before .before .before .before .before .before .before .before .before .put-slot-record .ensures) (c .before .before .before .before .before .before .before .before .before .with-cursor .ensures)) (ran-at 4 (c .before .before .before .before .before .cursor2 .ensures) (c .before .before .before .put-records .ensures) (c .with-cursor2 .ensures))) (slot-units _ _ _ (c .before .before .before .before .before .before .before .if1 .taken) (c .before .before .before .before .rest .ensures))
+returns c =
+    let at-rest = c .before .before .before .before in
+    let at-cursor2 = at-rest .before in
+    let at-if1 = at-cursor2 .before .before in
+    let at-with-cursor = at-if1 .before .before in
+    let at-put-slot-record = at-with-cursor .before .before .before in
+    let at-cursor = at-put-slot-record .before in
+    ran-as (ran-then (ran-at _ (at-cursor .cursor .ensures) (at-put-slot-record .put-slot-record .ensures) (at-with-cursor .with-cursor .ensures)) (ran-at 4 (at-cursor2 .cursor2 .ensures) (c .before .before .before .put-records .ensures) (c .with-cursor2 .ensures))) (slot-units _ _ _ (at-if1 .if1 .taken) (at-rest .rest .ensures))
 
 cursor-requires-3 : tie.Need-cursor-requires-3
 cursor-requires-3 c κs = search needs
@@ -50,13 +57,26 @@ same-length-2 : tie.Need-same-length-2
 same-length-2 c = search needs
 
 returns-2 : tie.Need-returns-2
-returns-2 c = ran-as (ran-then (ran-at _ (c .before .before .before .before .before .before .before .before .before .before .before .before .before .before .before .before .cursor .ensures) (c .before .before .before .before .before .before .before .before .before .before .before .before .before .before .before .put-slot-record .ensures) (c .before .before .before .before .before .before .before .before .before .before .before .before .with-cursor .ensures)) (ran-at 5 (c .before .before .before .before .before .before .cursor3 .ensures) (c .before .before .before .put-run .ensures) (c .with-cursor3 .ensures))) (slot-name _ _ _ (c .before .before .before .before .before .before .before .before .before .before .if1 .left) (c .before .before .before .before .before .before .before .before .if2 .taken) (c .before .before .before .before .before .rest2 .ensures) (c .before .before .before .before .part .ensures))
+returns-2 c =
+    let at-part = c .before .before .before .before in
+    let at-rest2 = at-part .before in
+    let at-cursor3 = at-rest2 .before in
+    let at-if2 = at-cursor3 .before .before in
+    let at-if1 = at-if2 .before .before in
+    let at-with-cursor = at-if1 .before .before in
+    let at-put-slot-record = at-with-cursor .before .before .before in
+    let at-cursor = at-put-slot-record .before in
+    ran-as (ran-then (ran-at _ (at-cursor .cursor .ensures) (at-put-slot-record .put-slot-record .ensures) (at-with-cursor .with-cursor .ensures)) (ran-at 5 (at-cursor3 .cursor3 .ensures) (c .before .before .before .put-run .ensures) (c .with-cursor3 .ensures))) (slot-name _ _ _ (at-if1 .if1 .left) (at-if2 .if2 .taken) (at-rest2 .rest2 .ensures) (at-part .part .ensures))
 
 same-length-3 : tie.Need-same-length-3
 same-length-3 c = search needs
 
 returns-3 : tie.Need-returns-3
-returns-3 c = ran-as (ran-at _ (c .before .before .before .before .before .before .before .before .cursor .ensures) (c .before .before .before .before .before .before .before .put-slot-record .ensures) (c .before .before .before .before .with-cursor .ensures)) (slot-bare _ _ _ (c .before .before .if1 .left) (c .if2 .left))
+returns-3 c =
+    let at-with-cursor = c .before .before .before .before in
+    let at-put-slot-record = at-with-cursor .before .before .before in
+    let at-cursor = at-put-slot-record .before in
+    ran-as (ran-at _ (at-cursor .cursor .ensures) (at-put-slot-record .put-slot-record .ensures) (at-with-cursor .with-cursor .ensures)) (slot-bare _ _ _ (c .before .before .if1 .left) (c .if2 .left))
 
 pub put-slot-spec : {M : Type 1} → statement M
 put-slot-spec =

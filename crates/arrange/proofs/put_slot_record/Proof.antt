@@ -28,7 +28,11 @@ same-length : tie.Need-same-length
 same-length c = search needs
 
 returns : tie.Need-returns
-returns c = put-then (put-then (put-then (c .before .before .before .before .before .before .before .before .before .before .before .before .before .before .before .before .put-le .ensures) (c .before .before .before .before .before .before .before .before .before .before .before .put-le2 .ensures)) (c .before .before .before .before .before .before .put-le3 .ensures)) (c .before .before .put-le4 .ensures)
+returns c =
+    let at-put-le3 = c .before .before .before .before .before .before in
+    let at-put-le2 = at-put-le3 .before .before .before .before .before in
+    let at-put-le = at-put-le2 .before .before .before .before .before in
+    put-then (put-then (put-then (at-put-le .put-le .ensures) (at-put-le2 .put-le2 .ensures)) (at-put-le3 .put-le3 .ensures)) (c .before .before .put-le4 .ensures)
 
 pub put-slot-record-spec : {M : Type 1} → statement M
 put-slot-record-spec =

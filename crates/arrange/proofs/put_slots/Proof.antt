@@ -38,7 +38,11 @@ loop-less : tie.Need-loop-less Inv-loop μ-loop
 loop-less c = search needs
 
 loop-again : tie.Need-loop-again Inv-loop μ-loop
-loop-again c = slots-turn _ (c .before .before .before .before .before .before .before .before .loop .inv) (c .before .before .before .before .before .before .if1 .taken) (c .before .before .before .before .before .if2 .left) (c .before .before .put-slot .ensures)
+loop-again c =
+    let at-if2 = c .before .before .before .before .before in
+    let at-if1 = at-if2 .before in
+    let at-loop = at-if1 .before .before in
+    slots-turn _ (at-loop .loop .inv) (at-if1 .if1 .taken) (at-if2 .if2 .left) (c .before .before .put-slot .ensures)
 
 same-length-2 : tie.Need-same-length-2 Inv-loop μ-loop
 same-length-2 c = c .before .before .loop .inv .going .same

@@ -17,7 +17,9 @@ same-length : tie.Need-same-length
 same-length c = search needs
 
 returns : tie.Need-returns
-returns c = stores-all (c .before .before .before .before .before .before .gather .ensures) (c .before .before .put-slots .ensures)
+returns c =
+    let at-gather = c .before .before .before .before .before .before in
+    stores-all (at-gather .gather .ensures) (c .before .before .put-slots .ensures)
 
 pub store-many-spec : {M : Type 1} → statement M
 store-many-spec =

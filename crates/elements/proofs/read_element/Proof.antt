@@ -10,7 +10,9 @@ returns : tie.Need-returns
 returns c = element-none (c .before .before .before .args .s .now) (c .before .symbol-len .ensures) (c .if1 .taken)
 
 shared-slice-read-atomic : tie.Need-shared-slice-read-atomic
-shared-slice-read-atomic c = element-some (c .before .before .before .before .args .s .now) (c .before .before .symbol-len .ensures) (c .before .if1 .left)
+shared-slice-read-atomic c =
+    let at-args = c .before .before .before .before in
+    element-some (at-args .args .s .now) (c .before .before .symbol-len .ensures) (c .before .if1 .left)
 
 second-letter-requires : tie.Need-second-letter-requires
 second-letter-requires c κs = search needs
@@ -19,7 +21,10 @@ atomic-requires : tie.Need-atomic-requires
 atomic-requires c κs = search needs
 
 returns-2 : tie.Need-returns-2
-returns-2 c = element-is (c .before .before .before .before .before .before .args .s .now) (c .before .before .before .before .symbol-len .ensures) (c .before .before .before .if1 .left) (c .before .second-letter .ensures) (c .atomic .ensures)
+returns-2 c =
+    let at-symbol-len = c .before .before .before .before in
+    let at-args = at-symbol-len .before .before in
+    element-is (at-args .args .s .now) (at-symbol-len .symbol-len .ensures) (c .before .before .before .if1 .left) (c .before .second-letter .ensures) (c .atomic .ensures)
 
 pub read-element-spec : {M : Type 1} → statement M
 read-element-spec =

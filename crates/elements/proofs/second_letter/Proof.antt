@@ -13,10 +13,14 @@ returns-2 : tie.Need-returns-2
 returns-2 c = second-below (c .before .before .before .args .s .now) (c .before .before .if1 .left) (c .if2 .taken)
 
 returns-3 : tie.Need-returns-3
-returns-3 c = second-above (c .before .before .before .before .args .s .now) (c .before .before .before .if1 .left) (c .if3 .taken)
+returns-3 c =
+    let at-args = c .before .before .before .before in
+    second-above (at-args .args .s .now) (c .before .before .before .if1 .left) (c .if3 .taken)
 
 returns-4 : tie.Need-returns-4
-returns-4 c = second-in (c .before .before .before .before .args .s .now) (c .before .before .before .if1 .left) (c .before .if2 .left) (c .if3 .left)
+returns-4 c =
+    let at-args = c .before .before .before .before in
+    second-in (at-args .args .s .now) (c .before .before .before .if1 .left) (c .before .if2 .left) (c .if3 .left)
 
 pub second-letter-spec : {M : Type 1} → statement M
 second-letter-spec = tie.close (tie.spec returns shared-slice-read-b returns-2 returns-3 returns-4)

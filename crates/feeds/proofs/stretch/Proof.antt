@@ -20,7 +20,9 @@ part-result-end : tie.Need-part-result-end
 part-result-end c = search needs
 
 returns : tie.Need-returns
-returns c = stretch-part (c .before .before .before .before .args .s .now) (c .before .before .before .before .args .from) (c .before .before .before .before .args .n) _ (c .before .behind .ensures)
+returns c =
+    let at-args = c .before .before .before .before in
+    stretch-part (at-args .args .s .now) (at-args .args .from) (at-args .args .n) _ (c .before .behind .ensures)
 
 slice-aggregate-result : tie.Need-slice-aggregate-result
 slice-aggregate-result c = search needs

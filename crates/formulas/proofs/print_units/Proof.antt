@@ -39,7 +39,12 @@ loop-less : tie.Need-loop-less Inv-loop μ-loop
 loop-less c = search needs
 
 loop-again : tie.Need-loop-again Inv-loop μ-loop
-loop-again c = chain-turn (λ r. preferredUnit (storedUnit r)) (λ r. 6) _ _ (c .before .before .before .before .before .before .before .before .loop .from) (c .before .before .before .before .before .before .before .before .loop .inv) (c .before .before .before .before .before .before .before .loop-test .taken) (c .before .before .before .put-unit .ensures) (ap preferredUnit (c .before .before .before .before .before .stored-unit .ensures ∙ ap storedUnit (c .before .before .before .before .before .before .rest .ensures))) (c .ahead .ensures)
+loop-again c =
+    let at-stored-unit = c .before .before .before .before .before in
+    let at-rest = at-stored-unit .before in
+    let at-loop-test = at-rest .before in
+    let at-loop = at-loop-test .before in
+    chain-turn (λ r. preferredUnit (storedUnit r)) (λ r. 6) _ _ (at-loop .loop .from) (at-loop .loop .inv) (at-loop-test .loop-test .taken) (c .before .before .before .put-unit .ensures) (ap preferredUnit (at-stored-unit .stored-unit .ensures ∙ ap storedUnit (at-rest .rest .ensures))) (c .ahead .ensures)
 
 same-length : tie.Need-same-length Inv-loop μ-loop
 same-length c = c .before .loop .inv .same

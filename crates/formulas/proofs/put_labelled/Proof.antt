@@ -30,7 +30,12 @@ same-length c = search needs
 
 returns : tie.Need-returns
 unfolding labelledText
-returns c = put-then (c .before .before .before .before .before .before .before .before .before .before .before .before .before .before .before .before .before .before .before .before .put8 .ensures) (put-then (put-then (c .before .before .before .before .before .before .before .before .before .before .before .before .before .before .before .put-number .ensures) (put-then (c .before .before .before .before .before .before .before .before .before .before .before .put-symbol .ensures) (c .before .before .before .before .before .before .put-number2 .ensures))) (c .before .before .put82 .ensures))
+returns c =
+    let at-put-number2 = c .before .before .before .before .before .before in
+    let at-put-symbol = at-put-number2 .before .before .before .before .before in
+    let at-put-number = at-put-symbol .before .before .before .before in
+    let at-put8 = at-put-number .before .before .before .before .before in
+    put-then (at-put8 .put8 .ensures) (put-then (put-then (at-put-number .put-number .ensures) (put-then (at-put-symbol .put-symbol .ensures) (at-put-number2 .put-number2 .ensures))) (c .before .before .put82 .ensures))
 
 pub put-labelled-spec : {M : Type 1} → statement M
 put-labelled-spec =

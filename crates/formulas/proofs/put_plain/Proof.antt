@@ -11,7 +11,9 @@ same-length : tie.Need-same-length
 same-length c = search needs
 
 returns : tie.Need-returns
-returns c = put-as (c .before .before .before .before .put-symbol .ensures) (plain-one _ (c .if1 .taken))
+returns c =
+    let at-put-symbol = c .before .before .before .before in
+    put-as (at-put-symbol .put-symbol .ensures) (plain-one _ (c .if1 .taken))
 
 cast-put-number : tie.Need-cast-put-number
 cast-put-number c = search needs
@@ -23,7 +25,10 @@ same-length-2 : tie.Need-same-length-2
 same-length-2 c = search needs
 
 returns-2 : tie.Need-returns-2
-returns-2 c = put-as (put-then (c .before .before .before .before .before .before .before .before .before .put-symbol .ensures) (c .before .before .put-number .ensures)) (plain-more _ (c .before .before .before .before .before .if1 .left))
+returns-2 c =
+    let at-if1 = c .before .before .before .before .before in
+    let at-put-symbol = at-if1 .before .before .before .before in
+    put-as (put-then (at-put-symbol .put-symbol .ensures) (c .before .before .put-number .ensures)) (plain-more _ (at-if1 .if1 .left))
 
 pub put-plain-spec : {M : Type 1} → statement M
 put-plain-spec =

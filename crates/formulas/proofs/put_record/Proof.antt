@@ -28,7 +28,11 @@ same-length : tie.Need-same-length
 same-length c = search needs
 
 returns : tie.Need-returns
-returns c = put-then (c .before .before .before .before .before .before .before .before .before .before .before .before .put-le .ensures) (put-then (c .before .before .before .before .before .before .before .put-le2 .ensures) (put-as (c .before .before .put-le3 .ensures) (sym (append-nil (little 2 (c .before .before .before .before .before .before .before .before .before .before .before .before .before .before .before .before .args .u .count))))))
+returns c =
+    let at-put-le2 = c .before .before .before .before .before .before .before in
+    let at-put-le = at-put-le2 .before .before .before .before .before in
+    let at-args = at-put-le .before .before .before .before in
+    put-then (at-put-le .put-le .ensures) (put-then (at-put-le2 .put-le2 .ensures) (put-as (c .before .before .put-le3 .ensures) (sym (append-nil (little 2 (at-args .args .u .count))))))
 
 pub put-record-spec : {M : Type 1} → statement M
 put-record-spec =

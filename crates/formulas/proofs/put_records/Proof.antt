@@ -41,7 +41,13 @@ loop-less : tie.Need-loop-less Inv-loop μ-loop
 loop-less c = search needs
 
 loop-again : tie.Need-loop-again Inv-loop μ-loop
-loop-again c = chain-turn (λ r. recordOf (unitOf r)) unitSize _ _ (c .before .before .before .before .before .before .before .before .loop .from) (c .before .before .before .before .before .before .before .before .loop .inv) (c .before .before .before .before .before .before .before .loop-test .taken) (c .before .before .before .put-record .ensures) (ap recordOf (c .before .before .before .before .before .unit .ensures ∙ ap unitOf (c .before .before .before .before .before .before .rest .ensures))) (c .ahead .ensures ∙ ap (λ (u : UnitRead). min (c .before .before .before .before .before .before .before .before .loop .from + u .len) (length (c .before .before .before .before .before .before .before .before .before .before .before .args .s .now))) (c .before .before .before .before .before .unit .ensures ∙ ap unitOf (c .before .before .before .before .before .before .rest .ensures)))
+loop-again c =
+    let at-unit = c .before .before .before .before .before in
+    let at-rest = at-unit .before in
+    let at-loop-test = at-rest .before in
+    let at-loop = at-loop-test .before in
+    let at-args = at-loop .before .before .before in
+    chain-turn (λ r. recordOf (unitOf r)) unitSize _ _ (at-loop .loop .from) (at-loop .loop .inv) (at-loop-test .loop-test .taken) (c .before .before .before .put-record .ensures) (ap recordOf (at-unit .unit .ensures ∙ ap unitOf (at-rest .rest .ensures))) (c .ahead .ensures ∙ ap (λ (u : UnitRead). min (at-loop .loop .from + u .len) (length (at-args .args .s .now))) (at-unit .unit .ensures ∙ ap unitOf (at-rest .rest .ensures)))
 
 same-length : tie.Need-same-length Inv-loop μ-loop
 same-length c = c .before .loop .inv .same

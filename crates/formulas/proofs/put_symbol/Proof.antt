@@ -18,7 +18,11 @@ same-length : tie.Need-same-length
 same-length c = search needs
 
 returns-2 : tie.Need-returns-2
-returns-2 c = put-as (c .before .before .before .before .put8 .ensures) (symbol-one _ (c .before .before .before .before .before .before .before .before .letters-of .ensures) (c .before .before .before .before .before .before .if1 .left) (c .if2 .taken))
+returns-2 c =
+    let at-put8 = c .before .before .before .before in
+    let at-if1 = at-put8 .before .before in
+    let at-letters-of = at-if1 .before .before in
+    put-as (at-put8 .put8 .ensures) (symbol-one _ (at-letters-of .letters-of .ensures) (at-if1 .if1 .left) (c .if2 .taken))
 
 put8-requires-2 : tie.Need-put8-requires-2
 put8-requires-2 c κs = search needs
@@ -27,7 +31,12 @@ same-length-2 : tie.Need-same-length-2
 same-length-2 c = search needs
 
 returns-3 : tie.Need-returns-3
-returns-3 c = put-as (put-then (c .before .before .before .before .before .before .before .before .put8 .ensures) (c .before .before .put82 .ensures)) (symbol-two _ (c .before .before .before .before .before .before .before .before .before .before .before .before .letters-of .ensures) (c .before .before .before .before .before .before .before .before .before .before .if1 .left) (c .before .before .before .before .if2 .left))
+returns-3 c =
+    let at-if2 = c .before .before .before .before in
+    let at-put8 = at-if2 .before .before .before .before in
+    let at-if1 = at-put8 .before .before in
+    let at-letters-of = at-if1 .before .before in
+    put-as (put-then (at-put8 .put8 .ensures) (c .before .before .put82 .ensures)) (symbol-two _ (at-letters-of .letters-of .ensures) (at-if1 .if1 .left) (at-if2 .if2 .left))
 
 pub put-symbol-spec : {M : Type 1} → statement M
 put-symbol-spec =

@@ -11,7 +11,9 @@ same-length : tie.Need-same-length
 same-length c = search needs
 
 returns : tie.Need-returns
-returns c = put-as (c .before .before .put-plain .ensures) (unit-plain _ (c .before .before .before .before .if1 .taken))
+returns c =
+    let at-if1 = c .before .before .before .before in
+    put-as (c .before .before .put-plain .ensures) (unit-plain _ (at-if1 .if1 .taken))
 
 put-labelled-requires : tie.Need-put-labelled-requires
 put-labelled-requires c κs = search needs
@@ -20,7 +22,9 @@ same-length-2 : tie.Need-same-length-2
 same-length-2 c = search needs
 
 returns-2 : tie.Need-returns-2
-returns-2 c = put-as (c .before .before .put-labelled .ensures) (unit-labelled _ (c .before .before .before .before .if1 .left))
+returns-2 c =
+    let at-if1 = c .before .before .before .before in
+    put-as (c .before .before .put-labelled .ensures) (unit-labelled _ (at-if1 .if1 .left))
 
 pub put-unit-spec : {M : Type 1} → statement M
 put-unit-spec =

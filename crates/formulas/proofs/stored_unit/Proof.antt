@@ -27,7 +27,9 @@ cast-t8 c = search needs
 
 returns : tie.Need-returns
 unfolding storedUnit
-returns c = λ i. record { nucleons = (c .before .before .before .before .word-at .ensures) i; element = (c .before .before .word-at2 .ensures ∙ ap wordOf (c .before .before .before .rest .ensures)) i; count = (c .word-at3 .ensures ∙ ap wordOf (c .before .rest2 .ensures)) i; «count_at» = 4; len = 6 }
+returns c =
+    let at-word-at = c .before .before .before .before in
+    λ i. record { nucleons = (at-word-at .word-at .ensures) i; element = (c .before .before .word-at2 .ensures ∙ ap wordOf (c .before .before .before .rest .ensures)) i; count = (c .word-at3 .ensures ∙ ap wordOf (c .before .rest2 .ensures)) i; «count_at» = 4; len = 6 }
 
 pub stored-unit-spec : {M : Type 1} → statement M
 stored-unit-spec =

@@ -14,7 +14,9 @@ same-length : tie.Need-same-length
 same-length c = search needs
 
 returns : tie.Need-returns
-returns c = put-then (c .before .before .before .before .before .before .put-sign .ensures) (c .before .before .put-count .ensures)
+returns c =
+    let at-put-sign = c .before .before .before .before .before .before in
+    put-then (at-put-sign .put-sign .ensures) (c .before .before .put-count .ensures)
 
 pub put-head-spec : {M : Type 1} → statement M
 put-head-spec = tie.close (tie.spec put-sign-requires put-count-requires same-length returns)

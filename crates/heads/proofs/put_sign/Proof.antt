@@ -12,7 +12,9 @@ same-length : tie.Need-same-length
 same-length c = search needs
 
 returns : tie.Need-returns
-returns c = put-as (c .before .before .put8 .ensures) (sign-minus _ (c .before .before .before .before .if1 .taken))
+returns c =
+    let at-if1 = c .before .before .before .before in
+    put-as (c .before .before .put8 .ensures) (sign-minus _ (at-if1 .if1 .taken))
 
 put8-requires-2 : tie.Need-put8-requires-2
 put8-requires-2 c κs = search needs
@@ -21,7 +23,9 @@ same-length-2 : tie.Need-same-length-2
 same-length-2 c = search needs
 
 returns-2 : tie.Need-returns-2
-returns-2 c = put-as (c .before .before .put82 .ensures) (sign-plus _ (c .before .before .before .before .if1 .left))
+returns-2 c =
+    let at-if1 = c .before .before .before .before in
+    put-as (c .before .before .put82 .ensures) (sign-plus _ (at-if1 .if1 .left))
 
 pub put-sign-spec : {M : Type 1} → statement M
 put-sign-spec =

@@ -26,18 +26,26 @@ returns-4 c = simp (le-ltb _ _ (c .before .before .before .if1 .left), lt-leb _ 
 
 returns-5 : tie.Need-returns-5
 unfolding hexValue
-returns-5 c = simp (le-ltb _ _ (c .before .before .before .before .if1 .left), lt-leb _ _ (c .before .before .before .if2 .left), le-ltb _ _ (c .before .before .if3 .left), lt-leb _ _ (c .before .if4 .left), lt-ltb _ _ (c .if5 .taken))
+returns-5 c =
+    let at-if1 = c .before .before .before .before in
+    simp (le-ltb _ _ (at-if1 .if1 .left), lt-leb _ _ (c .before .before .before .if2 .left), le-ltb _ _ (c .before .before .if3 .left), lt-leb _ _ (c .before .if4 .left), lt-ltb _ _ (c .if5 .taken))
 
 add-result-2 : tie.Need-add-result-2
 add-result-2 c = search needs
 
 returns-6 : tie.Need-returns-6
 unfolding hexValue
-returns-6 c = simp (le-ltb _ _ (c .before .before .before .before .before .if1 .left), lt-leb _ _ (c .before .before .before .before .if2 .left), le-ltb _ _ (c .before .before .before .if3 .left), lt-leb _ _ (c .before .before .if4 .left), le-ltb _ _ (c .before .if5 .left), le-leb _ _ (c .if6 .taken))
+returns-6 c =
+    let at-if2 = c .before .before .before .before in
+    let at-if1 = at-if2 .before in
+    simp (le-ltb _ _ (at-if1 .if1 .left), lt-leb _ _ (at-if2 .if2 .left), le-ltb _ _ (c .before .before .before .if3 .left), lt-leb _ _ (c .before .before .if4 .left), le-ltb _ _ (c .before .if5 .left), le-leb _ _ (c .if6 .taken))
 
 returns-7 : tie.Need-returns-7
 unfolding hexValue
-returns-7 c = simp (le-ltb _ _ (c .before .before .before .before .before .if1 .left), lt-leb _ _ (c .before .before .before .before .if2 .left), le-ltb _ _ (c .before .before .before .if3 .left), lt-leb _ _ (c .before .before .if4 .left), le-ltb _ _ (c .before .if5 .left), lt-leb _ _ (c .if6 .left))
+returns-7 c =
+    let at-if2 = c .before .before .before .before in
+    let at-if1 = at-if2 .before in
+    simp (le-ltb _ _ (at-if1 .if1 .left), lt-leb _ _ (at-if2 .if2 .left), le-ltb _ _ (c .before .before .before .if3 .left), lt-leb _ _ (c .before .before .if4 .left), le-ltb _ _ (c .before .if5 .left), lt-leb _ _ (c .if6 .left))
 
 pub hex-value-spec : {M : Type 1} → statement M
 hex-value-spec =

@@ -24,7 +24,9 @@ hex-value-requires : tie.Need-hex-value-requires Inv-loop μ-loop
 hex-value-requires c κs = search needs
 
 returns : tie.Need-returns Inv-loop μ-loop
-returns c = no-digit _ _ (c .before .before .before .before .loop .inv .1) (c .before .before .before .loop-test .taken) (c .before .hex-value .ensures) (c .if1 .taken)
+returns c =
+    let at-loop = c .before .before .before .before in
+    no-digit _ _ (at-loop .loop .inv .1) (c .before .before .before .loop-test .taken) (c .before .hex-value .ensures) (c .if1 .taken)
 
 add-i : tie.Need-add-i Inv-loop μ-loop
 add-i c = search needs

@@ -50,7 +50,9 @@ same-length : tie.Need-same-length Inv-loop μ-loop
 same-length c = search needs
 
 returns : tie.Need-returns Inv-loop μ-loop
-returns c = ends (c .before .loop .inv .1) (pair-none (c .before .before .before .before .args .s .now) (c .before .loop .i) (c .loop-test .left))
+returns c =
+    let at-args = c .before .before .before .before in
+    ends (c .before .loop .inv .1) (pair-none (at-args .args .s .now) (c .before .loop .i) (c .loop-test .left))
 
 pub put-unhexed-spec : {M : Type 1} → statement M
 put-unhexed-spec =

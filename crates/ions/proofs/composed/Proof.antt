@@ -17,7 +17,9 @@ ahead-requires-2 c κs = search needs
 
 returns : tie.Need-returns
 unfolding composedOf
-returns c = rw (c .ahead2 .ensures, c .before .ahead .ensures, c .before .before .before .formula .ensures, c .before .before .before .before .rest .ensures)
+returns c =
+    let at-rest = c .before .before .before .before in
+    rw (c .ahead2 .ensures, c .before .ahead .ensures, c .before .before .before .formula .ensures, at-rest .rest .ensures)
 
 pub composed-spec : {M : Type 1} → statement M
 composed-spec =

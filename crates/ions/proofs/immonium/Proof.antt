@@ -23,11 +23,17 @@ with-text-requires c κs = search needs
 
 returns : tie.Need-returns
 unfolding immoniumOf
-returns c = rw (← c .before .before .before .before .before .ahead .ensures, ← c .before .before .before .before .rest .ensures, ← c .before .before .before .opens-modification .ensures, c .before .before .if1 .taken, c .with-text .ensures, c .before .name-in-brackets .ensures, c .before .before .before .before .before .before .byte-at .ensures)
+returns c =
+    let at-rest = c .before .before .before .before in
+    let at-ahead = at-rest .before in
+    let at-byte-at = at-ahead .before in
+    rw (← at-ahead .ahead .ensures, ← at-rest .rest .ensures, ← c .before .before .before .opens-modification .ensures, c .before .before .if1 .taken, c .with-text .ensures, c .before .name-in-brackets .ensures, at-byte-at .byte-at .ensures)
 
 returns-2 : tie.Need-returns-2
 unfolding immoniumOf
-returns-2 c = rw (← c .before .before .before .ahead .ensures, ← c .before .before .rest .ensures, ← c .before .opens-modification .ensures, c .if1 .left, c .before .before .before .before .byte-at .ensures)
+returns-2 c =
+    let at-byte-at = c .before .before .before .before in
+    rw (← c .before .before .before .ahead .ensures, ← c .before .before .rest .ensures, ← c .before .opens-modification .ensures, c .if1 .left, at-byte-at .byte-at .ensures)
 
 pub immonium-spec : {M : Type 1} → statement M
 immonium-spec =

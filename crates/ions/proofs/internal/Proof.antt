@@ -52,7 +52,21 @@ with-text-requires : tie.Need-with-text-requires
 with-text-requires c κs = search needs
 
 returns : tie.Need-returns
-returns c = internal-is (c .before .before .before .before .before .before .before .before .before .before .before .before .before .before .before .before .before .args .s .now) (c .before .before .before .before .before .before .before .before .before .before .before .before .before .before .before .before .before .args .end) (c .before .before .before .before .before .before .before .before .before .before .before .before .before .before .before .before .before .args .f) (c .before .before .before .before .before .before .before .before .before .before .before .before .before .before .before .rest .ensures) (c .before .before .before .before .before .before .before .before .before .before .before .before .before .before .read-number .ensures) (c .before .before .before .before .before .before .before .before .before .before .before .before .before .less .ensures) (c .before .before .before .before .before .before .before .before .before .before .before .before .less2 .ensures) (c .before .before .before .before .before .before .before .before .before .before .before .past .ensures) (c .before .before .before .before .before .before .before .before .before .before .ahead .ensures) (c .before .before .before .before .before .before .before .before .before .ahead2 .ensures) (c .before .before .before .before .before .before .before .before .rest2 .ensures) (c .before .before .before .before .before .before .before .read-number2 .ensures) (c .before .before .before .before .before .before .less3 .ensures) (c .before .before .before .before .before .less4 .ensures) (c .before .before .before .before .past2 .ensures) (c .before .before .before .ahead3 .ensures) (c .before .before .rest3 .ensures) (c .before .text-in-braces .ensures) (c .with-text .ensures)
+returns c =
+    let at-past2 = c .before .before .before .before in
+    let at-less4 = at-past2 .before in
+    let at-less3 = at-less4 .before in
+    let at-read-number2 = at-less3 .before in
+    let at-rest2 = at-read-number2 .before in
+    let at-ahead2 = at-rest2 .before in
+    let at-ahead = at-ahead2 .before in
+    let at-past = at-ahead .before in
+    let at-less2 = at-past .before in
+    let at-less = at-less2 .before in
+    let at-read-number = at-less .before in
+    let at-rest = at-read-number .before in
+    let at-args = at-rest .before .before in
+    internal-is (at-args .args .s .now) (at-args .args .end) (at-args .args .f) (at-rest .rest .ensures) (at-read-number .read-number .ensures) (at-less .less .ensures) (at-less2 .less2 .ensures) (at-past .past .ensures) (at-ahead .ahead .ensures) (at-ahead2 .ahead2 .ensures) (at-rest2 .rest2 .ensures) (at-read-number2 .read-number2 .ensures) (at-less3 .less3 .ensures) (at-less4 .less4 .ensures) (at-past2 .past2 .ensures) (c .before .before .before .ahead3 .ensures) (c .before .before .rest3 .ensures) (c .before .text-in-braces .ensures) (c .with-text .ensures)
 
 pub internal-spec : {M : Type 1} → statement M
 internal-spec =

@@ -37,38 +37,56 @@ series-requires c κs = search needs
 
 returns : tie.Need-returns
 unfolding ionBy
-returns c = c .internal .ensures ∙ first-is (c .before .before .before .before .args .s .now) (c .before .before .before .before .args .end) (c .before .before .before .before .args .f) (c .before .before .byte-at .ensures) 109 (c .before .match .keys1)
+returns c =
+    let at-args = c .before .before .before .before in
+    c .internal .ensures ∙ first-is (at-args .args .s .now) (at-args .args .end) (at-args .args .f) (c .before .before .byte-at .ensures) 109 (c .before .match .keys1)
 
 returns-2 : tie.Need-returns-2
 unfolding ionBy
-returns-2 c = c .immonium .ensures ∙ first-is (c .before .before .before .before .args .s .now) (c .before .before .before .before .args .end) (c .before .before .before .before .args .f) (c .before .before .byte-at .ensures) 73 (c .before .match .keys2)
+returns-2 c =
+    let at-args = c .before .before .before .before in
+    c .immonium .ensures ∙ first-is (at-args .args .s .now) (at-args .args .end) (at-args .args .f) (c .before .before .byte-at .ensures) 73 (c .before .match .keys2)
 
 returns-3 : tie.Need-returns-3
 unfolding ionBy
-returns-3 c = c .precursor .ensures ∙ first-is (c .before .before .before .before .args .s .now) (c .before .before .before .before .args .end) (c .before .before .before .before .args .f) (c .before .before .byte-at .ensures) 112 (c .before .match .keys3)
+returns-3 c =
+    let at-args = c .before .before .before .before in
+    c .precursor .ensures ∙ first-is (at-args .args .s .now) (at-args .args .end) (at-args .args .f) (c .before .before .byte-at .ensures) 112 (c .before .match .keys3)
 
 returns-4 : tie.Need-returns-4
 unfolding ionBy
-returns-4 c = c .reference .ensures ∙ first-is (c .before .before .before .before .args .s .now) (c .before .before .before .before .args .end) (c .before .before .before .before .args .f) (c .before .before .byte-at .ensures) 114 (c .before .match .keys4)
+returns-4 c =
+    let at-args = c .before .before .before .before in
+    c .reference .ensures ∙ first-is (at-args .args .s .now) (at-args .args .end) (at-args .args .f) (c .before .before .byte-at .ensures) 114 (c .before .match .keys4)
 
 returns-5 : tie.Need-returns-5
 unfolding ionBy
-returns-5 c = c .braced .ensures ∙ first-is (c .before .before .before .before .args .s .now) (c .before .before .before .before .args .end) (c .before .before .before .before .args .f) (c .before .before .byte-at .ensures) 95 (c .before .match .keys5)
+returns-5 c =
+    let at-args = c .before .before .before .before in
+    c .braced .ensures ∙ first-is (at-args .args .s .now) (at-args .args .end) (at-args .args .f) (c .before .before .byte-at .ensures) 95 (c .before .match .keys5)
 
 returns-6 : tie.Need-returns-6
 unfolding ionBy
-returns-6 c = c .composed .ensures ∙ first-is (c .before .before .before .before .args .s .now) (c .before .before .before .before .args .end) (c .before .before .before .before .args .f) (c .before .before .byte-at .ensures) 102 (c .before .match .keys6)
+returns-6 c =
+    let at-args = c .before .before .before .before in
+    c .composed .ensures ∙ first-is (at-args .args .s .now) (at-args .args .end) (at-args .args .f) (c .before .before .byte-at .ensures) 102 (c .before .match .keys6)
 
 returns-7 : tie.Need-returns-7
 unfolding ionBy
-returns-7 c = c .braced2 .ensures ∙ first-is (c .before .before .before .before .args .s .now) (c .before .before .before .before .args .end) (c .before .before .before .before .args .f) (c .before .before .byte-at .ensures) 115 (c .before .match .keys7)
+returns-7 c =
+    let at-args = c .before .before .before .before in
+    c .braced2 .ensures ∙ first-is (at-args .args .s .now) (at-args .args .end) (at-args .args .f) (c .before .before .byte-at .ensures) 115 (c .before .match .keys7)
 
 returns-8 : tie.Need-returns-8
 unfolding ionBy
-returns-8 c = c .unknown .ensures ∙ first-is (c .before .before .before .before .args .s .now) (c .before .before .before .before .args .end) (c .before .before .before .before .args .f) (c .before .before .byte-at .ensures) 63 (c .before .match .keys8)
+returns-8 c =
+    let at-args = c .before .before .before .before in
+    c .unknown .ensures ∙ first-is (at-args .args .s .now) (at-args .args .end) (at-args .args .f) (c .before .before .byte-at .ensures) 63 (c .before .match .keys8)
 
 returns-9 : tie.Need-returns-9
-returns-9 c = c .series .ensures ∙ first-other (c .before .before .before .before .args .s .now) (c .before .before .before .before .args .end) (c .before .before .before .before .args .f) (c .before .before .byte-at .ensures) (c .before .match .rest)
+returns-9 c =
+    let at-args = c .before .before .before .before in
+    c .series .ensures ∙ first-other (at-args .args .s .now) (at-args .args .end) (at-args .args .f) (c .before .before .byte-at .ensures) (c .before .match .rest)
 
 pub ion-spec : {M : Type 1} → statement M
 ion-spec =

@@ -35,7 +35,14 @@ with-text-requires c κs = search needs
 
 returns : tie.Need-returns
 unfolding seriesOf
-returns c = rw (c .with-text .ensures, c .before .text-in-braces .ensures, c .before .before .rest2 .ensures, c .before .before .before .ahead .ensures, c .before .before .before .before .past .ensures, c .before .before .before .before .before .less2 .ensures, c .before .before .before .before .before .before .less .ensures, c .before .before .before .before .before .before .before .read-number .ensures, c .before .before .before .before .before .before .before .before .rest .ensures, c .before .before .before .before .before .before .before .before .before .series-name .ensures)
+returns c =
+    let at-past = c .before .before .before .before in
+    let at-less2 = at-past .before in
+    let at-less = at-less2 .before in
+    let at-read-number = at-less .before in
+    let at-rest = at-read-number .before in
+    let at-series-name = at-rest .before in
+    rw (c .with-text .ensures, c .before .text-in-braces .ensures, c .before .before .rest2 .ensures, c .before .before .before .ahead .ensures, at-past .past .ensures, at-less2 .less2 .ensures, at-less .less .ensures, at-read-number .read-number .ensures, at-rest .rest .ensures, at-series-name .series-name .ensures)
 
 pub series-spec : {M : Type 1} → statement M
 series-spec =

@@ -13,16 +13,26 @@ two-letters-requires : tie.Need-two-letters-requires
 two-letters-requires c κs = search needs
 
 returns : tie.Need-returns
-returns c = letters-two (c .before .before .before .before .before .args .s .now) (c .before .before .before .byte-at .ensures) (c .before .before .byte-at2 .ensures) (c .before .two-letters .ensures) (c .if1 .taken)
+returns c =
+    let at-args = c .before .before .before .before .before in
+    letters-two (at-args .args .s .now) (c .before .before .before .byte-at .ensures) (c .before .before .byte-at2 .ensures) (c .before .two-letters .ensures) (c .if1 .taken)
 
 one-letter-requires : tie.Need-one-letter-requires
 one-letter-requires c κs = search needs
 
 returns-2 : tie.Need-returns-2
-returns-2 c = letters-one (c .before .before .before .before .before .before .before .args .s .now) (c .before .before .before .before .before .byte-at .ensures) (c .before .before .before .before .byte-at2 .ensures) (c .before .before .before .two-letters .ensures) (c .before .before .if1 .left) (c .before .one-letter .ensures) (c .if2 .taken)
+returns-2 c =
+    let at-byte-at2 = c .before .before .before .before in
+    let at-byte-at = at-byte-at2 .before in
+    let at-args = at-byte-at .before .before in
+    letters-one (at-args .args .s .now) (at-byte-at .byte-at .ensures) (at-byte-at2 .byte-at2 .ensures) (c .before .before .before .two-letters .ensures) (c .before .before .if1 .left) (c .before .one-letter .ensures) (c .if2 .taken)
 
 returns-3 : tie.Need-returns-3
-returns-3 c = letters-none (c .before .before .before .before .before .before .before .args .s .now) (c .before .before .before .before .before .byte-at .ensures) (c .before .before .before .before .byte-at2 .ensures) (c .before .before .before .two-letters .ensures) (c .before .before .if1 .left) (c .before .one-letter .ensures) (c .if2 .left)
+returns-3 c =
+    let at-byte-at2 = c .before .before .before .before in
+    let at-byte-at = at-byte-at2 .before in
+    let at-args = at-byte-at .before .before in
+    letters-none (at-args .args .s .now) (at-byte-at .byte-at .ensures) (at-byte-at2 .byte-at2 .ensures) (c .before .before .before .two-letters .ensures) (c .before .before .if1 .left) (c .before .one-letter .ensures) (c .if2 .left)
 
 pub series-name-spec : {M : Type 1} → statement M
 series-name-spec =

@@ -21,11 +21,15 @@ returns-4 c = rw (ne-eqb (c .before .before .before .args .a) 100 (c .before .be
 
 returns-5 : tie.Need-returns-5
 unfolding twoLetters
-returns-5 c = rw (ne-eqb (c .before .before .before .before .args .a) 100 (c .before .before .before .if1 .left), eq-eqb (c .before .before .before .before .args .a) 119 (c .before .before .if4 .taken), ne-eqb (c .before .before .before .before .args .b) 97 (c .before .if5 .left), eq-eqb (c .before .before .before .before .args .b) 98 (c .if6 .taken))
+returns-5 c =
+    let at-args = c .before .before .before .before in
+    rw (ne-eqb (at-args .args .a) 100 (c .before .before .before .if1 .left), eq-eqb (at-args .args .a) 119 (c .before .before .if4 .taken), ne-eqb (at-args .args .b) 97 (c .before .if5 .left), eq-eqb (at-args .args .b) 98 (c .if6 .taken))
 
 returns-6 : tie.Need-returns-6
 unfolding twoLetters
-returns-6 c = rw (ne-eqb (c .before .before .before .before .args .a) 100 (c .before .before .before .if1 .left), eq-eqb (c .before .before .before .before .args .a) 119 (c .before .before .if4 .taken), ne-eqb (c .before .before .before .before .args .b) 97 (c .before .if5 .left), ne-eqb (c .before .before .before .before .args .b) 98 (c .if6 .left))
+returns-6 c =
+    let at-args = c .before .before .before .before in
+    rw (ne-eqb (at-args .args .a) 100 (c .before .before .before .if1 .left), eq-eqb (at-args .args .a) 119 (c .before .before .if4 .taken), ne-eqb (at-args .args .b) 97 (c .before .if5 .left), ne-eqb (at-args .args .b) 98 (c .if6 .left))
 
 returns-7 : tie.Need-returns-7
 unfolding twoLetters

@@ -23,7 +23,10 @@ ahead-requires c κs = search needs
 
 returns : tie.Need-returns
 unfolding unknownOf
-returns c = rw (c .ahead .ensures, c .before .past .ensures, c .before .before .less2 .ensures, c .before .before .before .less .ensures, c .before .before .before .before .read-number .ensures, c .before .before .before .before .before .rest .ensures)
+returns c =
+    let at-read-number = c .before .before .before .before in
+    let at-rest = at-read-number .before in
+    rw (c .ahead .ensures, c .before .past .ensures, c .before .before .less2 .ensures, c .before .before .before .less .ensures, at-read-number .read-number .ensures, at-rest .rest .ensures)
 
 pub unknown-spec : {M : Type 1} → statement M
 unknown-spec =

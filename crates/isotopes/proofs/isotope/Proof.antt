@@ -35,7 +35,16 @@ isotope-fault-requires : tie.Need-isotope-fault-requires
 isotope-fault-requires c κs = search needs
 
 returns : tie.Need-returns
-returns c = specific-is (c .before .before .before .before .before .before .before .before .before .before .before .before .args .i) (c .before .before .before .before .before .before .before .before .before .before .before .before .args .end) (c .before .before .before .before .before .before .before .before .before .before .before .before .args .s .now) (c .before .before .before .before .before .before .before .before .before .before .before .before .args .f) (c .before .before .before .before .before .before .before .before .before .before .read-head .ensures) (c .before .before .before .before .before .before .before .before .before .ahead .ensures) (c .before .before .before .before .before .before .before .before .rest .ensures) (sym (c .before .before .before .before .before .before .before .begins-in .ensures) ∙ c .before .before .before .before .before .before .if1 .taken) (c .before .before .before .before .before .read-number .ensures) (c .before .before .before .before .rest2 .ensures) (c .before .before .before .read-element .ensures) (c .before .before .ahead2 .ensures) (c .before .ahead3 .ensures) (c .isotope-fault .ensures)
+returns c =
+    let at-rest2 = c .before .before .before .before in
+    let at-read-number = at-rest2 .before in
+    let at-if1 = at-read-number .before in
+    let at-begins-in = at-if1 .before in
+    let at-rest = at-begins-in .before in
+    let at-ahead = at-rest .before in
+    let at-read-head = at-ahead .before in
+    let at-args = at-read-head .before .before in
+    specific-is (at-args .args .i) (at-args .args .end) (at-args .args .s .now) (at-args .args .f) (at-read-head .read-head .ensures) (at-ahead .ahead .ensures) (at-rest .rest .ensures) (sym (at-begins-in .begins-in .ensures) ∙ at-if1 .if1 .taken) (at-read-number .read-number .ensures) (at-rest2 .rest2 .ensures) (c .before .before .before .read-element .ensures) (c .before .before .ahead2 .ensures) (c .before .ahead3 .ensures) (c .isotope-fault .ensures)
 
 isotope-fault-requires-2 : tie.Need-isotope-fault-requires-2
 isotope-fault-requires-2 c κs = search needs
@@ -47,10 +56,23 @@ ahead-requires-4 : tie.Need-ahead-requires-4
 ahead-requires-4 c κs = search needs
 
 returns-2 : tie.Need-returns-2
-returns-2 c = average-is (c .before .before .before .before .before .before .before .before .before .before .args .i) (c .before .before .before .before .before .before .before .before .before .before .args .end) (c .before .before .before .before .before .before .before .before .before .before .args .s .now) (c .before .before .before .before .before .before .before .before .before .before .args .f) (c .before .before .before .before .before .before .before .before .read-head .ensures) (c .before .before .before .before .before .before .before .ahead .ensures) (c .before .before .before .before .before .before .rest .ensures) (sym (c .before .before .before .before .before .begins-in .ensures) ∙ c .before .before .before .before .if1 .left) (sym (c .before .before .begins-with .ensures) ∙ c .before .if2 .taken) (c .ahead4 .ensures) (c .before .before .before .isotope-fault2 .ensures)
+returns-2 c =
+    let at-if1 = c .before .before .before .before in
+    let at-begins-in = at-if1 .before in
+    let at-rest = at-begins-in .before in
+    let at-ahead = at-rest .before in
+    let at-read-head = at-ahead .before in
+    let at-args = at-read-head .before .before in
+    average-is (at-args .args .i) (at-args .args .end) (at-args .args .s .now) (at-args .args .f) (at-read-head .read-head .ensures) (at-ahead .ahead .ensures) (at-rest .rest .ensures) (sym (at-begins-in .begins-in .ensures) ∙ at-if1 .if1 .left) (sym (c .before .before .begins-with .ensures) ∙ c .before .if2 .taken) (c .ahead4 .ensures) (c .before .before .before .isotope-fault2 .ensures)
 
 returns-3 : tie.Need-returns-3
-returns-3 c = plain-is (c .before .before .before .before .before .before .before .before .before .args .i) (c .before .before .before .before .before .before .before .before .before .args .end) (c .before .before .before .before .before .before .before .before .before .args .s .now) (c .before .before .before .before .before .before .before .before .before .args .f) (c .before .before .before .before .before .before .before .read-head .ensures) (c .before .before .before .before .before .before .ahead .ensures) (c .before .before .before .before .before .rest .ensures) (sym (c .before .before .before .before .begins-in .ensures) ∙ c .before .before .before .if1 .left) (sym (c .before .begins-with .ensures) ∙ c .if2 .left) (c .before .before .isotope-fault2 .ensures)
+returns-3 c =
+    let at-begins-in = c .before .before .before .before in
+    let at-rest = at-begins-in .before in
+    let at-ahead = at-rest .before in
+    let at-read-head = at-ahead .before in
+    let at-args = at-read-head .before .before in
+    plain-is (at-args .args .i) (at-args .args .end) (at-args .args .s .now) (at-args .args .f) (at-read-head .read-head .ensures) (at-ahead .ahead .ensures) (at-rest .rest .ensures) (sym (at-begins-in .begins-in .ensures) ∙ c .before .before .before .if1 .left) (sym (c .before .begins-with .ensures) ∙ c .if2 .left) (c .before .before .isotope-fault2 .ensures)
 
 pub isotope-spec : {M : Type 1} → statement M
 isotope-spec =

@@ -40,10 +40,18 @@ loop-less : tie.Need-loop-less Inv-loop μ-loop
 loop-less c = omega (arith, moves (c .before .before .before .before .before .before .before .loop .inv) (c .before .before .before .before .before .before .rest .ensures) (c .before .before .before .before .before .before .before .loop .n) (c .before .before .before .before .before .before .before .before .before .args .end) (c .before .before .before .before .before .before .before .loop .fault) (sym (c .before .before .before .before .before .begins-isotope .ensures) ∙ c .before .before .before .before .if1 .taken) (c .before .before .before .rest2 .ensures) (c .before .before .isotope .ensures))
 
 loop-again : tie.Need-loop-again Inv-loop μ-loop
-loop-again c = counts (c .before .before .before .before .before .before .before .before .before .args .end) (c .before .before .before .before .before .before .before .loop .inv) (c .before .before .before .before .before .before .rest .ensures) (sym (c .before .before .before .before .before .begins-isotope .ensures) ∙ c .before .before .before .before .if1 .taken) (c .before .before .before .rest2 .ensures) (c .before .before .isotope .ensures)
+loop-again c =
+    let at-if1 = c .before .before .before .before in
+    let at-begins-isotope = at-if1 .before in
+    let at-rest = at-begins-isotope .before in
+    let at-loop = at-rest .before in
+    let at-args = at-loop .before .before in
+    counts (at-args .args .end) (at-loop .loop .inv) (at-rest .rest .ensures) (sym (at-begins-isotope .begins-isotope .ensures) ∙ at-if1 .if1 .taken) (c .before .before .before .rest2 .ensures) (c .before .before .isotope .ensures)
 
 returns : tie.Need-returns Inv-loop μ-loop
-returns c = counted-all (c .before .before .before .before .before .args .end) (c .before .before .before .loop .inv) (c .before .before .rest .ensures) (sym (c .before .begins-isotope .ensures) ∙ c .if1 .left)
+returns c =
+    let at-args = c .before .before .before .before .before in
+    counted-all (at-args .args .end) (c .before .before .before .loop .inv) (c .before .before .rest .ensures) (sym (c .before .begins-isotope .ensures) ∙ c .if1 .left)
 
 pub isotopes-spec : {M : Type 1} → statement M
 isotopes-spec =

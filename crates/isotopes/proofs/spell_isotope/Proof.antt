@@ -23,7 +23,12 @@ same-length : tie.Need-same-length
 same-length c = search needs
 
 returns : tie.Need-returns
-returns c = spelled-is (c .before .before .before .before .before .before .before .before .before .before .before .before .before .args .s .now) (c .before .before .before .before .before .before .before .before .before .before .before .before .before .args .x) (c .before .before .before .before .before .before .before .before .before .before .read-head .ensures) (c .before .before .before .before .less .ensures) (c .before .before .before .part .ensures) (c .before .before .before .before .before .before .before .before .put-head .ensures) (c .before .before .put-run .ensures)
+returns c =
+    let at-less = c .before .before .before .before in
+    let at-put-head = at-less .before .before .before .before in
+    let at-read-head = at-put-head .before .before in
+    let at-args = at-read-head .before .before .before in
+    spelled-is (at-args .args .s .now) (at-args .args .x) (at-read-head .read-head .ensures) (at-less .less .ensures) (c .before .before .before .part .ensures) (at-put-head .put-head .ensures) (c .before .before .put-run .ensures)
 
 pub spell-isotope-spec : {M : Type 1} → statement M
 spell-isotope-spec =

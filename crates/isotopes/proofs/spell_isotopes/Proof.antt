@@ -44,7 +44,15 @@ loop-less : tie.Need-loop-less Inv-loop μ-loop
 loop-less c = omega (arith, moves (c .before .before .before .before .before .before .before .before .before .before .before .loop .inv .puts .passed) (c .before .before .before .before .before .before .before .before .before .before .rest .ensures) 0 0 (fault 0 0) (sym (c .before .before .before .before .before .before .before .before .before .begins-isotope .ensures) ∙ c .before .before .before .before .before .before .before .before .if1 .taken) (c .before .before .before .before .before .before .before .rest2 .ensures) (c .before .before .before .before .before .before .isotope .ensures))
 
 loop-again : tie.Need-loop-again Inv-loop μ-loop
-loop-again c = spells (c .before .before .before .before .before .before .before .before .before .before .before .loop .inv) (c .before .before .before .before .before .before .before .before .before .before .rest .ensures) (sym (c .before .before .before .before .before .before .before .before .before .begins-isotope .ensures) ∙ c .before .before .before .before .before .before .before .before .if1 .taken) (c .before .before .before .before .before .before .before .rest2 .ensures) (c .before .before .before .before .before .before .isotope .ensures) (c .before .before .before .before .rest3 .ensures) (c .before .before .before .spell-isotope .ensures)
+loop-again c =
+    let at-rest3 = c .before .before .before .before in
+    let at-isotope = at-rest3 .before .before in
+    let at-rest2 = at-isotope .before in
+    let at-if1 = at-rest2 .before in
+    let at-begins-isotope = at-if1 .before in
+    let at-rest = at-begins-isotope .before in
+    let at-loop = at-rest .before in
+    spells (at-loop .loop .inv) (at-rest .rest .ensures) (sym (at-begins-isotope .begins-isotope .ensures) ∙ at-if1 .if1 .taken) (at-rest2 .rest2 .ensures) (at-isotope .isotope .ensures) (at-rest3 .rest3 .ensures) (c .before .before .before .spell-isotope .ensures)
 
 same-length : tie.Need-same-length Inv-loop μ-loop
 same-length c = put-length (c .before .before .before .loop .inv .puts .put)

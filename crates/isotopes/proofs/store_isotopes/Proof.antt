@@ -43,7 +43,14 @@ loop-less : tie.Need-loop-less Inv-loop μ-loop
 loop-less c = omega (arith, moves (c .before .before .before .before .before .before .before .before .before .before .loop .inv .passed) (c .before .before .before .before .before .before .before .before .before .rest .ensures) 0 0 (fault 0 0) (sym (c .before .before .before .before .before .before .before .before .begins-isotope .ensures) ∙ c .before .before .before .before .before .before .before .if1 .taken) (c .before .before .before .before .before .before .rest2 .ensures) (c .before .before .before .before .before .isotope .ensures))
 
 loop-again : tie.Need-loop-again Inv-loop μ-loop
-loop-again c = files (c .before .before .before .before .before .before .before .before .before .before .loop .inv) (c .before .before .before .before .before .before .before .before .before .rest .ensures) (sym (c .before .before .before .before .before .before .before .before .begins-isotope .ensures) ∙ c .before .before .before .before .before .before .before .if1 .taken) (c .before .before .before .before .before .before .rest2 .ensures) (c .before .before .before .before .before .isotope .ensures) (c .before .before .before .put-isotope .ensures)
+loop-again c =
+    let at-isotope = c .before .before .before .before .before in
+    let at-rest2 = at-isotope .before in
+    let at-if1 = at-rest2 .before in
+    let at-begins-isotope = at-if1 .before in
+    let at-rest = at-begins-isotope .before in
+    let at-loop = at-rest .before in
+    files (at-loop .loop .inv) (at-rest .rest .ensures) (sym (at-begins-isotope .begins-isotope .ensures) ∙ at-if1 .if1 .taken) (at-rest2 .rest2 .ensures) (at-isotope .isotope .ensures) (c .before .before .before .put-isotope .ensures)
 
 same-length : tie.Need-same-length Inv-loop μ-loop
 same-length c = put-length (c .before .before .before .loop .inv .put)

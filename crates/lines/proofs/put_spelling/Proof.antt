@@ -14,7 +14,10 @@ same-length : tie.Need-same-length
 same-length c = search needs
 
 returns : tie.Need-returns
-returns c = copied _ _ _ (c .before .before .before .before .before .is-plain .ensures) (c .before .before .before .before .if1 .taken) (c .before .before .put-run .ensures)
+returns c =
+    let at-if1 = c .before .before .before .before in
+    let at-is-plain = at-if1 .before in
+    copied _ _ _ (at-is-plain .is-plain .ensures) (at-if1 .if1 .taken) (c .before .before .put-run .ensures)
 
 spell-line-requires : tie.Need-spell-line-requires
 spell-line-requires c κs = search needs
@@ -23,7 +26,10 @@ same-length-2 : tie.Need-same-length-2
 same-length-2 c = search needs
 
 returns-2 : tie.Need-returns-2
-returns-2 c = anew _ _ _ (c .before .before .before .before .before .is-plain .ensures) (c .before .before .before .before .if1 .left) (c .before .before .spell-line .ensures)
+returns-2 c =
+    let at-if1 = c .before .before .before .before in
+    let at-is-plain = at-if1 .before in
+    anew _ _ _ (at-is-plain .is-plain .ensures) (at-if1 .if1 .left) (c .before .before .spell-line .ensures)
 
 pub put-spelling-spec : {M : Type 1} → statement M
 put-spelling-spec =

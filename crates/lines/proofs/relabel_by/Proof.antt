@@ -15,7 +15,9 @@ same-length : tie.Need-same-length
 same-length c = search needs
 
 returns : tie.Need-returns
-returns c = long-of _ _ _ (c .before .before .before .before .before .if1 .taken) (c .before .before .before .clear .ensures) (c .refuse .ensures)
+returns c =
+    let at-if1 = c .before .before .before .before .before in
+    long-of _ _ _ (at-if1 .if1 .taken) (c .before .before .before .clear .ensures) (c .refuse .ensures)
 
 scan-by-requires : tie.Need-scan-by-requires
 scan-by-requires c κs = search needs
@@ -48,19 +50,31 @@ same-length-2 : tie.Need-same-length-2
 same-length-2 c = search needs
 
 returns-2 : tie.Need-returns-2
-returns-2 c = fine-of _ _ (c .before .before .before .before .before .before .before .if1 .left) (sym (c .before .before .before .before .before .before .scan-by .ensures) ∙ c .before .before .before .before .enum-told .given .1) (c .before .before .relabel-spelled .ensures)
+returns-2 c =
+    let at-enum-told = c .before .before .before .before in
+    let at-scan-by = at-enum-told .before .before in
+    let at-if1 = at-scan-by .before in
+    fine-of _ _ (at-if1 .if1 .left) (sym (at-scan-by .scan-by .ensures) ∙ at-enum-told .enum-told .given .1) (c .before .before .relabel-spelled .ensures)
 
 same-length-3 : tie.Need-same-length-3
 same-length-3 c = search needs
 
 returns-3 : tie.Need-returns-3
-returns-3 c = short-of _ _ (c .before .before .before .before .before .before .before .before .if1 .left) (sym (c .before .before .before .before .before .before .before .scan-by .ensures) ∙ c .before .before .before .before .before .enum-told2 .given .1) (c .before .before .before .clear2 .ensures) (c .refuse2 .ensures)
+returns-3 c =
+    let at-enum-told2 = c .before .before .before .before .before in
+    let at-scan-by = at-enum-told2 .before .before in
+    let at-if1 = at-scan-by .before in
+    short-of _ _ (at-if1 .if1 .left) (sym (at-scan-by .scan-by .ensures) ∙ at-enum-told2 .enum-told2 .given .1) (c .before .before .before .clear2 .ensures) (c .refuse2 .ensures)
 
 same-length-4 : tie.Need-same-length-4
 same-length-4 c = search needs
 
 returns-4 : tie.Need-returns-4
-returns-4 c = stray-of _ _ (c .before .before .before .before .before .before .before .before .before .if1 .left) (sym (c .before .before .before .before .before .before .before .before .scan-by .ensures) ∙ c .before .before .before .before .before .before .place .given .1) (c .before .before .before .clear3 .ensures) (c .refuse3 .ensures)
+returns-4 c =
+    let at-place = c .before .before .before .before .before .before in
+    let at-scan-by = at-place .before .before in
+    let at-if1 = at-scan-by .before in
+    stray-of _ _ (at-if1 .if1 .left) (sym (at-scan-by .scan-by .ensures) ∙ at-place .place .given .1) (c .before .before .before .clear3 .ensures) (c .refuse3 .ensures)
 
 pub relabel-by-spec : {M : Type 1} → statement M
 relabel-by-spec =

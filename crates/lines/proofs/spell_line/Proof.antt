@@ -52,16 +52,40 @@ ahead-requires-3 : tie.Need-ahead-requires-3 Inv-loop μ-loop
 ahead-requires-3 c κs = search needs
 
 loop-less : tie.Need-loop-less Inv-loop μ-loop
-loop-less c = spelling-falls _ (c .before .before .before .before .before .before .before .before .before .before .before .before .before .before .before .loop .inv) (c .before .before .before .before .before .before .before .before .before .before .before .before .before .before .rest .ensures) (sym (c .before .before .before .before .before .before .before .before .before .before .before .before .before .begins-with .ensures) ∙ c .before .before .before .before .before .before .before .before .before .before .before .before .if2 .taken) (c .before .before .before .before .before .before .before .before .before .before .before .ahead2 .ensures) (c .before .before .before .before .before .before .before .before .before .before .read-at .ensures) (c .before .before .before .before .rest2 .ensures) (c .before .before .before .before .before .before .before .before .put8 .ensures) (c .before .before .before .spell-annotation2 .ensures) (c .ahead3 .ensures)
+loop-less c =
+    let at-rest2 = c .before .before .before .before in
+    let at-put8 = at-rest2 .before .before .before .before in
+    let at-read-at = at-put8 .before .before in
+    let at-ahead2 = at-read-at .before in
+    let at-if2 = at-ahead2 .before in
+    let at-begins-with = at-if2 .before in
+    let at-rest = at-begins-with .before in
+    let at-loop = at-rest .before in
+    spelling-falls _ (at-loop .loop .inv) (at-rest .rest .ensures) (sym (at-begins-with .begins-with .ensures) ∙ at-if2 .if2 .taken) (at-ahead2 .ahead2 .ensures) (at-read-at .read-at .ensures) (at-rest2 .rest2 .ensures) (at-put8 .put8 .ensures) (c .before .before .before .spell-annotation2 .ensures) (c .ahead3 .ensures)
 
 loop-again : tie.Need-loop-again Inv-loop μ-loop
-loop-again c = spelling-turns _ (c .before .before .before .before .before .before .before .before .before .before .before .before .before .before .before .loop .inv) (c .before .before .before .before .before .before .before .before .before .before .before .before .before .before .rest .ensures) (sym (c .before .before .before .before .before .before .before .before .before .before .before .before .before .begins-with .ensures) ∙ c .before .before .before .before .before .before .before .before .before .before .before .before .if2 .taken) (c .before .before .before .before .before .before .before .before .before .before .before .ahead2 .ensures) (c .before .before .before .before .before .before .before .before .before .before .read-at .ensures) (c .before .before .before .before .rest2 .ensures) (c .before .before .before .before .before .before .before .before .put8 .ensures) (c .before .before .before .spell-annotation2 .ensures) (c .ahead3 .ensures)
+loop-again c =
+    let at-rest2 = c .before .before .before .before in
+    let at-put8 = at-rest2 .before .before .before .before in
+    let at-read-at = at-put8 .before .before in
+    let at-ahead2 = at-read-at .before in
+    let at-if2 = at-ahead2 .before in
+    let at-begins-with = at-if2 .before in
+    let at-rest = at-begins-with .before in
+    let at-loop = at-rest .before in
+    spelling-turns _ (at-loop .loop .inv) (at-rest .rest .ensures) (sym (at-begins-with .begins-with .ensures) ∙ at-if2 .if2 .taken) (at-ahead2 .ahead2 .ensures) (at-read-at .read-at .ensures) (at-rest2 .rest2 .ensures) (at-put8 .put8 .ensures) (c .before .before .before .spell-annotation2 .ensures) (c .ahead3 .ensures)
 
 same-length : tie.Need-same-length Inv-loop μ-loop
-same-length c = spelling-length (c .before .before .before .loop .inv) ∙ put-length (c .before .before .before .before .before .before .before .spell-annotation .ensures .put)
+same-length c =
+    let at-spell-annotation = c .before .before .before .before .before .before .before in
+    spelling-length (c .before .before .before .loop .inv) ∙ put-length (at-spell-annotation .spell-annotation .ensures .put)
 
 returns-2 : tie.Need-returns-2 Inv-loop μ-loop
-returns-2 c = spelling-ends _ (c .before .before .before .loop .inv) (c .before .before .rest .ensures) _ (c .before .before .before .before .before .before .before .before .before .if1 .left) (c .before .before .before .before .before .before .before .spell-annotation .ensures) refl (c .before .before .before .before .ahead .ensures) (sym (c .before .begins-with .ensures) ∙ c .if2 .left)
+returns-2 c =
+    let at-ahead = c .before .before .before .before in
+    let at-spell-annotation = at-ahead .before .before .before in
+    let at-if1 = at-spell-annotation .before .before in
+    spelling-ends _ (c .before .before .before .loop .inv) (c .before .before .rest .ensures) _ (at-if1 .if1 .left) (at-spell-annotation .spell-annotation .ensures) refl (at-ahead .ahead .ensures) (sym (c .before .begins-with .ensures) ∙ c .if2 .left)
 
 pub spell-line-spec : {M : Type 1} → statement M
 spell-line-spec =

@@ -76,7 +76,8 @@ put-last-returns-2 : (t : ℕ) → put-last-lts.Need-returns-2 (
   put8-reads.Learnt,
 ) (put-last-at t) put-last.Post
 put-last-returns-2 t c =
-    let p = c .before .before .before .before .before .before in
+    let at-way = c .before .before .before .before .before .before in
+    let p = at-way in
     put-place-more _ _ (p .before .before .if1 .left) (p .put-last .ensures) (c .before .before .put8 .ensures)
 
 pub +put-last-spec : {M : Type 1} → statement M

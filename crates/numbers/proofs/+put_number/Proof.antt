@@ -59,7 +59,9 @@ put-number-returns : (t : ℕ) → put-number-lts.Need-returns (
   put-number-below t,
   put-number.Post,
 ) (put-number-at t) put-number.Post
-put-number-returns t c = put-digit _ (c .before .before .before .before .if1 .taken) (c .before .before .put8 .ensures)
+put-number-returns t c =
+    let at-if1 = c .before .before .before .before in
+    put-digit _ (at-if1 .if1 .taken) (c .before .before .put8 .ensures)
 
 put-number-put-number-requires : (t : ℕ) → put-number-lts.Need-put-number-requires (
   put8-reads.Asked,
@@ -108,7 +110,8 @@ put-number-returns-2 : (t : ℕ) → put-number-lts.Need-returns-2 (
   put-number.Post,
 ) (put-number-at t) put-number.Post
 put-number-returns-2 t c =
-    let p = c .before .before .before .before .before .before in
+    let at-way = c .before .before .before .before .before .before in
+    let p = at-way in
     put-more _ (p .before .before .if1 .left) (p .put-number .ensures) (c .before .before .put82 .ensures)
 
 pub +put-number-spec : {M : Type 1} → statement M

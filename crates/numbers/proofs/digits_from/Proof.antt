@@ -41,7 +41,8 @@ loop-less c = search needs
 
 loop-again : tie.Need-loop-again Inv-loop μ-loop
 loop-again c =
-    let p = c .before .before .before .before in
+    let at-way = c .before .before .before .before in
+    let p = at-way in
     let e = sym (c .before .before .is-digit .ensures) ∙ not-false _ (c .before .if1 .left) in
     rw (c .with-digit .ensures) (turn (p .before .loop .inv) (p .loop-test .taken) e)
 

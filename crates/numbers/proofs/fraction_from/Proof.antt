@@ -11,7 +11,9 @@ shared-slice-read-if2 : tie.Need-shared-slice-read-if2
 shared-slice-read-if2 c = search needs
 
 returns-2 : tie.Need-returns-2
-returns-2 c = fraction-none _ _ (c .before .before .before .before .pre) (fraction-other _ (c .before .before .if1 .left) (c .if2 .taken))
+returns-2 c =
+    let at-pre = c .before .before .before .before in
+    fraction-none _ _ (at-pre .pre) (fraction-other _ (c .before .before .if1 .left) (c .if2 .taken))
 
 sub-digits-from : tie.Need-sub-digits-from
 sub-digits-from c = search needs
@@ -26,7 +28,9 @@ digits-from-requires : tie.Need-digits-from-requires
 digits-from-requires c κs = search needs
 
 returns-3 : tie.Need-returns-3
-returns-3 c = c .digits-from .ensures ∙ fraction-point _ _ (c .before .before .before .before .if1 .left) (c .before .before .if2 .left)
+returns-3 c =
+    let at-if1 = c .before .before .before .before in
+    c .digits-from .ensures ∙ fraction-point _ _ (at-if1 .if1 .left) (c .before .before .if2 .left)
 
 pub fraction-from-spec : {M : Type 1} → statement M
 fraction-from-spec =

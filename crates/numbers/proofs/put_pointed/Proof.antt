@@ -31,7 +31,8 @@ same-length-2 c = search needs
 
 returns-2 : tie.Need-returns-2
 returns-2 c =
-    let q = c .before .before .before .before .before .before in
+    let at-way = c .before .before .before .before .before .before in
+    let q = at-way in
     let p = q .before .before .before .before .before in
     put-pointed _ _ (put-as (p .put-number .ensures) (ap digits (p .before .whole-of .ensures))) (q .before .before .if1 .left) (q .put8 .ensures)
     (c .before .before .put-last .ensures)

@@ -27,7 +27,8 @@ new-requires c κs = search needs
 
 returns : tie.Need-returns
 returns c =
-    let w = walked (c .before .before .before .before .before .digits-from .ensures) (c .before .before .before .fraction-from .ensures) in
+    let at-digits-from = c .before .before .before .before .before in
+    let w = walked (at-digits-from .digits-from .ensures) (c .before .before .before .fraction-from .ensures) in
     found-whole w (c .before .before .places-of .ensures) (c .before .new .ensures) (c .if1 .taken)
 
 add-t8 : tie.Need-add-t8
@@ -42,7 +43,8 @@ add-t13 c =
 
 returns-2 : tie.Need-returns-2
 returns-2 c =
-    let w = walked (c .before .before .before .before .before .digits-from .ensures) (c .before .before .before .fraction-from .ensures) in
+    let at-digits-from = c .before .before .before .before .before in
+    let w = walked (at-digits-from .digits-from .ensures) (c .before .before .before .fraction-from .ensures) in
     found-point w (c .before .before .places-of .ensures) (c .before .new .ensures) (c .if1 .left)
 
 pub read-decimal-spec : {M : Type 1} → statement M

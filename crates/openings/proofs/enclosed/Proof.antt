@@ -20,7 +20,9 @@ ahead-requires-2 c κs = search needs
 
 returns : tie.Need-returns
 unfolding closedOf
-returns c = rw (c .ahead2 .ensures, c .before .ahead .ensures, c .before .before .long .ensures, c .before .before .before .less2 .ensures, c .before .before .before .before .less .ensures)
+returns c =
+    let at-less = c .before .before .before .before in
+    rw (c .ahead2 .ensures, c .before .ahead .ensures, c .before .before .long .ensures, c .before .before .before .less2 .ensures, at-less .less .ensures)
 
 pub enclosed-spec : {M : Type 1} → statement M
 enclosed-spec =

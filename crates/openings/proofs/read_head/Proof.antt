@@ -22,7 +22,9 @@ add-t6 c = omega (arith, head-fits (c .before .before .before .before .before .b
 
 returns : tie.Need-returns
 unfolding headOf
-returns c = rw (c .before .before .sign .ensures, c .before .or-one .ensures, c .before .before .before .read-number .ensures, c .before .before .before .before .rest .ensures)
+returns c =
+    let at-rest = c .before .before .before .before in
+    rw (c .before .before .sign .ensures, c .before .or-one .ensures, c .before .before .before .read-number .ensures, at-rest .rest .ensures)
 
 pub read-head-spec : {M : Type 1} → statement M
 read-head-spec =

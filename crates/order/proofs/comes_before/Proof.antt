@@ -16,7 +16,9 @@ texts-before-requires : tie.Need-texts-before-requires
 texts-before-requires c κs = search needs
 
 returns : tie.Need-returns
-returns c = let a = c .before .before .before .before .before .args in compared (a .keys .now) (a .x) (a .y) (c .before .before .before .text .ensures) (c .before .before .text2 .ensures) (c .before .rest-before .ensures) (c .texts-before .ensures)
+returns c =
+    let at-args = c .before .before .before .before .before in
+    let a = at-args .args in compared (a .keys .now) (a .x) (a .y) (c .before .before .before .text .ensures) (c .before .before .text2 .ensures) (c .before .rest-before .ensures) (c .texts-before .ensures)
 
 pub comes-before-spec : {M : Type 1} → statement M
 comes-before-spec =

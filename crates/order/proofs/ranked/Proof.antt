@@ -12,7 +12,9 @@ shared-slice-read-b : tie.Need-shared-slice-read-b
 shared-slice-read-b c = search needs
 
 returns-2 : tie.Need-returns-2
-returns-2 c = let a = c .before .before .before .before .args in rank-bracket (a .bytes .now) (a .i) (c .before .before .if1 .left) (c .if2 .taken)
+returns-2 c =
+    let at-args = c .before .before .before .before in
+    let a = at-args .args in rank-bracket (a .bytes .now) (a .i) (c .before .before .if1 .left) (c .if2 .taken)
 
 wide-requires : tie.Need-wide-requires
 wide-requires c κs = search needs
@@ -21,7 +23,9 @@ add-result : tie.Need-add-result
 add-result c = let a = c .before .before .before .before .before .args in omega (arith, c .wide .ensures, c .before .before .before .before .shared-slice-known .given (a .i))
 
 returns-3 : tie.Need-returns-3
-returns-3 c = let a = c .before .before .before .before .before .args in rank-other (a .bytes .now) (a .i) _ (c .before .before .before .if1 .left) (c .before .if2 .left) (c .wide .ensures)
+returns-3 c =
+    let at-args = c .before .before .before .before .before in
+    let a = at-args .args in rank-other (a .bytes .now) (a .i) _ (c .before .before .before .if1 .left) (c .before .if2 .left) (c .wide .ensures)
 
 pub ranked-spec : {M : Type 1} → statement M
 ranked-spec =

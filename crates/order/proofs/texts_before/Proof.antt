@@ -21,7 +21,9 @@ ranked-requires-2 : tie.Need-ranked-requires-2 Inv-loop μ-loop
 ranked-requires-2 c κs = tt
 
 returns : tie.Need-returns Inv-loop μ-loop
-returns c = differ (c .before .before .before .before .loop .inv) (c .before .before .ranked .ensures) (c .before .ranked2 .ensures) (c .if1 .taken)
+returns c =
+    let at-loop = c .before .before .before .before in
+    differ (at-loop .loop .inv) (c .before .before .ranked .ensures) (c .before .ranked2 .ensures) (c .if1 .taken)
 
 add-i : tie.Need-add-i Inv-loop μ-loop
 add-i c = search needs
@@ -30,7 +32,9 @@ loop-less : tie.Need-loop-less Inv-loop μ-loop
 loop-less c = search needs
 
 loop-again : tie.Need-loop-again Inv-loop μ-loop
-loop-again c = step (c .before .before .before .before .loop .inv) (c .before .before .before .loop-test .taken) (c .before .before .ranked .ensures) (c .before .ranked2 .ensures) (c .if1 .left)
+loop-again c =
+    let at-loop = c .before .before .before .before in
+    step (at-loop .loop .inv) (c .before .before .before .loop-test .taken) (c .before .before .ranked .ensures) (c .before .ranked2 .ensures) (c .if1 .left)
 
 returns-2 : tie.Need-returns-2 Inv-loop μ-loop
 returns-2 c = shorter (c .before .before .loop .inv) (c .before .loop-test .left) (c .if2 .taken)

@@ -14,7 +14,9 @@ add-t8 : tie.Need-add-t8
 add-t8 c = search needs
 
 returns-2 : tie.Need-returns-2
-returns-2 c = let a = c .before .before .before .before .args in one-more (a .keys .now) (a .s) (a .x) (c .before .before .if1 .left) (c .put .ensures)
+returns-2 c =
+    let at-args = c .before .before .before .before in
+    let a = at-args .args in one-more (a .keys .now) (a .s) (a .x) (c .before .before .if1 .left) (c .put .ensures)
 
 pub with-spec : {M : Type 1} → statement M
 with-spec = tie.close (tie.spec returns put-requires add-t8 returns-2)

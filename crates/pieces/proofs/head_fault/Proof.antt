@@ -20,7 +20,9 @@ past-requires c κs = search needs
 
 returns : tie.Need-returns
 unfolding headFault
-returns c = simp (c .past .ensures, c .before .before .before .many .ensures, c .before .before .before .before .less .ensures, c .before .before .less2 .ensures, c .before .less3 .ensures)
+returns c =
+    let at-less = c .before .before .before .before in
+    simp (c .past .ensures, c .before .before .before .many .ensures, at-less .less .ensures, c .before .before .less2 .ensures, c .before .less3 .ensures)
 
 pub head-fault-spec : {M : Type 1} → statement M
 head-fault-spec =

@@ -50,7 +50,14 @@ loop-less : tie.Need-loop-less Inv-loop μ-loop
 loop-less c = omega (arith, moves (c .before .before .before .before .before .before .before .before .before .loop .inv) (c .before .before .before .before .before .before .before .before .rest .ensures) (sym (c .before .before .before .before .before .before .before .begins-piece .ensures) ∙ c .before .before .before .before .before .before .if1 .taken) (c .before .before .before .before .before .rest2 .ensures) (c .before .before .before .before .read-piece .ensures) .some, moves (c .before .before .before .before .before .before .before .before .before .loop .inv) (c .before .before .before .before .before .before .before .before .rest .ensures) (sym (c .before .before .before .before .before .before .before .begins-piece .ensures) ∙ c .before .before .before .before .before .before .if1 .taken) (c .before .before .before .before .before .rest2 .ensures) (c .before .before .before .before .read-piece .ensures) .inside)
 
 loop-again : tie.Need-loop-again Inv-loop μ-loop
-loop-again c = turn (c .before .before .before .before .before .before .before .before .before .loop .inv) (c .before .before .before .before .before .before .before .before .rest .ensures) (sym (c .before .before .before .before .before .before .before .begins-piece .ensures) ∙ c .before .before .before .before .before .before .if1 .taken) (c .before .before .before .before .before .rest2 .ensures) (c .before .before .before .before .read-piece .ensures) (c .before .before .units-in .ensures) (c .before .text-in .ensures) refl
+loop-again c =
+    let at-read-piece = c .before .before .before .before in
+    let at-rest2 = at-read-piece .before in
+    let at-if1 = at-rest2 .before in
+    let at-begins-piece = at-if1 .before in
+    let at-rest = at-begins-piece .before in
+    let at-loop = at-rest .before in
+    turn (at-loop .loop .inv) (at-rest .rest .ensures) (sym (at-begins-piece .begins-piece .ensures) ∙ at-if1 .if1 .taken) (at-rest2 .rest2 .ensures) (at-read-piece .read-piece .ensures) (c .before .before .units-in .ensures) (c .before .text-in .ensures) refl
 
 returns : tie.Need-returns Inv-loop μ-loop
 returns c = ends (c .before .before .before .loop .inv) (c .before .before .rest .ensures) (sym (c .before .begins-piece .ensures) ∙ c .if1 .left)

@@ -18,7 +18,10 @@ with-head-requires c κs = search needs
 
 returns : tie.Need-returns
 unfolding whatOf
-returns c = rw (← c .before .before .before .before .before .rest .ensures, sym (c .before .before .before .before .begins-unit .ensures) ∙ c .before .before .before .if1 .taken, ← c .before .before .formula .ensures) (c .with-head .ensures)
+returns c =
+    let at-begins-unit = c .before .before .before .before in
+    let at-rest = at-begins-unit .before in
+    rw (← at-rest .rest .ensures, sym (at-begins-unit .begins-unit .ensures) ∙ c .before .before .before .if1 .taken, ← c .before .before .formula .ensures) (c .with-head .ensures)
 
 begins-with-requires : tie.Need-begins-with-requires
 begins-with-requires c κs = search needs
@@ -31,14 +34,22 @@ with-head-requires-2 c κs = search needs
 
 returns-2 : tie.Need-returns-2
 unfolding whatOf
-returns-2 c = rw (← c .before .before .before .before .before .before .before .rest .ensures, sym (c .before .before .before .before .before .before .begins-unit .ensures) ∙ c .before .before .before .before .before .if1 .left, sym (c .before .before .before .before .begins-with .ensures) ∙ c .before .before .before .if2 .taken, ← c .before .before .name-in-brackets .ensures) (c .with-head2 .ensures)
+returns-2 c =
+    let at-begins-with = c .before .before .before .before in
+    let at-if1 = at-begins-with .before in
+    let at-begins-unit = at-if1 .before in
+    let at-rest = at-begins-unit .before in
+    rw (← at-rest .rest .ensures, sym (at-begins-unit .begins-unit .ensures) ∙ at-if1 .if1 .left, sym (at-begins-with .begins-with .ensures) ∙ c .before .before .before .if2 .taken, ← c .before .before .name-in-brackets .ensures) (c .with-head2 .ensures)
 
 with-head-requires-3 : tie.Need-with-head-requires-3
 with-head-requires-3 c κs = search needs
 
 returns-3 : tie.Need-returns-3
 unfolding whatOf
-returns-3 c = rw (← c .before .before .before .before .before .rest .ensures, sym (c .before .before .before .before .begins-unit .ensures) ∙ c .before .before .before .if1 .left, sym (c .before .before .begins-with .ensures) ∙ c .before .if2 .left) (c .with-head3 .ensures)
+returns-3 c =
+    let at-begins-unit = c .before .before .before .before in
+    let at-rest = at-begins-unit .before in
+    rw (← at-rest .rest .ensures, sym (at-begins-unit .begins-unit .ensures) ∙ c .before .before .before .if1 .left, sym (c .before .before .begins-with .ensures) ∙ c .before .if2 .left) (c .with-head3 .ensures)
 
 pub what-spec : {M : Type 1} → statement M
 what-spec =

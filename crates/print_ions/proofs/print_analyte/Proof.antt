@@ -32,7 +32,13 @@ same-length : tie.Need-same-length
 same-length c = search needs
 
 returns-2 : tie.Need-returns-2
-returns-2 c = put-as (put-then (c .before .before .before .before .before .before .put-number .ensures) (c .before .before .put8 .ensures)) (analyte-some _ (c .before .before .before .before .before .before .before .before .before .before .before .byte-of .ensures) (c .before .before .before .before .before .before .before .before .before .before .if1 .left) ((c .before .before .before .before .before .before .before .word-at .ensures) ∙ ap wordOf (c .before .before .before .before .before .before .before .before .rest .ensures)))
+returns-2 c =
+    let at-put-number = c .before .before .before .before .before .before in
+    let at-word-at = at-put-number .before in
+    let at-rest = at-word-at .before in
+    let at-if1 = at-rest .before .before in
+    let at-byte-of = at-if1 .before in
+    put-as (put-then (at-put-number .put-number .ensures) (c .before .before .put8 .ensures)) (analyte-some _ (at-byte-of .byte-of .ensures) (at-if1 .if1 .left) ((at-word-at .word-at .ensures) ∙ ap wordOf (at-rest .rest .ensures)))
 
 pub print-analyte-spec : {M : Type 1} → statement M
 print-analyte-spec =

@@ -13,7 +13,9 @@ same-length : tie.Need-same-length
 same-length c = search needs
 
 returns : tie.Need-returns
-returns c = put-then (c .before .before .before .before .before .before .put8 .ensures) (c .before .before .put-braces .ensures)
+returns c =
+    let at-put8 = c .before .before .before .before .before .before in
+    put-then (at-put8 .put8 .ensures) (c .before .before .put-braces .ensures)
 
 pub print-braced-spec : {M : Type 1} → statement M
 print-braced-spec = tie.close (tie.spec put8-requires put-braces-requires same-length returns)

@@ -27,7 +27,12 @@ same-length c = search needs
 
 returns : tie.Need-returns
 unfolding composedText
-returns c = put-then (c .before .before .before .before .before .before .before .before .before .before .before .put-run .ensures) (put-then (put-as (c .before .before .before .before .before .before .print-units .ensures) (ap (λ (n : ℕ). printedUnits n (c .before .before .before .before .before .before .before .before .before .before .before .before .before .before .before .before .before .args .u .now)) (c .before .before .before .before .before .before .before .ion-units .ensures))) (c .before .before .put8 .ensures))
+returns c =
+    let at-print-units = c .before .before .before .before .before .before in
+    let at-ion-units = at-print-units .before in
+    let at-put-run = at-ion-units .before .before .before .before in
+    let at-args = at-put-run .before .before .before .before .before .before in
+    put-then (at-put-run .put-run .ensures) (put-then (put-as (at-print-units .print-units .ensures) (ap (λ (n : ℕ). printedUnits n (at-args .args .u .now)) (at-ion-units .ion-units .ensures))) (c .before .before .put8 .ensures))
 
 pub print-composed-spec : {M : Type 1} → statement M
 print-composed-spec =

@@ -18,7 +18,10 @@ same-length : tie.Need-same-length
 same-length c = search needs
 
 returns-2 : tie.Need-returns-2
-returns-2 c = put-as (c .before .before .put8 .ensures) (flag-some _ (c .before .before .before .before .before .byte-of .ensures) (c .before .before .before .before .if1 .left))
+returns-2 c =
+    let at-if1 = c .before .before .before .before in
+    let at-byte-of = at-if1 .before in
+    put-as (c .before .before .put8 .ensures) (flag-some _ (at-byte-of .byte-of .ensures) (at-if1 .if1 .left))
 
 pub print-flag-spec : {M : Type 1} → statement M
 print-flag-spec = tie.close (tie.spec byte-of-requires returns put8-requires same-length returns-2)

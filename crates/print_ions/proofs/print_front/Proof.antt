@@ -16,7 +16,10 @@ same-length : tie.Need-same-length
 same-length c = search needs
 
 returns : tie.Need-returns
-returns c = put-then (c .before .before .before .before .before .before .before .before .before .before .print-flag .ensures) (put-then (c .before .before .before .before .before .before .print-analyte .ensures) (c .before .before .print-ion .ensures))
+returns c =
+    let at-print-analyte = c .before .before .before .before .before .before in
+    let at-print-flag = at-print-analyte .before .before .before .before in
+    put-then (at-print-flag .print-flag .ensures) (put-then (at-print-analyte .print-analyte .ensures) (c .before .before .print-ion .ensures))
 
 pub print-front-spec : {M : Type 1} → statement M
 print-front-spec =

@@ -24,7 +24,11 @@ same-length c = search needs
 
 returns : tie.Need-returns
 unfolding immoniumText
-returns c = put-then (c .before .before .before .before .before .before .before .before .before .before .before .put8 .ensures) (put-then (put-as (c .before .before .before .before .before .before .put82 .ensures) (ap (λ (b : ℕ). b ∷ []) (c .before .before .before .before .before .before .before .byte-of .ensures))) (c .before .before .put-brackets .ensures))
+returns c =
+    let at-put82 = c .before .before .before .before .before .before in
+    let at-byte-of = at-put82 .before in
+    let at-put8 = at-byte-of .before .before .before .before in
+    put-then (at-put8 .put8 .ensures) (put-then (put-as (at-put82 .put82 .ensures) (ap (λ (b : ℕ). b ∷ []) (at-byte-of .byte-of .ensures))) (c .before .before .put-brackets .ensures))
 
 pub print-immonium-spec : {M : Type 1} → statement M
 print-immonium-spec =

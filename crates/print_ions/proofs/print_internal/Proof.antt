@@ -45,7 +45,16 @@ same-length c = search needs
 
 returns : tie.Need-returns
 unfolding internalText
-returns c = put-then (c .before .before .before .before .before .before .before .before .before .before .before .before .before .before .before .before .before .before .before .before .before .before .put8 .ensures) (put-then (put-as (c .before .before .before .before .before .before .before .before .before .before .before .before .before .before .before .before .put-number .ensures) (ap digits ((c .before .before .before .before .before .before .before .before .before .before .before .before .before .before .before .before .before .word-at .ensures) ∙ ap wordOf (c .before .before .before .before .before .before .before .before .before .before .before .before .before .before .before .before .before .before .rest .ensures)))) (put-then (c .before .before .before .before .before .before .before .before .before .before .before .before .put82 .ensures) (put-then (put-as (c .before .before .before .before .before .before .put-number2 .ensures) (ap digits ((c .before .before .before .before .before .before .before .word-at2 .ensures) ∙ ap wordOf (c .before .before .before .before .before .before .before .before .rest2 .ensures)))) (c .before .before .put-braces .ensures))))
+returns c =
+    let at-put-number2 = c .before .before .before .before .before .before in
+    let at-word-at2 = at-put-number2 .before in
+    let at-rest2 = at-word-at2 .before in
+    let at-put82 = at-rest2 .before .before .before .before in
+    let at-put-number = at-put82 .before .before .before .before in
+    let at-word-at = at-put-number .before in
+    let at-rest = at-word-at .before in
+    let at-put8 = at-rest .before .before .before .before in
+    put-then (at-put8 .put8 .ensures) (put-then (put-as (at-put-number .put-number .ensures) (ap digits ((at-word-at .word-at .ensures) ∙ ap wordOf (at-rest .rest .ensures)))) (put-then (at-put82 .put82 .ensures) (put-then (put-as (at-put-number2 .put-number2 .ensures) (ap digits ((at-word-at2 .word-at2 .ensures) ∙ ap wordOf (at-rest2 .rest2 .ensures)))) (c .before .before .put-braces .ensures))))
 
 pub print-internal-spec : {M : Type 1} → statement M
 print-internal-spec =

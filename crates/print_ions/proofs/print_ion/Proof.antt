@@ -51,63 +51,117 @@ same-length c = search needs
 
 returns : tie.Need-returns
 unfolding kindText
-returns c = put-as (c .before .before .print-series .ensures) (kind-is _ _ _ (c .before .before .before .before .before .byte-of .ensures) ((c .before .before .before .before .before .before .first-of .ensures) ∙ ap (λ (n : ℕ). take n (c .before .before .before .before .before .before .before .before .before .before .before .before .args .t .now)) (c .before .before .before .before .before .before .before .ion-bytes .ensures)) 1 (c .before .before .before .before .match .keys1))
+returns c =
+    let at-match = c .before .before .before .before in
+    let at-byte-of = at-match .before in
+    let at-first-of = at-byte-of .before in
+    let at-ion-bytes = at-first-of .before in
+    let at-args = at-ion-bytes .before .before .before .before .before in
+    put-as (c .before .before .print-series .ensures) (kind-is _ _ _ (at-byte-of .byte-of .ensures) ((at-first-of .first-of .ensures) ∙ ap (λ (n : ℕ). take n (at-args .args .t .now)) (at-ion-bytes .ion-bytes .ensures)) 1 (at-match .match .keys1))
 
 same-length-2 : tie.Need-same-length-2
 same-length-2 c = search needs
 
 returns-2 : tie.Need-returns-2
 unfolding kindText
-returns-2 c = put-as (c .before .before .print-internal .ensures) (kind-is _ _ _ (c .before .before .before .before .before .byte-of .ensures) ((c .before .before .before .before .before .before .first-of .ensures) ∙ ap (λ (n : ℕ). take n (c .before .before .before .before .before .before .before .before .before .before .before .before .args .t .now)) (c .before .before .before .before .before .before .before .ion-bytes .ensures)) 2 (c .before .before .before .before .match .keys2))
+returns-2 c =
+    let at-match = c .before .before .before .before in
+    let at-byte-of = at-match .before in
+    let at-first-of = at-byte-of .before in
+    let at-ion-bytes = at-first-of .before in
+    let at-args = at-ion-bytes .before .before .before .before .before in
+    put-as (c .before .before .print-internal .ensures) (kind-is _ _ _ (at-byte-of .byte-of .ensures) ((at-first-of .first-of .ensures) ∙ ap (λ (n : ℕ). take n (at-args .args .t .now)) (at-ion-bytes .ion-bytes .ensures)) 2 (at-match .match .keys2))
 
 same-length-3 : tie.Need-same-length-3
 same-length-3 c = search needs
 
 returns-3 : tie.Need-returns-3
 unfolding kindText
-returns-3 c = put-as (c .before .before .print-immonium .ensures) (kind-is _ _ _ (c .before .before .before .before .before .byte-of .ensures) ((c .before .before .before .before .before .before .first-of .ensures) ∙ ap (λ (n : ℕ). take n (c .before .before .before .before .before .before .before .before .before .before .before .before .args .t .now)) (c .before .before .before .before .before .before .before .ion-bytes .ensures)) 3 (c .before .before .before .before .match .keys3))
+returns-3 c =
+    let at-match = c .before .before .before .before in
+    let at-byte-of = at-match .before in
+    let at-first-of = at-byte-of .before in
+    let at-ion-bytes = at-first-of .before in
+    let at-args = at-ion-bytes .before .before .before .before .before in
+    put-as (c .before .before .print-immonium .ensures) (kind-is _ _ _ (at-byte-of .byte-of .ensures) ((at-first-of .first-of .ensures) ∙ ap (λ (n : ℕ). take n (at-args .args .t .now)) (at-ion-bytes .ion-bytes .ensures)) 3 (at-match .match .keys3))
 
 same-length-4 : tie.Need-same-length-4
 same-length-4 c = search needs
 
 returns-4 : tie.Need-returns-4
 unfolding kindText
-returns-4 c = put-as (c .before .before .put8 .ensures) (kind-is _ _ _ (c .before .before .before .before .before .byte-of .ensures) ((c .before .before .before .before .before .before .first-of .ensures) ∙ ap (λ (n : ℕ). take n (c .before .before .before .before .before .before .before .before .before .before .before .before .args .t .now)) (c .before .before .before .before .before .before .before .ion-bytes .ensures)) 4 (c .before .before .before .before .match .keys4))
+returns-4 c =
+    let at-match = c .before .before .before .before in
+    let at-byte-of = at-match .before in
+    let at-first-of = at-byte-of .before in
+    let at-ion-bytes = at-first-of .before in
+    let at-args = at-ion-bytes .before .before .before .before .before in
+    put-as (c .before .before .put8 .ensures) (kind-is _ _ _ (at-byte-of .byte-of .ensures) ((at-first-of .first-of .ensures) ∙ ap (λ (n : ℕ). take n (at-args .args .t .now)) (at-ion-bytes .ion-bytes .ensures)) 4 (at-match .match .keys4))
 
 same-length-5 : tie.Need-same-length-5
 same-length-5 c = search needs
 
 returns-5 : tie.Need-returns-5
 unfolding kindText
-returns-5 c = put-as (c .before .before .print-reference .ensures) (kind-is _ _ _ (c .before .before .before .before .before .byte-of .ensures) ((c .before .before .before .before .before .before .first-of .ensures) ∙ ap (λ (n : ℕ). take n (c .before .before .before .before .before .before .before .before .before .before .before .before .args .t .now)) (c .before .before .before .before .before .before .before .ion-bytes .ensures)) 5 (c .before .before .before .before .match .keys5))
+returns-5 c =
+    let at-match = c .before .before .before .before in
+    let at-byte-of = at-match .before in
+    let at-first-of = at-byte-of .before in
+    let at-ion-bytes = at-first-of .before in
+    let at-args = at-ion-bytes .before .before .before .before .before in
+    put-as (c .before .before .print-reference .ensures) (kind-is _ _ _ (at-byte-of .byte-of .ensures) ((at-first-of .first-of .ensures) ∙ ap (λ (n : ℕ). take n (at-args .args .t .now)) (at-ion-bytes .ion-bytes .ensures)) 5 (at-match .match .keys5))
 
 same-length-6 : tie.Need-same-length-6
 same-length-6 c = search needs
 
 returns-6 : tie.Need-returns-6
 unfolding kindText
-returns-6 c = put-as (c .before .before .print-braced .ensures) (kind-is _ _ _ (c .before .before .before .before .before .byte-of .ensures) ((c .before .before .before .before .before .before .first-of .ensures) ∙ ap (λ (n : ℕ). take n (c .before .before .before .before .before .before .before .before .before .before .before .before .args .t .now)) (c .before .before .before .before .before .before .before .ion-bytes .ensures)) 6 (c .before .before .before .before .match .keys6))
+returns-6 c =
+    let at-match = c .before .before .before .before in
+    let at-byte-of = at-match .before in
+    let at-first-of = at-byte-of .before in
+    let at-ion-bytes = at-first-of .before in
+    let at-args = at-ion-bytes .before .before .before .before .before in
+    put-as (c .before .before .print-braced .ensures) (kind-is _ _ _ (at-byte-of .byte-of .ensures) ((at-first-of .first-of .ensures) ∙ ap (λ (n : ℕ). take n (at-args .args .t .now)) (at-ion-bytes .ion-bytes .ensures)) 6 (at-match .match .keys6))
 
 same-length-7 : tie.Need-same-length-7
 same-length-7 c = search needs
 
 returns-7 : tie.Need-returns-7
 unfolding kindText
-returns-7 c = put-as (c .before .before .print-composed .ensures) (kind-is _ _ _ (c .before .before .before .before .before .byte-of .ensures) ((c .before .before .before .before .before .before .first-of .ensures) ∙ ap (λ (n : ℕ). take n (c .before .before .before .before .before .before .before .before .before .before .before .before .args .t .now)) (c .before .before .before .before .before .before .before .ion-bytes .ensures)) 7 (c .before .before .before .before .match .keys7))
+returns-7 c =
+    let at-match = c .before .before .before .before in
+    let at-byte-of = at-match .before in
+    let at-first-of = at-byte-of .before in
+    let at-ion-bytes = at-first-of .before in
+    let at-args = at-ion-bytes .before .before .before .before .before in
+    put-as (c .before .before .print-composed .ensures) (kind-is _ _ _ (at-byte-of .byte-of .ensures) ((at-first-of .first-of .ensures) ∙ ap (λ (n : ℕ). take n (at-args .args .t .now)) (at-ion-bytes .ion-bytes .ensures)) 7 (at-match .match .keys7))
 
 same-length-8 : tie.Need-same-length-8
 same-length-8 c = search needs
 
 returns-8 : tie.Need-returns-8
 unfolding kindText
-returns-8 c = put-as (c .before .before .print-braced2 .ensures) (kind-is _ _ _ (c .before .before .before .before .before .byte-of .ensures) ((c .before .before .before .before .before .before .first-of .ensures) ∙ ap (λ (n : ℕ). take n (c .before .before .before .before .before .before .before .before .before .before .before .before .args .t .now)) (c .before .before .before .before .before .before .before .ion-bytes .ensures)) 8 (c .before .before .before .before .match .keys8))
+returns-8 c =
+    let at-match = c .before .before .before .before in
+    let at-byte-of = at-match .before in
+    let at-first-of = at-byte-of .before in
+    let at-ion-bytes = at-first-of .before in
+    let at-args = at-ion-bytes .before .before .before .before .before in
+    put-as (c .before .before .print-braced2 .ensures) (kind-is _ _ _ (at-byte-of .byte-of .ensures) ((at-first-of .first-of .ensures) ∙ ap (λ (n : ℕ). take n (at-args .args .t .now)) (at-ion-bytes .ion-bytes .ensures)) 8 (at-match .match .keys8))
 
 same-length-9 : tie.Need-same-length-9
 same-length-9 c = search needs
 
 returns-9 : tie.Need-returns-9
 unfolding kindText
-returns-9 c = put-as (c .before .before .print-unknown .ensures) (kind-is _ _ _ (c .before .before .before .before .before .byte-of .ensures) ((c .before .before .before .before .before .before .first-of .ensures) ∙ ap (λ (n : ℕ). take n (c .before .before .before .before .before .before .before .before .before .before .before .before .args .t .now)) (c .before .before .before .before .before .before .before .ion-bytes .ensures)) 9 (c .before .before .before .before .match .keys9))
+returns-9 c =
+    let at-match = c .before .before .before .before in
+    let at-byte-of = at-match .before in
+    let at-first-of = at-byte-of .before in
+    let at-ion-bytes = at-first-of .before in
+    let at-args = at-ion-bytes .before .before .before .before .before in
+    put-as (c .before .before .print-unknown .ensures) (kind-is _ _ _ (at-byte-of .byte-of .ensures) ((at-first-of .first-of .ensures) ∙ ap (λ (n : ℕ). take n (at-args .args .t .now)) (at-ion-bytes .ion-bytes .ensures)) 9 (at-match .match .keys9))
 
 returns-10 : tie.Need-returns-10
 returns-10 c = put-as (put-none (omega arith) (omega arith)) (kind-none _ _ _ (c .before .byte-of .ensures) ((c .before .before .first-of .ensures) ∙ ap (λ (n : ℕ). take n (c .before .before .before .before .before .before .before .before .args .t .now)) (c .before .before .before .ion-bytes .ensures)) (none-to 9 _ (c .match .rest)))

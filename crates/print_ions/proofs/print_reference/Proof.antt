@@ -13,7 +13,9 @@ same-length : tie.Need-same-length
 same-length c = search needs
 
 returns : tie.Need-returns
-returns c = put-then (c .before .before .before .before .before .before .put8 .ensures) (c .before .before .put-brackets .ensures)
+returns c =
+    let at-put8 = c .before .before .before .before .before .before in
+    put-then (at-put8 .put8 .ensures) (c .before .before .put-brackets .ensures)
 
 pub print-reference-spec : {M : Type 1} → statement M
 print-reference-spec = tie.close (tie.spec put8-requires put-brackets-requires same-length returns)

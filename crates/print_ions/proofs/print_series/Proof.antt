@@ -34,7 +34,13 @@ same-length c = search needs
 
 returns : tie.Need-returns
 unfolding positionText
-returns c = put-then (put-as (c .before .before .before .before .before .before .before .before .before .before .before .before .put-series .ensures) (ap seriesText (c .before .before .before .before .before .before .before .before .before .before .before .before .before .byte-of .ensures))) (put-then (put-as (c .before .before .before .before .before .before .put-number .ensures) (ap digits ((c .before .before .before .before .before .before .before .word-at .ensures) ∙ ap wordOf (c .before .before .before .before .before .before .before .before .rest .ensures)))) (c .before .before .put-braces .ensures))
+returns c =
+    let at-put-number = c .before .before .before .before .before .before in
+    let at-word-at = at-put-number .before in
+    let at-rest = at-word-at .before in
+    let at-put-series = at-rest .before .before .before .before in
+    let at-byte-of = at-put-series .before in
+    put-then (put-as (at-put-series .put-series .ensures) (ap seriesText (at-byte-of .byte-of .ensures))) (put-then (put-as (at-put-number .put-number .ensures) (ap digits ((at-word-at .word-at .ensures) ∙ ap wordOf (at-rest .rest .ensures)))) (c .before .before .put-braces .ensures))
 
 pub print-series-spec : {M : Type 1} → statement M
 print-series-spec =

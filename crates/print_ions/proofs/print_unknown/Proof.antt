@@ -19,7 +19,9 @@ same-length : tie.Need-same-length
 same-length c = search needs
 
 returns : tie.Need-returns
-returns c = put-as (c .before .before .before .before .before .put8 .ensures) (label-none _ ((c .before .word-at .ensures) ∙ ap wordOf (c .before .before .rest .ensures)) (c .if1 .taken))
+returns c =
+    let at-put8 = c .before .before .before .before .before in
+    put-as (at-put8 .put8 .ensures) (label-none _ ((c .before .word-at .ensures) ∙ ap wordOf (c .before .before .rest .ensures)) (c .if1 .taken))
 
 cast-put-number : tie.Need-cast-put-number
 cast-put-number c = search needs
@@ -31,7 +33,12 @@ same-length-2 : tie.Need-same-length-2
 same-length-2 c = search needs
 
 returns-2 : tie.Need-returns-2
-returns-2 c = put-as (put-then (c .before .before .before .before .before .before .before .before .before .put8 .ensures) (c .before .before .put-number .ensures)) (label-some _ ((c .before .before .before .before .before .word-at .ensures) ∙ ap wordOf (c .before .before .before .before .before .before .rest .ensures)) (c .before .before .before .before .if1 .left))
+returns-2 c =
+    let at-if1 = c .before .before .before .before in
+    let at-word-at = at-if1 .before in
+    let at-rest = at-word-at .before in
+    let at-put8 = at-rest .before .before .before in
+    put-as (put-then (at-put8 .put8 .ensures) (c .before .before .put-number .ensures)) (label-some _ ((at-word-at .word-at .ensures) ∙ ap wordOf (at-rest .rest .ensures)) (at-if1 .if1 .left))
 
 pub print-unknown-spec : {M : Type 1} → statement M
 print-unknown-spec =

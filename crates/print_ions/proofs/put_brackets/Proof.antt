@@ -21,7 +21,12 @@ same-length : tie.Need-same-length
 same-length c = search needs
 
 returns-2 : tie.Need-returns-2
-returns-2 c = put-as (put-then (c .before .before .before .before .before .before .before .before .before .before .put8 .ensures) (put-then (c .before .before .before .before .before .before .put-run .ensures) (c .before .before .put82 .ensures))) (brackets-some (c .before .before .before .before .before .before .before .before .before .before .before .before .before .before .before .args .w .now) (c .before .before .before .before .before .before .before .before .before .before .before .before .if1 .left))
+returns-2 c =
+    let at-put-run = c .before .before .before .before .before .before in
+    let at-put8 = at-put-run .before .before .before .before in
+    let at-if1 = at-put8 .before .before in
+    let at-args = at-if1 .before .before .before in
+    put-as (put-then (at-put8 .put8 .ensures) (put-then (at-put-run .put-run .ensures) (c .before .before .put82 .ensures))) (brackets-some (at-args .args .w .now) (at-if1 .if1 .left))
 
 pub put-brackets-spec : {M : Type 1} → statement M
 put-brackets-spec =

@@ -63,91 +63,117 @@ same-length c = search needs
 
 returns : tie.Need-returns
 unfolding seriesText
-returns c = put-as (c .before .before .put8 .ensures) (series-is 1 (c .before .before .before .before .match .keys1))
+returns c =
+    let at-match = c .before .before .before .before in
+    put-as (c .before .before .put8 .ensures) (series-is 1 (at-match .match .keys1))
 
 same-length-2 : tie.Need-same-length-2
 same-length-2 c = search needs
 
 returns-2 : tie.Need-returns-2
 unfolding seriesText
-returns-2 c = put-as (c .before .before .put82 .ensures) (series-is 2 (c .before .before .before .before .match .keys2))
+returns-2 c =
+    let at-match = c .before .before .before .before in
+    put-as (c .before .before .put82 .ensures) (series-is 2 (at-match .match .keys2))
 
 same-length-3 : tie.Need-same-length-3
 same-length-3 c = search needs
 
 returns-3 : tie.Need-returns-3
 unfolding seriesText
-returns-3 c = put-as (c .before .before .put83 .ensures) (series-is 3 (c .before .before .before .before .match .keys3))
+returns-3 c =
+    let at-match = c .before .before .before .before in
+    put-as (c .before .before .put83 .ensures) (series-is 3 (at-match .match .keys3))
 
 same-length-4 : tie.Need-same-length-4
 same-length-4 c = search needs
 
 returns-4 : tie.Need-returns-4
 unfolding seriesText
-returns-4 c = put-as (c .before .before .put84 .ensures) (series-is 4 (c .before .before .before .before .match .keys4))
+returns-4 c =
+    let at-match = c .before .before .before .before in
+    put-as (c .before .before .put84 .ensures) (series-is 4 (at-match .match .keys4))
 
 same-length-5 : tie.Need-same-length-5
 same-length-5 c = search needs
 
 returns-5 : tie.Need-returns-5
 unfolding seriesText
-returns-5 c = put-as (c .before .before .put85 .ensures) (series-is 5 (c .before .before .before .before .match .keys5))
+returns-5 c =
+    let at-match = c .before .before .before .before in
+    put-as (c .before .before .put85 .ensures) (series-is 5 (at-match .match .keys5))
 
 same-length-6 : tie.Need-same-length-6
 same-length-6 c = search needs
 
 returns-6 : tie.Need-returns-6
 unfolding seriesText
-returns-6 c = put-as (c .before .before .put86 .ensures) (series-is 6 (c .before .before .before .before .match .keys6))
+returns-6 c =
+    let at-match = c .before .before .before .before in
+    put-as (c .before .before .put86 .ensures) (series-is 6 (at-match .match .keys6))
 
 same-length-7 : tie.Need-same-length-7
 same-length-7 c = search needs
 
 returns-7 : tie.Need-returns-7
 unfolding seriesText
-returns-7 c = put-as (c .before .before .put87 .ensures) (series-is 7 (c .before .before .before .before .match .keys7))
+returns-7 c =
+    let at-match = c .before .before .before .before in
+    put-as (c .before .before .put87 .ensures) (series-is 7 (at-match .match .keys7))
 
 same-length-8 : tie.Need-same-length-8
 same-length-8 c = search needs
 
 returns-8 : tie.Need-returns-8
 unfolding seriesText
-returns-8 c = put-as (c .before .before .put88 .ensures) (series-is 8 (c .before .before .before .before .match .keys8))
+returns-8 c =
+    let at-match = c .before .before .before .before in
+    put-as (c .before .before .put88 .ensures) (series-is 8 (at-match .match .keys8))
 
 same-length-9 : tie.Need-same-length-9
 same-length-9 c = search needs
 
 returns-9 : tie.Need-returns-9
 unfolding seriesText
-returns-9 c = put-as (c .before .before .put89 .ensures) (series-is 9 (c .before .before .before .before .match .keys9))
+returns-9 c =
+    let at-match = c .before .before .before .before in
+    put-as (c .before .before .put89 .ensures) (series-is 9 (at-match .match .keys9))
 
 same-length-10 : tie.Need-same-length-10
 same-length-10 c = search needs
 
 returns-10 : tie.Need-returns-10
 unfolding seriesText
-returns-10 c = put-as (c .before .before .put-run .ensures) (series-is 10 (c .before .before .before .before .before .match .keys10))
+returns-10 c =
+    let at-match = c .before .before .before .before .before in
+    put-as (c .before .before .put-run .ensures) (series-is 10 (at-match .match .keys10))
 
 same-length-11 : tie.Need-same-length-11
 same-length-11 c = search needs
 
 returns-11 : tie.Need-returns-11
 unfolding seriesText
-returns-11 c = put-as (c .before .before .put-run2 .ensures) (series-is 11 (c .before .before .before .before .before .match .keys11))
+returns-11 c =
+    let at-match = c .before .before .before .before .before in
+    put-as (c .before .before .put-run2 .ensures) (series-is 11 (at-match .match .keys11))
 
 same-length-12 : tie.Need-same-length-12
 same-length-12 c = search needs
 
 returns-12 : tie.Need-returns-12
 unfolding seriesText
-returns-12 c = put-as (c .before .before .put-run3 .ensures) (series-is 12 (c .before .before .before .before .before .match .keys12))
+returns-12 c =
+    let at-match = c .before .before .before .before .before in
+    put-as (c .before .before .put-run3 .ensures) (series-is 12 (at-match .match .keys12))
 
 same-length-13 : tie.Need-same-length-13
 same-length-13 c = search needs
 
 returns-13 : tie.Need-returns-13
 unfolding seriesText
-returns-13 c = put-as (c .before .before .put-run4 .ensures) (series-is 13 (c .before .before .before .before .before .match .keys13))
+returns-13 c =
+    let at-match = c .before .before .before .before .before in
+    put-as (c .before .before .put-run4 .ensures) (series-is 13 (at-match .match .keys13))
 
 returns-14 : tie.Need-returns-14
 returns-14 c = put-as (put-none (omega arith) (omega arith)) (series-none _ (none-to 13 _ (c .match .rest)))

@@ -59,7 +59,16 @@ cast-t19 : tie.Need-cast-t19
 cast-t19 c = search needs
 
 returns : tie.Need-returns
-returns c = λ i. record { annotations = ((c .before .before .before .before .before .before .before .before .before .before .word-at .ensures) ∙ ap wordOf (c .before .before .before .before .before .before .before .before .before .before .before .rest .ensures)) i; losses = ((c .before .before .before .before .before .before .before .before .word-at2 .ensures) ∙ ap wordOf (c .before .before .before .before .before .before .before .before .before .rest2 .ensures)) i; isotopes = ((c .before .before .before .before .before .before .word-at3 .ensures) ∙ ap wordOf (c .before .before .before .before .before .before .before .rest3 .ensures)) i; items = ((c .before .before .before .before .word-at4 .ensures) ∙ ap wordOf (c .before .before .before .before .before .rest4 .ensures)) i; units = ((c .before .before .word-at5 .ensures) ∙ ap wordOf (c .before .before .before .rest5 .ensures)) i; text = ((c .word-at6 .ensures) ∙ ap wordOf (c .before .rest6 .ensures)) i }
+returns c =
+    let at-word-at4 = c .before .before .before .before in
+    let at-rest4 = at-word-at4 .before in
+    let at-word-at3 = at-rest4 .before in
+    let at-rest3 = at-word-at3 .before in
+    let at-word-at2 = at-rest3 .before in
+    let at-rest2 = at-word-at2 .before in
+    let at-word-at = at-rest2 .before in
+    let at-rest = at-word-at .before in
+    λ i. record { annotations = ((at-word-at .word-at .ensures) ∙ ap wordOf (at-rest .rest .ensures)) i; losses = ((at-word-at2 .word-at2 .ensures) ∙ ap wordOf (at-rest2 .rest2 .ensures)) i; isotopes = ((at-word-at3 .word-at3 .ensures) ∙ ap wordOf (at-rest3 .rest3 .ensures)) i; items = ((at-word-at4 .word-at4 .ensures) ∙ ap wordOf (at-rest4 .rest4 .ensures)) i; units = ((c .before .before .word-at5 .ensures) ∙ ap wordOf (c .before .before .before .rest5 .ensures)) i; text = ((c .word-at6 .ensures) ∙ ap wordOf (c .before .rest6 .ensures)) i }
 
 pub counts-at-spec : {M : Type 1} → statement M
 counts-at-spec =

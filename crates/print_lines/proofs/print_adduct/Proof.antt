@@ -23,7 +23,12 @@ same-length : tie.Need-same-length
 same-length c = search needs
 
 returns-2 : tie.Need-returns-2
-returns-2 c = adduct-some (c .before .before .before .before .before .before .before .before .before .before .before .before .before .before .before .before .before .before .args .n) (c .before .before .before .before .before .before .before .before .before .before .before .before .before .before .before .before .before .before .args .x .now) (c .before .before .before .before .before .before .before .before .before .before .before .before .before .before .before .before .before .before .args .u .now) (c .before .before .before .before .before .before .before .before .before .before .before .before .before .before .before .before .before .before .args .t .now) (c .before .before .before .before .before .before .before .before .before .before .before .before .before .if1 .left) (c .before .before .before .before .before .before .before .before .before .before .put-run .ensures) (c .before .before .before .before .before .before .print-pieces .ensures) (c .before .before .put8 .ensures)
+returns-2 c =
+    let at-print-pieces = c .before .before .before .before .before .before in
+    let at-put-run = at-print-pieces .before .before .before .before in
+    let at-if1 = at-put-run .before .before .before in
+    let at-args = at-if1 .before .before .before .before .before in
+    adduct-some (at-args .args .n) (at-args .args .x .now) (at-args .args .u .now) (at-args .args .t .now) (at-if1 .if1 .left) (at-put-run .put-run .ensures) (at-print-pieces .print-pieces .ensures) (c .before .before .put8 .ensures)
 
 pub print-adduct-spec : {M : Type 1} → statement M
 print-adduct-spec =

@@ -110,7 +110,8 @@ ahead-requires-10 c κs = search needs
 
 same-length : tie.Need-same-length
 same-length c =
-    let tail = c .before .before .before .before .before .before .before .before in
+    let at-way = c .before .before .before .before .before .before .before .before in
+    let tail = at-way in
     let adduct = tail .before .before .before .before in
     let isotopes = adduct .before .before .before .before .before .before .before in
     let losses = isotopes .before .before .before .before .before .before .before in
@@ -119,7 +120,10 @@ same-length c =
 
 returns : tie.Need-returns
 returns c =
-    let tail = c .before .before .before .before .before .before .before .before in
+    let at-ahead6 = c .before .before .before .before in
+    let at-ahead5 = at-ahead6 .before in
+    let at-way = at-ahead5 .before .before .before in
+    let tail = at-way in
     let adduct = tail .before .before .before .before in
     let isotopes = adduct .before .before .before .before .before .before .before in
     let losses = isotopes .before .before .before .before .before .before .before in
@@ -134,7 +138,7 @@ returns c =
     (isotopes .before .rest7 .ensures) (isotopes .print-isotopes .ensures)
     (adduct .before .before .before .rest8 .ensures) (adduct .before .before .rest9 .ensures) (adduct .before .rest10 .ensures) (adduct .print-adduct .ensures)
     (tail .print-tail .ensures)
-    (c .before .before .before .before .before .ahead5 .ensures) (c .before .before .before .before .ahead6 .ensures) (c .before .before .before .ahead7 .ensures) (c .before .before .ahead8 .ensures) (c .before .ahead9 .ensures) (c .ahead10 .ensures)
+    (at-ahead5 .ahead5 .ensures) (at-ahead6 .ahead6 .ensures) (c .before .before .before .ahead7 .ensures) (c .before .before .ahead8 .ensures) (c .before .ahead9 .ensures) (c .ahead10 .ensures)
 
 pub print-annotation-spec : {M : Type 1} → statement M
 print-annotation-spec =

@@ -51,14 +51,24 @@ loop-less : tie.Need-loop-less Inv-loop μ-loop
 loop-less c = search needs
 
 loop-again : tie.Need-loop-again Inv-loop μ-loop
-loop-again c = line-turn _ (c .before .before .before .before .before .before .before .before .before .before .before .before .before .before .before .before .before .before .args .table .now) (c .before .before .before .before .before .before .before .before .before .before .loop .inv) (c .before .before .before .before .before .before .before .before .before .loop-test .taken) (c .before .before .before .before .before .before .before .put-comma .ensures) (c .before .before .before .print-annotation .ensures)
+loop-again c =
+    let at-put-comma = c .before .before .before .before .before .before .before in
+    let at-loop-test = at-put-comma .before .before in
+    let at-loop = at-loop-test .before in
+    let at-args = at-loop .before .before .before .before .before .before .before .before in
+    line-turn _ (at-args .args .table .now) (at-loop .loop .inv) (at-loop-test .loop-test .taken) (at-put-comma .put-comma .ensures) (c .before .before .before .print-annotation .ensures)
 
 same-length : tie.Need-same-length Inv-loop μ-loop
 same-length c = c .before .loop .inv .same
 
 returns : tie.Need-returns Inv-loop μ-loop
 unfolding printedTable
-returns c = put-as (line-ends _ _ _ (c .before .loop .inv) (c .loop-test .left)) (ap₂ (λ (n : ℕ) (k : Cursors). annotationsText 0 n (partsAt (c .before .before .before .before .before .before .before .before .before .args .table .now) k)) ((c .before .before .before .before .at-most .ensures) ∙ ap (λ (n : ℕ). min n 16) ((c .before .before .before .before .before .word-at .ensures) ∙ ap wordOf (c .before .before .before .before .before .before .rest .ensures))) ((c .before .before .starts .ensures) ∙ ap startsOf (c .before .before .before .counts-at .ensures)))
+returns c =
+    let at-at-most = c .before .before .before .before in
+    let at-word-at = at-at-most .before in
+    let at-rest = at-word-at .before in
+    let at-args = at-rest .before .before .before in
+    put-as (line-ends _ _ _ (c .before .loop .inv) (c .loop-test .left)) (ap₂ (λ (n : ℕ) (k : Cursors). annotationsText 0 n (partsAt (at-args .args .table .now) k)) ((at-at-most .at-most .ensures) ∙ ap (λ (n : ℕ). min n 16) ((at-word-at .word-at .ensures) ∙ ap wordOf (at-rest .rest .ensures))) ((c .before .before .starts .ensures) ∙ ap startsOf (c .before .before .before .counts-at .ensures)))
 
 pub print-table-spec : {M : Type 1} → statement M
 print-table-spec =

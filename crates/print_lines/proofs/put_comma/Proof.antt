@@ -15,7 +15,9 @@ same-length : tie.Need-same-length
 same-length c = search needs
 
 returns-2 : tie.Need-returns-2
-returns-2 c = put-as (c .before .before .put8 .ensures) (comma-next _ (c .before .before .before .before .if1 .left))
+returns-2 c =
+    let at-if1 = c .before .before .before .before in
+    put-as (c .before .before .put8 .ensures) (comma-next _ (at-if1 .if1 .left))
 
 pub put-comma-spec : {M : Type 1} → statement M
 put-comma-spec = tie.close (tie.spec returns put8-requires same-length returns-2)

@@ -26,7 +26,9 @@ add-result : tie.Need-add-result
 add-result c = search needs
 
 returns : tie.Need-returns
-returns c = oct-made (c .before .before .before .before .args .s .now) (c .before .rest .result .now) (c .before .before .quad-at .ensures) (c .quad-at2 .ensures) (c .before .rest .ensures)
+returns c =
+    let at-args = c .before .before .before .before in
+    oct-made (at-args .args .s .now) (c .before .rest .result .now) (c .before .before .quad-at .ensures) (c .quad-at2 .ensures) (c .before .rest .ensures)
 
 pub oct-at-spec : {M : Type 1} → statement M
 oct-at-spec =

@@ -34,7 +34,14 @@ same-length : tie.Need-same-length
 same-length c = search needs
 
 returns-2 : tie.Need-returns-2
-returns-2 c = put-as (put-then (c .before .before .before .before .before .before .before .before .before .put8 .ensures) (c .before .before .put-pointed .ensures)) (confidence-some (c .before .before .before .before .before .before .before .before .before .before .before .before .before .before .before .args .s .now) (c .before .before .before .before .before .before .before .before .before .before .before .before .byte-of .ensures) (c .before .before .before .before .before .before .before .before .before .before .before .if1 .left) (c .before .before .before .before .before .rest .ensures) (c .before .before .before .before .quad-at .ensures) (c .before .before .before .byte-of2 .ensures))
+returns-2 c =
+    let at-quad-at = c .before .before .before .before in
+    let at-rest = at-quad-at .before in
+    let at-put8 = at-rest .before .before .before .before in
+    let at-if1 = at-put8 .before .before in
+    let at-byte-of = at-if1 .before in
+    let at-args = at-byte-of .before .before .before in
+    put-as (put-then (at-put8 .put8 .ensures) (c .before .before .put-pointed .ensures)) (confidence-some (at-args .args .s .now) (at-byte-of .byte-of .ensures) (at-if1 .if1 .left) (at-rest .rest .ensures) (at-quad-at .quad-at .ensures) (c .before .before .before .byte-of2 .ensures))
 
 pub print-confidence-spec : {M : Type 1} → statement M
 print-confidence-spec =

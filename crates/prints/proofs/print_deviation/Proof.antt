@@ -31,7 +31,15 @@ same-length : tie.Need-same-length
 same-length c = search needs
 
 returns-2 : tie.Need-returns-2
-returns-2 c = put-as (put-then (c .before .before .before .before .before .before .before .before .before .before .put8 .ensures) (c .before .before .before .print-signed .ensures)) (deviation-plain (c .before .before .before .before .before .before .before .before .before .before .before .before .before .before .before .before .args .s .now) (c .before .before .before .before .before .before .before .before .before .before .before .before .before .byte-of .ensures) (c .before .before .before .before .before .before .before .before .before .before .before .before .if1 .left) (c .if2 .taken) (c .before .before .before .before .before .before .rest .ensures) (c .before .before .before .before .before .oct-at .ensures) (c .before .before .before .before .byte-of2 .ensures))
+returns-2 c =
+    let at-byte-of2 = c .before .before .before .before in
+    let at-oct-at = at-byte-of2 .before in
+    let at-rest = at-oct-at .before in
+    let at-put8 = at-rest .before .before .before .before in
+    let at-if1 = at-put8 .before .before in
+    let at-byte-of = at-if1 .before in
+    let at-args = at-byte-of .before .before .before in
+    put-as (put-then (at-put8 .put8 .ensures) (c .before .before .before .print-signed .ensures)) (deviation-plain (at-args .args .s .now) (at-byte-of .byte-of .ensures) (at-if1 .if1 .left) (c .if2 .taken) (at-rest .rest .ensures) (at-oct-at .oct-at .ensures) (at-byte-of2 .byte-of2 .ensures))
 
 slice-aggregate-put-run : tie.Need-slice-aggregate-put-run
 slice-aggregate-put-run c = search needs
@@ -43,7 +51,17 @@ same-length-2 : tie.Need-same-length-2
 same-length-2 c = search needs
 
 returns-3 : tie.Need-returns-3
-returns-3 c = put-as (put-then (c .before .before .before .before .before .before .before .before .before .before .before .before .before .before .before .put8 .ensures) (put-then (c .before .before .before .before .before .before .before .before .print-signed .ensures) (c .before .before .put-run .ensures))) (deviation-ppm (c .before .before .before .before .before .before .before .before .before .before .before .before .before .before .before .before .before .before .before .before .before .args .s .now) (c .before .before .before .before .before .before .before .before .before .before .before .before .before .before .before .before .before .before .byte-of .ensures) (c .before .before .before .before .before .before .before .before .before .before .before .before .before .before .before .before .before .if1 .left) (c .before .before .before .before .before .if2 .left) (c .before .before .before .before .before .before .before .before .before .before .before .rest .ensures) (c .before .before .before .before .before .before .before .before .before .before .oct-at .ensures) (c .before .before .before .before .before .before .before .before .before .byte-of2 .ensures))
+returns-3 c =
+    let at-if2 = c .before .before .before .before .before in
+    let at-print-signed = at-if2 .before .before .before in
+    let at-byte-of2 = at-print-signed .before in
+    let at-oct-at = at-byte-of2 .before in
+    let at-rest = at-oct-at .before in
+    let at-put8 = at-rest .before .before .before .before in
+    let at-if1 = at-put8 .before .before in
+    let at-byte-of = at-if1 .before in
+    let at-args = at-byte-of .before .before .before in
+    put-as (put-then (at-put8 .put8 .ensures) (put-then (at-print-signed .print-signed .ensures) (c .before .before .put-run .ensures))) (deviation-ppm (at-args .args .s .now) (at-byte-of .byte-of .ensures) (at-if1 .if1 .left) (at-if2 .if2 .left) (at-rest .rest .ensures) (at-oct-at .oct-at .ensures) (at-byte-of2 .byte-of2 .ensures))
 
 pub print-deviation-spec : {M : Type 1} → statement M
 print-deviation-spec =

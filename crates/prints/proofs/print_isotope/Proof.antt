@@ -30,7 +30,14 @@ same-length : tie.Need-same-length
 same-length c = search needs
 
 returns : tie.Need-returns
-returns c = put-as (put-then (c .before .before .before .before .before .before .before .before .before .before .put-head .ensures) (put-then (c .before .before .before .before .before .before .put8 .ensures) (c .before .before .print-which .ensures))) (isotope-made (c .before .before .before .before .before .before .before .before .before .before .before .before .before .before .before .before .before .args .s .now) (c .before .before .before .before .before .before .before .before .before .before .before .before .before .byte-of .ensures) (c .before .before .before .before .before .before .before .before .before .before .before .before .rest .ensures) (c .before .before .before .before .before .before .before .before .before .before .before .word-at .ensures))
+returns c =
+    let at-put8 = c .before .before .before .before .before .before in
+    let at-put-head = at-put8 .before .before .before .before in
+    let at-word-at = at-put-head .before in
+    let at-rest = at-word-at .before in
+    let at-byte-of = at-rest .before in
+    let at-args = at-byte-of .before .before .before .before in
+    put-as (put-then (at-put-head .put-head .ensures) (put-then (at-put8 .put8 .ensures) (c .before .before .print-which .ensures))) (isotope-made (at-args .args .s .now) (at-byte-of .byte-of .ensures) (at-rest .rest .ensures) (at-word-at .word-at .ensures))
 
 pub print-isotope-spec : {M : Type 1} → statement M
 print-isotope-spec =

@@ -36,7 +36,11 @@ loop-less : tie.Need-loop-less Inv-loop μ-loop
 loop-less c = search needs
 
 loop-again : tie.Need-loop-again Inv-loop μ-loop
-loop-again c = chain-turn isotopeText (λ r. 8) _ _ (c .before .before .before .before .before .before .before .loop .from) (c .before .before .before .before .before .before .before .loop .inv) (c .before .before .before .before .before .before .loop-test .taken) (c .before .before .before .print-isotope .ensures) (ap isotopeText (c .before .before .before .before .rest .ensures)) (c .ahead .ensures)
+loop-again c =
+    let at-rest = c .before .before .before .before in
+    let at-loop-test = at-rest .before .before in
+    let at-loop = at-loop-test .before in
+    chain-turn isotopeText (λ r. 8) _ _ (at-loop .loop .from) (at-loop .loop .inv) (at-loop-test .loop-test .taken) (c .before .before .before .print-isotope .ensures) (ap isotopeText (at-rest .rest .ensures)) (c .ahead .ensures)
 
 same-length : tie.Need-same-length Inv-loop μ-loop
 same-length c = c .before .loop .inv .same

@@ -27,7 +27,13 @@ same-length : tie.Need-same-length
 same-length c = search needs
 
 returns : tie.Need-returns
-returns c = put-as (put-then (c .before .before .before .before .before .before .put-head .ensures) (c .before .before .print-what .ensures)) (piece-made (c .before .before .before .before .before .before .before .before .before .before .before .before .before .before .before .args .l .now) (c .before .before .before .before .before .before .before .before .before .byte-of .ensures) (c .before .before .before .before .before .before .before .before .rest .ensures) (c .before .before .before .before .before .before .before .word-at .ensures) (c .before .before .before .before .before .before .before .before .before .before .before .before .before .before .before .args .u .now) (c .before .before .before .before .before .before .before .before .before .before .before .before .before .before .before .args .t .now))
+returns c =
+    let at-put-head = c .before .before .before .before .before .before in
+    let at-word-at = at-put-head .before in
+    let at-rest = at-word-at .before in
+    let at-byte-of = at-rest .before in
+    let at-args = at-byte-of .before .before .before .before .before .before in
+    put-as (put-then (at-put-head .put-head .ensures) (c .before .before .print-what .ensures)) (piece-made (at-args .args .l .now) (at-byte-of .byte-of .ensures) (at-rest .rest .ensures) (at-word-at .word-at .ensures) (at-args .args .u .now) (at-args .args .t .now))
 
 pub print-piece-spec : {M : Type 1} → statement M
 print-piece-spec =

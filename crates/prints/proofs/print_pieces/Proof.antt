@@ -52,13 +52,24 @@ loop-less : tie.Need-loop-less Inv-loop μ-loop
 loop-less c = search needs
 
 loop-again : tie.Need-loop-again Inv-loop μ-loop
-loop-again c = pieces-turn _ (c .before .before .before .before .before .before .before .before .before .before .before .before .before .before .before .before .before .before .args .l .now) (c .before .before .before .before .before .before .before .before .before .before .before .before .before .before .before .before .before .before .args .u .now) (c .before .before .before .before .before .before .before .before .before .before .before .before .before .before .before .before .before .before .args .t .now) (c .before .before .before .before .before .before .before .before .before .before .before .before .before .loop .inv) (c .before .before .before .before .before .before .before .before .before .before .before .before .loop-test .taken) (c .before .before .before .before .before .before .before .before .before .before .before .rest .ensures) (c .before .before .before .before .before .before .before .before .before .rest2 .ensures) (c .before .before .before .before .before .before .before .before .rest3 .ensures) (c .before .before .before .before .before .before .before .print-piece .ensures) (c .before .before .before .before .units-of .ensures) (c .before .before .before .ahead .ensures) (c .before .before .name-of .ensures) (c .before .ahead2 .ensures) (c .ahead3 .ensures)
+loop-again c =
+    let at-units-of = c .before .before .before .before in
+    let at-print-piece = at-units-of .before .before .before in
+    let at-rest3 = at-print-piece .before in
+    let at-rest2 = at-rest3 .before in
+    let at-rest = at-rest2 .before .before in
+    let at-loop-test = at-rest .before in
+    let at-loop = at-loop-test .before in
+    let at-args = at-loop .before .before .before .before .before in
+    pieces-turn _ (at-args .args .l .now) (at-args .args .u .now) (at-args .args .t .now) (at-loop .loop .inv) (at-loop-test .loop-test .taken) (at-rest .rest .ensures) (at-rest2 .rest2 .ensures) (at-rest3 .rest3 .ensures) (at-print-piece .print-piece .ensures) (at-units-of .units-of .ensures) (c .before .before .before .ahead .ensures) (c .before .before .name-of .ensures) (c .before .ahead2 .ensures) (c .ahead3 .ensures)
 
 same-length : tie.Need-same-length Inv-loop μ-loop
 same-length c = c .before .loop .inv .going .same
 
 returns : tie.Need-returns Inv-loop μ-loop
-returns c = pieces-end _ (c .before .before .before .before .before .before .args .l .now) (c .before .before .before .before .before .before .args .u .now) (c .before .before .before .before .before .before .args .t .now) (c .before .loop .inv) (c .loop-test .left)
+returns c =
+    let at-args = c .before .before .before .before .before .before in
+    pieces-end _ (at-args .args .l .now) (at-args .args .u .now) (at-args .args .t .now) (c .before .loop .inv) (c .loop-test .left)
 
 pub print-pieces-spec : {M : Type 1} → statement M
 print-pieces-spec =

@@ -15,7 +15,10 @@ same-length : tie.Need-same-length
 same-length c = search needs
 
 returns : tie.Need-returns
-returns c = put-as (c .before .before .put-pointed .ensures) (signed-plus _ _ (c .before .before .before .before .before .size-of-signed .ensures) (c .before .before .before .before .if1 .taken))
+returns c =
+    let at-if1 = c .before .before .before .before in
+    let at-size-of-signed = at-if1 .before in
+    put-as (c .before .before .put-pointed .ensures) (signed-plus _ _ (at-size-of-signed .size-of-signed .ensures) (at-if1 .if1 .taken))
 
 put8-requires : tie.Need-put8-requires
 put8-requires c κs = search needs
@@ -27,7 +30,11 @@ same-length-2 : tie.Need-same-length-2
 same-length-2 c = search needs
 
 returns-2 : tie.Need-returns-2
-returns-2 c = put-as (put-then (c .before .before .before .before .before .before .put8 .ensures) (c .before .before .put-pointed2 .ensures)) (signed-minus _ _ (c .before .before .before .before .before .before .before .before .before .size-of-signed .ensures) (c .before .before .before .before .before .before .before .before .if1 .left))
+returns-2 c =
+    let at-put8 = c .before .before .before .before .before .before in
+    let at-if1 = at-put8 .before .before in
+    let at-size-of-signed = at-if1 .before in
+    put-as (put-then (at-put8 .put8 .ensures) (c .before .before .put-pointed2 .ensures)) (signed-minus _ _ (at-size-of-signed .size-of-signed .ensures) (at-if1 .if1 .left))
 
 pub print-signed-spec : {M : Type 1} → statement M
 print-signed-spec =

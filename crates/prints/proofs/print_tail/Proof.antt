@@ -17,7 +17,10 @@ same-length : tie.Need-same-length
 same-length c = search needs
 
 returns : tie.Need-returns
-returns c = put-then (c .before .before .before .before .before .before .before .before .before .before .print-charge .ensures) (put-then (c .before .before .before .before .before .before .print-deviation .ensures) (c .before .before .print-confidence .ensures))
+returns c =
+    let at-print-deviation = c .before .before .before .before .before .before in
+    let at-print-charge = at-print-deviation .before .before .before .before in
+    put-then (at-print-charge .print-charge .ensures) (put-then (at-print-deviation .print-deviation .ensures) (c .before .before .print-confidence .ensures))
 
 pub print-tail-spec : {M : Type 1} → statement M
 print-tail-spec =

@@ -18,7 +18,11 @@ same-length : tie.Need-same-length
 same-length c = search needs
 
 returns : tie.Need-returns
-returns c = put-as (c .before .before .print-units .ensures) (what-units (c .before .before .before .before .before .before .before .before .before .before .before .args .l .now) (c .before .before .before .before .before .before .byte-of .ensures) (c .before .before .before .before .before .before .before .before .before .before .before .args .u .now) (c .before .before .before .before .before .before .before .before .before .before .before .args .t .now) (c .before .before .before .before .before .if1 .taken) (c .before .before .before .units-of .ensures))
+returns c =
+    let at-if1 = c .before .before .before .before .before in
+    let at-byte-of = at-if1 .before in
+    let at-args = at-byte-of .before .before .before .before .before in
+    put-as (c .before .before .print-units .ensures) (what-units (at-args .args .l .now) (at-byte-of .byte-of .ensures) (at-args .args .u .now) (at-args .args .t .now) (at-if1 .if1 .taken) (c .before .before .before .units-of .ensures))
 
 put8-requires : tie.Need-put8-requires
 put8-requires c κs = search needs
@@ -39,7 +43,16 @@ same-length-2 : tie.Need-same-length-2
 same-length-2 c = search needs
 
 returns-2 : tie.Need-returns-2
-returns-2 c = put-as (put-then (c .before .before .before .before .before .before .before .before .before .before .before .before .put8 .ensures) (put-then (c .before .before .before .before .before .before .put-run .ensures) (c .before .before .put82 .ensures))) (what-name (c .before .before .before .before .before .before .before .before .before .before .before .before .before .before .before .before .before .before .before .before .before .args .l .now) (c .before .before .before .before .before .before .before .before .before .before .before .before .before .before .before .before .byte-of .ensures) (c .before .before .before .before .before .before .before .before .before .before .before .before .before .before .before .before .before .before .before .before .before .args .u .now) (c .before .before .before .before .before .before .before .before .before .before .before .before .before .before .before .before .before .before .before .before .before .args .t .now) (c .before .before .before .before .before .before .before .before .before .before .before .before .before .before .before .if1 .left) (c .before .before .before .before .before .before .before .before .before .before .before .before .before .before .if2 .taken) (c .before .before .before .before .before .before .before .before .name-of .ensures) (c .before .before .before .before .before .before .before .first-of .ensures))
+returns-2 c =
+    let at-put-run = c .before .before .before .before .before .before in
+    let at-first-of = at-put-run .before in
+    let at-name-of = at-first-of .before in
+    let at-put8 = at-name-of .before .before .before .before in
+    let at-if2 = at-put8 .before .before in
+    let at-if1 = at-if2 .before in
+    let at-byte-of = at-if1 .before in
+    let at-args = at-byte-of .before .before .before .before .before in
+    put-as (put-then (at-put8 .put8 .ensures) (put-then (at-put-run .put-run .ensures) (c .before .before .put82 .ensures))) (what-name (at-args .args .l .now) (at-byte-of .byte-of .ensures) (at-args .args .u .now) (at-args .args .t .now) (at-if1 .if1 .left) (at-if2 .if2 .taken) (at-name-of .name-of .ensures) (at-first-of .first-of .ensures))
 
 put8-requires-3 : tie.Need-put8-requires-3
 put8-requires-3 c κs = search needs
@@ -48,7 +61,12 @@ same-length-3 : tie.Need-same-length-3
 same-length-3 c = search needs
 
 returns-3 : tie.Need-returns-3
-returns-3 c = put-as (c .before .before .put83 .ensures) (what-electron (c .before .before .before .before .before .before .before .before .before .before .before .args .l .now) (c .before .before .before .before .before .before .byte-of .ensures) (c .before .before .before .before .before .before .before .before .before .before .before .args .u .now) (c .before .before .before .before .before .before .before .before .before .before .before .args .t .now) (c .before .before .before .before .before .if1 .left) (c .before .before .before .before .if2 .left))
+returns-3 c =
+    let at-if2 = c .before .before .before .before in
+    let at-if1 = at-if2 .before in
+    let at-byte-of = at-if1 .before in
+    let at-args = at-byte-of .before .before .before .before .before in
+    put-as (c .before .before .put83 .ensures) (what-electron (at-args .args .l .now) (at-byte-of .byte-of .ensures) (at-args .args .u .now) (at-args .args .t .now) (at-if1 .if1 .left) (at-if2 .if2 .left))
 
 pub print-what-spec : {M : Type 1} → statement M
 print-what-spec =

@@ -19,7 +19,12 @@ same-length : tie.Need-same-length
 same-length c = search needs
 
 returns-2 : tie.Need-returns-2
-returns-2 c = put-as (c .before .before .put8 .ensures) (which-average (c .before .before .before .before .before .before .before .before .before .args .s .now) (c .before .before .before .before .before .before .byte-of .ensures) (c .before .before .before .before .before .if1 .left) (c .before .before .before .before .if2 .taken))
+returns-2 c =
+    let at-if2 = c .before .before .before .before in
+    let at-if1 = at-if2 .before in
+    let at-byte-of = at-if1 .before in
+    let at-args = at-byte-of .before .before .before in
+    put-as (c .before .before .put8 .ensures) (which-average (at-args .args .s .now) (at-byte-of .byte-of .ensures) (at-if1 .if1 .left) (at-if2 .if2 .taken))
 
 rest-requires : tie.Need-rest-requires
 rest-requires c κs = search needs
@@ -46,7 +51,16 @@ same-length-2 : tie.Need-same-length-2
 same-length-2 c = search needs
 
 returns-3 : tie.Need-returns-3
-returns-3 c = put-as (put-then (c .before .before .before .before .before .before .before .before .put-number .ensures) (c .before .before .put-symbol .ensures)) (which-specific (c .before .before .before .before .before .before .before .before .before .before .before .before .before .before .before .before .before .args .s .now) (c .before .before .before .before .before .before .before .before .before .before .before .before .before .before .byte-of .ensures) (c .before .before .before .before .before .before .before .before .before .before .before .before .before .if1 .left) (c .before .before .before .before .before .before .before .before .before .before .before .before .if2 .left) (c .before .before .before .before .before .before .before .before .before .before .rest .ensures) (c .before .before .before .before .before .before .before .before .before .word-at .ensures) (c .before .before .before .before .rest2 .ensures) (c .before .before .before .word-at2 .ensures))
+returns-3 c =
+    let at-rest2 = c .before .before .before .before in
+    let at-put-number = at-rest2 .before .before .before .before in
+    let at-word-at = at-put-number .before in
+    let at-rest = at-word-at .before in
+    let at-if2 = at-rest .before .before in
+    let at-if1 = at-if2 .before in
+    let at-byte-of = at-if1 .before in
+    let at-args = at-byte-of .before .before .before in
+    put-as (put-then (at-put-number .put-number .ensures) (c .before .before .put-symbol .ensures)) (which-specific (at-args .args .s .now) (at-byte-of .byte-of .ensures) (at-if1 .if1 .left) (at-if2 .if2 .left) (at-rest .rest .ensures) (at-word-at .word-at .ensures) (at-rest2 .rest2 .ensures) (c .before .before .before .word-at2 .ensures))
 
 pub print-which-spec : {M : Type 1} → statement M
 print-which-spec =

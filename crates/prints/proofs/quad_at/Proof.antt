@@ -26,7 +26,9 @@ add-result : tie.Need-add-result
 add-result c = search needs
 
 returns : tie.Need-returns
-returns c = quad-made (c .before .before .before .before .args .s .now) (c .before .rest .result .now) (c .before .before .word-at .ensures) (c .word-at2 .ensures) (c .before .rest .ensures)
+returns c =
+    let at-args = c .before .before .before .before in
+    quad-made (at-args .args .s .now) (c .before .rest .result .now) (c .before .before .word-at .ensures) (c .word-at2 .ensures) (c .before .rest .ensures)
 
 pub quad-at-spec : {M : Type 1} → statement M
 quad-at-spec =

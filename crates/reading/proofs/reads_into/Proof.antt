@@ -13,7 +13,11 @@ same-length : tie.Need-same-length
 same-length c = search needs
 
 returns : tie.Need-returns
-returns c = let a = (c .before .before .before .before .before .before .before .before .before .before .args) in reads-not (scannedBy (a .machine .now) (a .line .now)) (a .scratch .now) (a .line .now) (a .table .now) (bytes-all (a .line .now) (λ i h. (c .before .before .before .before .before .before .before .before .shared-slice-known2 .given) i .fits)) (c .before .before .before .before .read-any .ensures) (c .if1 .taken)
+returns c =
+    let at-read-any = c .before .before .before .before in
+    let at-shared-slice-known2 = at-read-any .before .before .before .before in
+    let at-args = at-shared-slice-known2 .before .before in
+    let a = (at-args .args) in reads-not (scannedBy (a .machine .now) (a .line .now)) (a .scratch .now) (a .line .now) (a .table .now) (bytes-all (a .line .now) (λ i h. (at-shared-slice-known2 .shared-slice-known2 .given) i .fits)) (at-read-any .read-any .ensures) (c .if1 .taken)
 
 first-of-requires : tie.Need-first-of-requires
 first-of-requires c κs = search needs
@@ -25,7 +29,11 @@ same-length-2 : tie.Need-same-length-2
 same-length-2 c = search needs
 
 returns-2 : tie.Need-returns-2
-returns-2 c = let a = (c .before .before .before .before .before .before .before .before .before .before .before .before .before .args) in reads-same (scannedBy (a .machine .now) (a .line .now)) (a .scratch .now) (a .line .now) (a .table .now) (bytes-all (a .line .now) (λ i h. (c .before .before .before .before .before .before .before .before .before .before .before .shared-slice-known2 .given) i .fits)) (c .before .before .before .before .before .before .before .read-any .ensures) (c .before .before .before .if1 .left) (c .before .first-of .ensures) (c .same-bytes .ensures)
+returns-2 c =
+    let at-read-any = c .before .before .before .before .before .before .before in
+    let at-shared-slice-known2 = at-read-any .before .before .before .before in
+    let at-args = at-shared-slice-known2 .before .before in
+    let a = (at-args .args) in reads-same (scannedBy (a .machine .now) (a .line .now)) (a .scratch .now) (a .line .now) (a .table .now) (bytes-all (a .line .now) (λ i h. (at-shared-slice-known2 .shared-slice-known2 .given) i .fits)) (at-read-any .read-any .ensures) (c .before .before .before .if1 .left) (c .before .first-of .ensures) (c .same-bytes .ensures)
 
 pub reads-into-spec : {M : Type 1} → statement M
 reads-into-spec =

@@ -39,16 +39,35 @@ store-next-requires-2 : tie.Need-store-next-requires-2 Inv-loop μ-loop
 store-next-requires-2 c κs = search needs
 
 loop-less : tie.Need-loop-less Inv-loop μ-loop
-loop-less c = storing-falls _ (c .before .before .before .before .before .before .before .before .before .before .loop .inv) (c .before .before .before .before .before .before .before .before .before .rest .ensures) (sym (c .before .before .before .before .before .before .before .before .begins-with .ensures) ∙ c .before .before .before .before .before .before .before .if2 .taken) (c .before .before .before .before .before .ahead .ensures) (c .before .before .before .before .read-at .ensures) (c .before .before .store-next2 .ensures)
+loop-less c =
+    let at-read-at = c .before .before .before .before in
+    let at-ahead = at-read-at .before in
+    let at-if2 = at-ahead .before .before in
+    let at-begins-with = at-if2 .before in
+    let at-rest = at-begins-with .before in
+    let at-loop = at-rest .before in
+    storing-falls _ (at-loop .loop .inv) (at-rest .rest .ensures) (sym (at-begins-with .begins-with .ensures) ∙ at-if2 .if2 .taken) (at-ahead .ahead .ensures) (at-read-at .read-at .ensures) (c .before .before .store-next2 .ensures)
 
 loop-again : tie.Need-loop-again Inv-loop μ-loop
-loop-again c = storing-turns _ (c .before .before .before .before .before .before .before .before .before .before .loop .inv) (c .before .before .before .before .before .before .before .before .before .rest .ensures) (sym (c .before .before .before .before .before .before .before .before .begins-with .ensures) ∙ c .before .before .before .before .before .before .before .if2 .taken) (c .before .before .before .before .before .ahead .ensures) (c .before .before .before .before .read-at .ensures) (c .before .before .store-next2 .ensures)
+loop-again c =
+    let at-read-at = c .before .before .before .before in
+    let at-ahead = at-read-at .before in
+    let at-if2 = at-ahead .before .before in
+    let at-begins-with = at-if2 .before in
+    let at-rest = at-begins-with .before in
+    let at-loop = at-rest .before in
+    storing-turns _ (at-loop .loop .inv) (at-rest .rest .ensures) (sym (at-begins-with .begins-with .ensures) ∙ at-if2 .if2 .taken) (at-ahead .ahead .ensures) (at-read-at .read-at .ensures) (c .before .before .store-next2 .ensures)
 
 same-length : tie.Need-same-length Inv-loop μ-loop
-same-length c = storing-length (c .before .before .before .loop .inv) ∙ ran-length (c .before .before .before .before .before .before .store-next .ensures .ran)
+same-length c =
+    let at-store-next = c .before .before .before .before .before .before in
+    storing-length (c .before .before .before .loop .inv) ∙ ran-length (at-store-next .store-next .ensures .ran)
 
 returns-2 : tie.Need-returns-2 Inv-loop μ-loop
-returns-2 c = storing-ends _ (c .before .before .before .loop .inv) (c .before .before .rest .ensures) (c .before .before .before .before .before .before .before .before .if1 .left) (c .before .before .before .before .before .before .store-next .ensures) (sym (c .before .begins-with .ensures) ∙ c .if2 .left)
+returns-2 c =
+    let at-store-next = c .before .before .before .before .before .before in
+    let at-if1 = at-store-next .before .before in
+    storing-ends _ (c .before .before .before .loop .inv) (c .before .before .rest .ensures) (at-if1 .if1 .left) (at-store-next .store-next .ensures) (sym (c .before .begins-with .ensures) ∙ c .if2 .left)
 
 pub store-all-spec : {M : Type 1} → statement M
 store-all-spec =

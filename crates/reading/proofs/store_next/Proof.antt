@@ -16,7 +16,10 @@ same-length : tie.Need-same-length
 same-length c = search needs
 
 returns : tie.Need-returns
-returns c = next-stored _ _ _ (c .before .before .before .before .before .rest .ensures) (c .before .before .before .before .store .ensures) (c .ahead .ensures)
+returns c =
+    let at-store = c .before .before .before .before in
+    let at-rest = at-store .before in
+    next-stored _ _ _ (at-rest .rest .ensures) (at-store .store .ensures) (c .ahead .ensures)
 
 pub store-next-spec : {M : Type 1} → statement M
 store-next-spec =

@@ -18,10 +18,13 @@ same-length c = search needs
 
 returns : tie.Need-returns
 returns c =
+    let at-put-field = c .before .before .before .before .before .before in
+    let at-put8 = at-put-field .before .before .before .before in
+    let at-if1 = at-put8 .before .before in
     record {
-      refused = λ h. put-then (c .before .before .before .before .before .before .before .before .before .before .put8 .ensures) (put-then (c .before .before .before .before .before .before .put-field .ensures) (c .before .before .put-number .ensures));
-      spelled = λ e. absurd (c .before .before .before .before .before .before .before .before .before .before .before .before .if1 .taken e);
-      behind = λ e. absurd (c .before .before .before .before .before .before .before .before .before .before .before .before .if1 .taken e);
+      refused = λ h. put-then (at-put8 .put8 .ensures) (put-then (at-put-field .put-field .ensures) (c .before .before .put-number .ensures));
+      spelled = λ e. absurd (at-if1 .if1 .taken e);
+      behind = λ e. absurd (at-if1 .if1 .taken e);
     }
 
 ahead-requires : tie.Need-ahead-requires

@@ -33,13 +33,16 @@ same-length c = search needs
 
 returns-2 : tie.Need-returns-2
 returns-2 c =
-    let c1 = c .before .before .before .before .before .before .before .before in
+    let at-spell-pieces = c .before .before .before .before .before .before in
+    let at-rest = at-spell-pieces .before in
+    let at-way = at-rest .before in
+    let c1 = at-way in
     adduct-some _
     (sym (c1 .before .before .before .before .before .before .before .begins-adduct .ensures)
     ∙ not-false _ (c1 .before .before .before .before .before .before .if1 .left))
     (c1 .before .before .before .before .first-of .ensures) (c1 .before .before .before .put-run .ensures)
-    (c .before .before .before .before .before .before .before .rest .ensures)
-    (c .before .before .before .before .before .before .spell-pieces .ensures) (c .before .before .put8 .ensures)
+    (at-rest .rest .ensures)
+    (at-spell-pieces .spell-pieces .ensures) (c .before .before .put8 .ensures)
 
 pub spell-adduct-spec : {M : Type 1} → statement M
 spell-adduct-spec =

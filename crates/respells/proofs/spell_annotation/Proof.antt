@@ -33,10 +33,14 @@ same-length c = search needs
 
 returns : tie.Need-returns
 returns c =
-    let c1 = c .before .before .before .before .before .before .before .before in
+    let at-if1 = c .before .before .before .before .before in
+    let at-is-kept = at-if1 .before in
+    let at-first-of = at-is-kept .before in
+    let at-way = at-first-of .before in
+    let c1 = at-way in
     put-kept _ _ (c1 .before .before .before .rest .ensures) (c1 .before .before .rest2 .ensures) (c1 .before .rest3 .ensures) (c1 .less .ensures)
-    (c .before .before .before .before .before .before .before .first-of .ensures)
-    (c .before .before .before .before .before .before .is-kept .ensures) (c .before .before .before .before .before .if1 .taken)
+    (at-first-of .first-of .ensures)
+    (at-is-kept .is-kept .ensures) (at-if1 .if1 .taken)
     (c .before .before .before .first-of2 .ensures) (c .before .before .put-run .ensures)
 
 spell-parts-requires : tie.Need-spell-parts-requires
@@ -47,10 +51,15 @@ same-length-2 c = search needs
 
 returns-2 : tie.Need-returns-2
 returns-2 c =
-    let c1 = c .before .before .before .before .before .before .before .before in
+    let at-if1 = c .before .before .before .before in
+    let at-is-kept = at-if1 .before in
+    let at-first-of = at-is-kept .before in
+    let at-less = at-first-of .before in
+    let at-way = at-less .before in
+    let c1 = at-way in
     put-anew _ _ (c1 .before .before .rest .ensures) (c1 .before .rest2 .ensures) (c1 .rest3 .ensures)
-    (c .before .before .before .before .before .before .before .less .ensures) (c .before .before .before .before .before .before .first-of .ensures)
-    (c .before .before .before .before .before .is-kept .ensures) (c .before .before .before .before .if1 .left)
+    (at-less .less .ensures) (at-first-of .first-of .ensures)
+    (at-is-kept .is-kept .ensures) (at-if1 .if1 .left)
     (c .before .before .spell-parts .ensures)
 
 pub spell-annotation-spec : {M : Type 1} → statement M

@@ -15,7 +15,8 @@ same-length c = search needs
 
 returns : tie.Need-returns
 returns c =
-    ion-alone _ _ (c .before .before .before .before .before .if1 .taken) (c .before .before .before .first-of .ensures)
+    let at-if1 = c .before .before .before .before .before in
+    ion-alone _ _ (at-if1 .if1 .taken) (c .before .before .before .first-of .ensures)
     (c .before .before .put-run .ensures)
 
 first-of-requires-2 : tie.Need-first-of-requires-2
@@ -38,10 +39,13 @@ same-length-2 c = search needs
 
 returns-2 : tie.Need-returns-2
 returns-2 c =
-    let c1 = c .before .before .before .before .before .before .before .before in
+    let at-put-preferred = c .before .before .before .before .before .before in
+    let at-rest = at-put-preferred .before in
+    let at-way = at-rest .before in
+    let c1 = at-way in
     ion-formula _ _ (c1 .before .before .before .before .before .before .if1 .left) (c1 .before .before .before .before .first-of2 .ensures)
-    (c1 .before .before .before .put-run2 .ensures) (c .before .before .before .before .before .before .before .rest .ensures)
-    (c .before .before .before .before .before .before .put-preferred .ensures) (c .before .before .put8 .ensures)
+    (c1 .before .before .before .put-run2 .ensures) (at-rest .rest .ensures)
+    (at-put-preferred .put-preferred .ensures) (c .before .before .put8 .ensures)
 
 pub spell-ion-spec : {M : Type 1} → statement M
 spell-ion-spec =

@@ -47,7 +47,8 @@ put-run-requires-2 c κs = search needs
 
 same-length : tie.Need-same-length
 same-length c =
-    let c1 = c .before .before .before .before .before .before .before .before in
+    let at-way = c .before .before .before .before .before .before .before .before in
+    let c1 = at-way in
     let c2 = c1 .before .before .before .before .before .before .before .before in
     let c3 = c2 .before .before .before .before .before .before .before .before in
     put-length (c .before .before .put-run2 .ensures) ∙ put-length (c1 .spell-adduct .ensures)
@@ -57,14 +58,16 @@ same-length c =
 
 returns : tie.Need-returns
 returns c =
-    let c1 = c .before .before .before .before .before .before .before .before in
+    let at-rest5 = c .before .before .before .before in
+    let at-way = at-rest5 .before .before .before .before in
+    let c1 = at-way in
     let c2 = c1 .before .before .before .before .before .before .before .before in
     let c3 = c2 .before .before .before .before .before .before .before .before in
     parts-put _ _ (c3 .before .before .before .before .before .first-of .ensures) (c3 .before .before .before .before .put-run .ensures)
     (c3 .rest .ensures) (c2 .before .before .before .before .before .before .before .spell-ion .ensures)
     (c2 .before .before .before .before .rest2 .ensures) (c2 .before .before .spell-pieces .ensures)
     (c1 .before .before .before .before .before .before .before .rest3 .ensures) (c1 .before .before .before .before .before .spell-isotopes .ensures)
-    (c1 .before .rest4 .ensures) (c1 .spell-adduct .ensures) (c .before .before .before .before .rest5 .ensures)
+    (c1 .before .rest4 .ensures) (c1 .spell-adduct .ensures) (at-rest5 .rest5 .ensures)
     (c .before .before .before .first-of2 .ensures) (c .before .before .put-run2 .ensures)
 
 pub spell-parts-spec : {M : Type 1} → statement M

@@ -21,7 +21,8 @@ same-length c = search needs
 
 returns : tie.Need-returns
 returns c =
-    let at-verdict = c .before .before .before .before .before in
+    let at-way = c .before .before .before .before .before in
+    let at-verdict = at-way in
     let at-room = at-verdict .before in
     let at-args = at-room .before .before .before .before in
     let a = at-args .args in shown-by (a .machine .now) (a .p) (at-room .room .ensures) (at-verdict .verdict .ensures) (c .before .before .before .put-verdict .ensures) (c .answered .ensures)

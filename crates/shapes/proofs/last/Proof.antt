@@ -15,7 +15,10 @@ same-length : tie.Need-same-length
 same-length c = search needs
 
 returns : tie.Need-returns
-returns c = last-shown (sym (c .before .before .before .before .before .is-begun .ensures) ∙ c .before .before .before .before .if1 .taken) (c .before .before .answer .ensures)
+returns c =
+    let at-if1 = c .before .before .before .before in
+    let at-is-begun = at-if1 .before in
+    last-shown (sym (at-is-begun .is-begun .ensures) ∙ at-if1 .if1 .taken) (c .before .before .answer .ensures)
 
 returns-2 : tie.Need-returns-2
 returns-2 c = last-none (sym (c .before .is-begun .ensures) ∙ c .if1 .left)

@@ -21,7 +21,8 @@ same-length c = search needs
 
 returns : tie.Need-returns
 returns c =
-    let at-if1 = c .before .before .before .before .before in
+    let at-way = c .before .before .before .before .before in
+    let at-if1 = at-way in
     let at-over = at-if1 .before in
     let at-stretch = at-over .before in
     part-ends (at-if1 .if1 .taken) (at-stretch .stretch .ensures) (at-over .over .ensures) (c .before .before .before .answer .ensures) (c .begin .ensures)

@@ -21,7 +21,8 @@ same-length c = search needs
 
 returns : tie.Need-returns
 returns c =
-    let at-put-number2 = c .before .before .before .before .before .before in
+    let at-way = c .before .before .before .before .before .before in
+    let at-put-number2 = at-way in
     let at-put8 = at-put-number2 .before .before .before .before in
     let at-put-number = at-put8 .before .before .before .before in
     put-then (at-put-number .put-number .ensures) (put-then (at-put8 .put8 .ensures) (put-then (at-put-number2 .put-number2 .ensures) (c .before .before .put82 .ensures)))

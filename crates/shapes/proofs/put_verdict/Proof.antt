@@ -31,7 +31,8 @@ same-length c = search needs
 
 returns : tie.Need-returns
 returns c =
-    let at-enum-told = c .before .before .before .before .before in
+    let at-way = c .before .before .before .before .before in
+    let at-enum-told = at-way in
     verdict-as (sym (at-enum-told .enum-told .given .1)) (λ line h. c .before .before .put-run .ensures)
 
 same-length-2 : tie.Need-same-length-2
@@ -39,7 +40,8 @@ same-length-2 c = search needs
 
 returns-2 : tie.Need-returns-2
 returns-2 c =
-    let at-enum-told2 = c .before .before .before .before in
+    let at-way = c .before .before .before .before in
+    let at-enum-told2 = at-way in
     verdict-as (sym (at-enum-told2 .enum-told2 .given .1)) (short-as (c .before .before .put-place .ensures))
 
 same-length-3 : tie.Need-same-length-3
@@ -47,7 +49,8 @@ same-length-3 c = search needs
 
 returns-3 : tie.Need-returns-3
 returns-3 c =
-    let at-v = c .before .before .before .before .before in
+    let at-way = c .before .before .before .before .before in
+    let at-v = at-way in
     verdict-as (sym (at-v .v .given .1)) (λ line h. c .before .before .put-place2 .ensures)
 
 pub put-verdict-spec : {M : Type 1} → statement M

@@ -21,7 +21,9 @@ same-length : tie.Need-same-length
 same-length c = search needs
 
 returns : tie.Need-returns
-returns c = put-as (c .before .before .put-run .ensures) (put-over (c .before .before .before .before .before .before .put-fields .ensures) (record-long _ _ _))
+returns c =
+    let at-put-fields = c .before .before .before .before .before .before in
+    put-as (c .before .before .put-run .ensures) (put-over (at-put-fields .put-fields .ensures) (record-long _ _ _))
 
 pub put-annotation-spec : {M : Type 1} → statement M
 put-annotation-spec =

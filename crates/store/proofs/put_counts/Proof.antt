@@ -28,7 +28,13 @@ same-length c = search needs
 
 returns : tie.Need-returns
 unfolding countBytes
-returns c = put-then (c .before .before .before .before .before .before .before .before .before .before .before .before .before .before .before .before .before .before .before .before .before .before .put-le .ensures) (put-then (c .before .before .before .before .before .before .before .before .before .before .before .before .before .before .before .before .before .before .put-le2 .ensures) (put-then (c .before .before .before .before .before .before .before .before .before .before .before .before .before .before .put-le3 .ensures) (put-then (c .before .before .before .before .before .before .before .before .before .before .put-le4 .ensures) (put-then (c .before .before .before .before .before .before .put-le5 .ensures) (c .before .before .put8 .ensures)))))
+returns c =
+    let at-put-le5 = c .before .before .before .before .before .before in
+    let at-put-le4 = at-put-le5 .before .before .before .before in
+    let at-put-le3 = at-put-le4 .before .before .before .before in
+    let at-put-le2 = at-put-le3 .before .before .before .before in
+    let at-put-le = at-put-le2 .before .before .before .before in
+    put-then (at-put-le .put-le .ensures) (put-then (at-put-le2 .put-le2 .ensures) (put-then (at-put-le3 .put-le3 .ensures) (put-then (at-put-le4 .put-le4 .ensures) (put-then (at-put-le5 .put-le5 .ensures) (c .before .before .put8 .ensures)))))
 
 pub put-counts-spec : {M : Type 1} → statement M
 put-counts-spec =

@@ -17,7 +17,10 @@ same-length : tie.Need-same-length
 same-length c = search needs
 
 returns : tie.Need-returns
-returns c = put-then (c .before .before .before .before .before .before .before .before .before .before .put-front .ensures) (put-then (c .before .before .before .before .before .before .put-tail .ensures) (c .before .before .put-counts .ensures))
+returns c =
+    let at-put-tail = c .before .before .before .before .before .before in
+    let at-put-front = at-put-tail .before .before .before .before in
+    put-then (at-put-front .put-front .ensures) (put-then (at-put-tail .put-tail .ensures) (c .before .before .put-counts .ensures))
 
 pub put-fields-spec : {M : Type 1} → statement M
 put-fields-spec =

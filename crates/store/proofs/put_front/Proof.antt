@@ -48,11 +48,25 @@ put-le-requires-7 : tie.Need-put-le-requires-7
 put-le-requires-7 c κs = search needs
 
 same-length : tie.Need-same-length
-same-length c = put-length (put-then (c .before .before .before .before .before .before .before .before .before .before .before .before .before .before .before .before .before .before .before .before .before .before .before .before .before .before .before .before .before .before .before .before .put-le .ensures) (put-then (c .before .before .before .before .before .before .before .before .before .before .before .before .before .before .before .before .before .before .before .before .before .before .before .before .before .before .before .put-le2 .ensures) (put-then (c .before .before .before .before .before .before .before .before .before .before .before .before .before .before .before .before .before .before .before .before .before .before .put-le3 .ensures) (put-then (c .before .before .before .before .before .before .before .before .before .before .before .before .before .before .before .before .before .put-le4 .ensures) (put-then (c .before .before .before .before .before .before .before .before .before .before .before .before .put-le5 .ensures) (put-then (c .before .before .before .before .before .before .before .put-le6 .ensures) (c .before .before .put-le7 .ensures)))))))
+same-length c =
+    let at-put-le6 = c .before .before .before .before .before .before .before in
+    let at-put-le5 = at-put-le6 .before .before .before .before .before in
+    let at-put-le4 = at-put-le5 .before .before .before .before .before in
+    let at-put-le3 = at-put-le4 .before .before .before .before .before in
+    let at-put-le2 = at-put-le3 .before .before .before .before .before in
+    let at-put-le = at-put-le2 .before .before .before .before .before in
+    put-length (put-then (at-put-le .put-le .ensures) (put-then (at-put-le2 .put-le2 .ensures) (put-then (at-put-le3 .put-le3 .ensures) (put-then (at-put-le4 .put-le4 .ensures) (put-then (at-put-le5 .put-le5 .ensures) (put-then (at-put-le6 .put-le6 .ensures) (c .before .before .put-le7 .ensures)))))))
 
 returns : tie.Need-returns
 unfolding frontBytes
-returns c = put-then (c .before .before .before .before .before .before .before .before .before .before .before .before .before .before .before .before .before .before .before .before .before .before .before .before .before .before .before .before .before .before .before .before .put-le .ensures) (put-then (c .before .before .before .before .before .before .before .before .before .before .before .before .before .before .before .before .before .before .before .before .before .before .before .before .before .before .before .put-le2 .ensures) (put-then (c .before .before .before .before .before .before .before .before .before .before .before .before .before .before .before .before .before .before .before .before .before .before .put-le3 .ensures) (put-then (c .before .before .before .before .before .before .before .before .before .before .before .before .before .before .before .before .before .put-le4 .ensures) (put-then (c .before .before .before .before .before .before .before .before .before .before .before .before .put-le5 .ensures) (put-then (c .before .before .before .before .before .before .before .put-le6 .ensures) (c .before .before .put-le7 .ensures))))))
+returns c =
+    let at-put-le6 = c .before .before .before .before .before .before .before in
+    let at-put-le5 = at-put-le6 .before .before .before .before .before in
+    let at-put-le4 = at-put-le5 .before .before .before .before .before in
+    let at-put-le3 = at-put-le4 .before .before .before .before .before in
+    let at-put-le2 = at-put-le3 .before .before .before .before .before in
+    let at-put-le = at-put-le2 .before .before .before .before .before in
+    put-then (at-put-le .put-le .ensures) (put-then (at-put-le2 .put-le2 .ensures) (put-then (at-put-le3 .put-le3 .ensures) (put-then (at-put-le4 .put-le4 .ensures) (put-then (at-put-le5 .put-le5 .ensures) (put-then (at-put-le6 .put-le6 .ensures) (c .before .before .put-le7 .ensures))))))
 
 pub put-front-spec : {M : Type 1} → statement M
 put-front-spec =

@@ -34,7 +34,14 @@ same-length : tie.Need-same-length
 same-length c = search needs
 
 returns : tie.Need-returns
-returns c = ran-as (ran-then (ran-at 4 (c .before .before .before .before .before .before .before .before .before .before .before .cursor .ensures) (c .before .before .before .before .before .before .before .before .before .before .put-records .ensures) (c .before .before .before .before .before .before .before .with-cursor .ensures)) (ran-at 5 (c .before .before .before .before .before .cursor2 .ensures) (c .before .before .before .put-run .ensures) (c .with-cursor2 .ensures))) (ion-events _ _ (c .before .before .before .before .before .before .before .before .before .before .before .before .before .rest .ensures) (c .before .before .before .before .part .ensures))
+returns c =
+    let at-part = c .before .before .before .before in
+    let at-cursor2 = at-part .before in
+    let at-with-cursor = at-cursor2 .before .before in
+    let at-put-records = at-with-cursor .before .before .before in
+    let at-cursor = at-put-records .before in
+    let at-rest = at-cursor .before .before in
+    ran-as (ran-then (ran-at 4 (at-cursor .cursor .ensures) (at-put-records .put-records .ensures) (at-with-cursor .with-cursor .ensures)) (ran-at 5 (at-cursor2 .cursor2 .ensures) (c .before .before .before .put-run .ensures) (c .with-cursor2 .ensures))) (ion-events _ _ (at-rest .rest .ensures) (at-part .part .ensures))
 
 pub put-ion-spec : {M : Type 1} → statement M
 put-ion-spec =

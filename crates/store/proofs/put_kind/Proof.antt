@@ -26,7 +26,8 @@ same-length c = search needs
 
 returns : tie.Need-returns
 returns c =
-    let at-put-le = c .before .before .before .before .before .before .before in
+    let at-way = c .before .before .before .before .before .before .before in
+    let at-put-le = at-way in
     put-then (at-put-le .put-le .ensures) (put-as (c .before .before .put-le2 .ensures) (ap (little 1) (c .before .before .before .places .ensures)))
 
 pub put-kind-spec : {M : Type 1} → statement M

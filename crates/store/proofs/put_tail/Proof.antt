@@ -43,7 +43,8 @@ same-length c = search needs
 returns : tie.Need-returns
 unfolding tailBytes
 returns c =
-    let at-put-le2 = c .before .before .before .before .before .before .before in
+    let at-way = c .before .before .before .before .before .before .before in
+    let at-put-le2 = at-way in
     let at-signed = at-put-le2 .before in
     let at-value = at-signed .before in
     let at-put8 = at-value .before .before .before .before in

@@ -56,10 +56,29 @@ with-cursor-requires-2 : tie.Need-with-cursor-requires-2
 with-cursor-requires-2 c κs = search needs
 
 same-length : tie.Need-same-length
-same-length c = put-length (c .before .before .before .before .before .before .put-annotation .ensures) ∙ ran-length (c .before .before .before .before .before .before .before .before .before .before .before .before .store-adduct .ensures .ran) ∙ put-length (c .before .before .before .before .before .before .before .before .before .before .before .before .before .before .before .before .before .before .store-isotopes .ensures .put) ∙ ran-length (c .before .before .before .before .before .before .before .before .before .before .before .before .before .before .before .before .before .before .before .before .before .before .before .before .before .store-pieces .ensures .ran) ∙ ran-length (c .before .before .before .before .before .before .before .before .before .before .before .before .before .before .before .before .before .before .before .before .before .before .before .before .before .before .before .before .before .before .put-ion .ensures)
+same-length c =
+    let at-put-annotation = c .before .before .before .before .before .before in
+    let at-store-adduct = at-put-annotation .before .before .before .before .before .before in
+    let at-store-isotopes = at-store-adduct .before .before .before .before .before .before in
+    let at-store-pieces = at-store-isotopes .before .before .before .before .before .before .before in
+    let at-put-ion = at-store-pieces .before .before .before .before .before in
+    put-length (at-put-annotation .put-annotation .ensures) ∙ ran-length (at-store-adduct .store-adduct .ensures .ran) ∙ put-length (at-store-isotopes .store-isotopes .ensures .put) ∙ ran-length (at-store-pieces .store-pieces .ensures .ran) ∙ ran-length (at-put-ion .put-ion .ensures)
 
 returns : tie.Need-returns
-returns c = annotation-stored (c .before .before .before .before .before .before .before .before .before .before .before .before .before .before .before .before .before .before .before .before .before .before .before .before .before .before .before .before .before .before .before .rest .ensures) (c .before .before .before .before .before .before .before .before .before .before .before .before .before .before .before .before .before .before .before .before .before .before .before .before .before .before .before .before .before .before .put-ion .ensures) (c .before .before .before .before .before .before .before .before .before .before .before .before .before .before .before .before .before .before .before .before .before .before .before .before .before .before .before .rest2 .ensures) (c .before .before .before .before .before .before .before .before .before .before .before .before .before .before .before .before .before .before .before .before .before .before .before .before .before .store-pieces .ensures) (c .before .before .before .before .before .before .before .before .before .before .before .before .before .before .before .before .before .before .before .before .before .rest3 .ensures) (c .before .before .before .before .before .before .before .before .before .before .before .before .before .before .before .before .before .before .before .cursor .ensures) (c .before .before .before .before .before .before .before .before .before .before .before .before .before .before .before .before .before .before .store-isotopes .ensures) (c .before .before .before .before .before .before .before .before .before .before .before .before .before .before .before .with-cursor .ensures) (c .before .before .before .before .before .before .before .before .before .before .before .before .before .rest4 .ensures) (c .before .before .before .before .before .before .before .before .before .before .before .before .store-adduct .ensures) (c .before .before .before .before .before .before .before .cursor2 .ensures) (c .before .before .before .before .before .before .put-annotation .ensures) (c .with-cursor2 .ensures) (c .before .before .before .rest5 .ensures) (c .before .before .rest6 .ensures) (c .before .less .ensures)
+returns c =
+    let at-put-annotation = c .before .before .before .before .before .before in
+    let at-cursor2 = at-put-annotation .before in
+    let at-store-adduct = at-cursor2 .before .before .before .before .before in
+    let at-rest4 = at-store-adduct .before in
+    let at-with-cursor = at-rest4 .before .before in
+    let at-store-isotopes = at-with-cursor .before .before .before in
+    let at-cursor = at-store-isotopes .before in
+    let at-rest3 = at-cursor .before .before in
+    let at-store-pieces = at-rest3 .before .before .before .before in
+    let at-rest2 = at-store-pieces .before .before in
+    let at-put-ion = at-rest2 .before .before .before in
+    let at-rest = at-put-ion .before in
+    annotation-stored (at-rest .rest .ensures) (at-put-ion .put-ion .ensures) (at-rest2 .rest2 .ensures) (at-store-pieces .store-pieces .ensures) (at-rest3 .rest3 .ensures) (at-cursor .cursor .ensures) (at-store-isotopes .store-isotopes .ensures) (at-with-cursor .with-cursor .ensures) (at-rest4 .rest4 .ensures) (at-store-adduct .store-adduct .ensures) (at-cursor2 .cursor2 .ensures) (at-put-annotation .put-annotation .ensures) (c .with-cursor2 .ensures) (c .before .before .before .rest5 .ensures) (c .before .before .rest6 .ensures) (c .before .less .ensures)
 
 pub store-spec : {M : Type 1} → statement M
 store-spec =

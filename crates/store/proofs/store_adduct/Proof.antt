@@ -23,7 +23,11 @@ same-length : tie.Need-same-length
 same-length c = search needs
 
 returns-2 : tie.Need-returns-2
-returns-2 c = adduct-some (sym (c .before .before .before .before .before .before .before .begins-adduct .ensures) ∙ not-false _ (c .before .before .before .before .before .before .if1 .left)) (c .before .before .before .before .rest .ensures) (c .before .before .before .store-pieces .ensures)
+returns-2 c =
+    let at-rest = c .before .before .before .before in
+    let at-if1 = at-rest .before .before in
+    let at-begins-adduct = at-if1 .before in
+    adduct-some (sym (at-begins-adduct .begins-adduct .ensures) ∙ not-false _ (at-if1 .if1 .left)) (at-rest .rest .ensures) (c .before .before .before .store-pieces .ensures)
 
 pub store-adduct-spec : {M : Type 1} → statement M
 store-adduct-spec =

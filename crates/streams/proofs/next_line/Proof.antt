@@ -31,7 +31,9 @@ same-length : tie.Need-same-length Inv-loop μ-loop
 same-length c = search needs
 
 returns : tie.Need-returns Inv-loop μ-loop
-returns c = let l = c .before .before .before .loop .inv in settles (l .1 .1 _ (c .before .before .before .before .look .ensures)) (sym (c .before .is-settled .ensures) ∙ c .if1 .taken)
+returns c =
+    let at-look = c .before .before .before .before in
+    let l = c .before .before .before .loop .inv in settles (l .1 .1 _ (at-look .look .ensures)) (sym (c .before .is-settled .ensures) ∙ c .if1 .taken)
 
 refill-requires : tie.Need-refill-requires Inv-loop μ-loop
 refill-requires c κs = search needs

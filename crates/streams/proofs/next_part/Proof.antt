@@ -28,7 +28,8 @@ same-length-2 c = search needs
 
 returns-2 : tie.Need-returns-2
 returns-2 c =
-    let k = c .before .before .before .before in
+    let at-way = c .before .before .before .before in
+    let k = at-way in
     let i = k .before .before .before in
     part-next _ (i .before .part .ensures) _ (sym (i .is-settled .ensures) ∙ k .before .before .if1 .left) (k .refill .ensures) (c .part2 .ensures)
 

@@ -19,13 +19,19 @@ shared-slice-read-if3 : tie.Need-shared-slice-read-if3
 shared-slice-read-if3 c = search needs
 
 returns-3 : tie.Need-returns-3
-returns-3 c = rw (ppm-at (c .before .before .before .before .before .args .s .now) (c .before .before .before .before .if1 .left), eq-eqb 112 _ (sym (c .before .before .if2 .left)), ne-eqb 112 _ (λ q. c .if3 .taken (sym q)))
+returns-3 c =
+    let at-if1 = c .before .before .before .before in
+    let at-args = at-if1 .before in
+    rw (ppm-at (at-args .args .s .now) (at-if1 .if1 .left), eq-eqb 112 _ (sym (c .before .before .if2 .left)), ne-eqb 112 _ (λ q. c .if3 .taken (sym q)))
 
 shared-slice-read-result : tie.Need-shared-slice-read-result
 shared-slice-read-result c = search needs
 
 returns-4 : tie.Need-returns-4
-returns-4 c = rw (ppm-at (c .before .before .before .before .before .before .args .s .now) (c .before .before .before .before .before .if1 .left), eq-eqb 112 _ (sym (c .before .before .before .if2 .left)), eq-eqb 112 _ (sym (c .before .if3 .left))) (sym (and-true _))
+returns-4 c =
+    let at-if1 = c .before .before .before .before .before in
+    let at-args = at-if1 .before in
+    rw (ppm-at (at-args .args .s .now) (at-if1 .if1 .left), eq-eqb 112 _ (sym (c .before .before .before .if2 .left)), eq-eqb 112 _ (sym (c .before .if3 .left))) (sym (and-true _))
 
 pub begins-ppm-spec : {M : Type 1} → statement M
 begins-ppm-spec =

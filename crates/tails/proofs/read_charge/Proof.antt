@@ -34,7 +34,12 @@ add-t9 c = omega (arith, number-fits (c .before .before .before .before .before 
 
 returns-2 : tie.Need-returns-2
 unfolding chargeOf
-returns-2 c = rw (sym (c .before .before .before .before .before .before .before .begins-with .ensures) ∙ not-false _ (c .before .before .before .before .before .before .if1 .left), c .before .past .ensures, c .before .before .less2 .ensures, c .before .before .before .less .ensures, c .before .before .before .before .read-number .ensures, c .before .before .before .before .before .rest .ensures)
+returns-2 c =
+    let at-read-number = c .before .before .before .before in
+    let at-rest = at-read-number .before in
+    let at-if1 = at-rest .before in
+    let at-begins-with = at-if1 .before in
+    rw (sym (at-begins-with .begins-with .ensures) ∙ not-false _ (at-if1 .if1 .left), c .before .past .ensures, c .before .before .less2 .ensures, c .before .before .before .less .ensures, at-read-number .read-number .ensures, at-rest .rest .ensures)
 
 pub read-charge-spec : {M : Type 1} → statement M
 read-charge-spec =

@@ -37,7 +37,12 @@ made-part-requires c κs = search needs
 
 returns-2 : tie.Need-returns-2
 unfolding confidenceOf
-returns-2 c = rw (sym (c .before .before .before .before .before .before .before .begins-with .ensures) ∙ not-false _ (c .before .before .before .before .before .before .if1 .left), c .made-part .ensures, c .before .less2 .ensures, c .before .before .less .ensures, c .before .before .before .before .read-decimal .ensures, c .before .before .before .before .before .rest .ensures)
+returns-2 c =
+    let at-read-decimal = c .before .before .before .before in
+    let at-rest = at-read-decimal .before in
+    let at-if1 = at-rest .before in
+    let at-begins-with = at-if1 .before in
+    rw (sym (at-begins-with .begins-with .ensures) ∙ not-false _ (at-if1 .if1 .left), c .made-part .ensures, c .before .less2 .ensures, c .before .before .less .ensures, at-read-decimal .read-decimal .ensures, at-rest .rest .ensures)
 
 pub read-confidence-spec : {M : Type 1} → statement M
 read-confidence-spec =

@@ -58,13 +58,35 @@ made-part-requires : tie.Need-made-part-requires
 made-part-requires c κs = search needs
 
 returns-2 : tie.Need-returns-2
-returns-2 c = in-ppm (c .before .before .before .before .before .before .before .before .before .before .before .before .before .before .before .args .s .now) (c .before .before .before .before .before .before .before .before .before .before .before .before .before .before .before .args .end) (c .before .before .before .before .before .before .before .before .before .before .before .before .before .before .before .args .f) (sym (c .before .before .before .before .before .before .before .before .before .before .before .before .before .begins-with .ensures) ∙ not-false _ (c .before .before .before .before .before .before .before .before .before .before .before .before .if1 .left)) (c .before .before .before .before .before .before .before .before .before .before .begins-with2 .ensures ∙ ap (startsWith (bytes "-")) (c .before .before .before .before .before .before .before .before .before .before .before .rest .ensures)) (c .before .before .before .before .before .before .before .before .before .size-at .ensures) (c .before .before .before .before .before .before .before .before .rest2 .ensures) (c .before .before .before .before .before .before .before .read-decimal .ensures) (c .before .before .before .rest3 .ensures) (c .before .before .before .before .before .less .ensures) (c .before .before .before .before .less2 .ensures) (sym (c .before .before .begins-ppm .ensures) ∙ c .before .if2 .taken) (c .made-part .ensures)
+returns-2 c =
+    let at-less2 = c .before .before .before .before in
+    let at-less = at-less2 .before in
+    let at-read-decimal = at-less .before .before in
+    let at-rest2 = at-read-decimal .before in
+    let at-size-at = at-rest2 .before in
+    let at-begins-with2 = at-size-at .before in
+    let at-rest = at-begins-with2 .before in
+    let at-if1 = at-rest .before in
+    let at-begins-with = at-if1 .before in
+    let at-args = at-begins-with .before .before in
+    in-ppm (at-args .args .s .now) (at-args .args .end) (at-args .args .f) (sym (at-begins-with .begins-with .ensures) ∙ not-false _ (at-if1 .if1 .left)) (at-begins-with2 .begins-with2 .ensures ∙ ap (startsWith (bytes "-")) (at-rest .rest .ensures)) (at-size-at .size-at .ensures) (at-rest2 .rest2 .ensures) (at-read-decimal .read-decimal .ensures) (c .before .before .before .rest3 .ensures) (at-less .less .ensures) (at-less2 .less2 .ensures) (sym (c .before .before .begins-ppm .ensures) ∙ c .before .if2 .taken) (c .made-part .ensures)
 
 made-part-requires-2 : tie.Need-made-part-requires-2
 made-part-requires-2 c κs = search needs
 
 returns-3 : tie.Need-returns-3
-returns-3 c = in-units (c .before .before .before .before .before .before .before .before .before .before .before .before .before .before .before .args .s .now) (c .before .before .before .before .before .before .before .before .before .before .before .before .before .before .before .args .end) (c .before .before .before .before .before .before .before .before .before .before .before .before .before .before .before .args .f) (sym (c .before .before .before .before .before .before .before .before .before .before .before .before .before .begins-with .ensures) ∙ not-false _ (c .before .before .before .before .before .before .before .before .before .before .before .before .if1 .left)) (c .before .before .before .before .before .before .before .before .before .before .begins-with2 .ensures ∙ ap (startsWith (bytes "-")) (c .before .before .before .before .before .before .before .before .before .before .before .rest .ensures)) (c .before .before .before .before .before .before .before .before .before .size-at .ensures) (c .before .before .before .before .before .before .before .before .rest2 .ensures) (c .before .before .before .before .before .before .before .read-decimal .ensures) (c .before .before .before .rest3 .ensures) (c .before .before .before .before .before .less .ensures) (c .before .before .before .before .less2 .ensures) (sym (c .before .before .begins-ppm .ensures) ∙ c .before .if2 .left) (c .made-part2 .ensures)
+returns-3 c =
+    let at-less2 = c .before .before .before .before in
+    let at-less = at-less2 .before in
+    let at-read-decimal = at-less .before .before in
+    let at-rest2 = at-read-decimal .before in
+    let at-size-at = at-rest2 .before in
+    let at-begins-with2 = at-size-at .before in
+    let at-rest = at-begins-with2 .before in
+    let at-if1 = at-rest .before in
+    let at-begins-with = at-if1 .before in
+    let at-args = at-begins-with .before .before in
+    in-units (at-args .args .s .now) (at-args .args .end) (at-args .args .f) (sym (at-begins-with .begins-with .ensures) ∙ not-false _ (at-if1 .if1 .left)) (at-begins-with2 .begins-with2 .ensures ∙ ap (startsWith (bytes "-")) (at-rest .rest .ensures)) (at-size-at .size-at .ensures) (at-rest2 .rest2 .ensures) (at-read-decimal .read-decimal .ensures) (c .before .before .before .rest3 .ensures) (at-less .less .ensures) (at-less2 .less2 .ensures) (sym (c .before .before .begins-ppm .ensures) ∙ c .before .if2 .left) (c .made-part2 .ensures)
 
 pub read-deviation-spec : {M : Type 1} → statement M
 read-deviation-spec =

@@ -28,7 +28,13 @@ same-length : tie.Need-same-length
 same-length c = search needs
 
 returns : tie.Need-returns
-returns c = put-then (c .before .before .before .before .before .before .before .before .before .before .before .before .before .before .before .before .before .before .before .put-field .ensures) (put-then (c .before .before .before .before .before .before .before .before .before .before .before .before .before .before .before .put-field2 .ensures) (put-then (c .before .before .before .before .before .before .before .before .before .before .before .put-field3 .ensures) (put-then (put-as (c .before .before .before .before .before .before .put-shown .ensures) (ap shown (c .before .before .before .before .before .before .before .stretch .ensures))) (c .before .before .put8 .ensures))))
+returns c =
+    let at-put-shown = c .before .before .before .before .before .before in
+    let at-stretch = at-put-shown .before in
+    let at-put-field3 = at-stretch .before .before .before .before in
+    let at-put-field2 = at-put-field3 .before .before .before .before in
+    let at-put-field = at-put-field2 .before .before .before .before in
+    put-then (at-put-field .put-field .ensures) (put-then (at-put-field2 .put-field2 .ensures) (put-then (at-put-field3 .put-field3 .ensures) (put-then (put-as (at-put-shown .put-shown .ensures) (ap shown (at-stretch .stretch .ensures))) (c .before .before .put8 .ensures))))
 
 pub put-answer-spec : {M : Type 1} → statement M
 put-answer-spec =

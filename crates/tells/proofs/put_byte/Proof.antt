@@ -21,7 +21,11 @@ same-length : tie.Need-same-length
 same-length c = search needs
 
 returns : tie.Need-returns
-returns c = put-as (put-then (c .before .before .before .before .before .before .before .put8 .ensures) (c .before .before .put82 .ensures)) (byte-is (c .before .before .before .before .before .before .before .before .before .before .before .args .b) (c .before .before .before .before .before .before .before .before .low-digit .ensures) (c .before .before .before .low-digit2 .ensures))
+returns c =
+    let at-put8 = c .before .before .before .before .before .before .before in
+    let at-low-digit = at-put8 .before in
+    let at-args = at-low-digit .before .before .before in
+    put-as (put-then (at-put8 .put8 .ensures) (c .before .before .put82 .ensures)) (byte-is (at-args .args .b) (at-low-digit .low-digit .ensures) (c .before .before .before .low-digit2 .ensures))
 
 pub put-byte-spec : {M : Type 1} → statement M
 put-byte-spec =

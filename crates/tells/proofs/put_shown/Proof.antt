@@ -12,7 +12,10 @@ same-length : tie.Need-same-length
 same-length c = search needs
 
 returns : tie.Need-returns
-returns c = put-as (c .before .before .put8 .ensures) (shown-none (c .before .before .before .before .before .before .before .args .s .now) (c .before .before .before .before .if1 .taken))
+returns c =
+    let at-if1 = c .before .before .before .before in
+    let at-args = at-if1 .before .before .before in
+    put-as (c .before .before .put8 .ensures) (shown-none (at-args .args .s .now) (at-if1 .if1 .taken))
 
 put-hex-requires : tie.Need-put-hex-requires
 put-hex-requires c κs = search needs
@@ -21,7 +24,10 @@ same-length-2 : tie.Need-same-length-2
 same-length-2 c = search needs
 
 returns-2 : tie.Need-returns-2
-returns-2 c = put-as (c .before .before .put-hex .ensures) (shown-some (c .before .before .before .before .before .before .before .args .s .now) (c .before .before .before .before .if1 .left))
+returns-2 c =
+    let at-if1 = c .before .before .before .before in
+    let at-args = at-if1 .before .before .before in
+    put-as (c .before .before .put-hex .ensures) (shown-some (at-args .args .s .now) (at-if1 .if1 .left))
 
 pub put-shown-spec : {M : Type 1} → statement M
 put-shown-spec =

@@ -44,7 +44,12 @@ loop-less : tie.Need-loop-less Inv-loop μ-loop
 loop-less c = omega (arith, moves (c .before .before .before .before .before .before .before .loop .inv) (c .before .before .before .before .before .before .rest .ensures) (sym (c .before .before .before .before .before .begins-unit .ensures) ∙ c .before .before .before .before .if1 .taken) (c .before .before .before .rest2 .ensures) (c .before .before .unit-span .ensures))
 
 loop-again : tie.Need-loop-again Inv-loop μ-loop
-loop-again c = turn (c .before .before .before .before .before .before .before .loop .inv) (c .before .before .before .before .before .before .rest .ensures) (sym (c .before .before .before .before .before .begins-unit .ensures) ∙ c .before .before .before .before .if1 .taken) (c .before .before .before .rest2 .ensures) (c .before .before .unit-span .ensures) (c .before .unit-fault .ensures)
+loop-again c =
+    let at-if1 = c .before .before .before .before in
+    let at-begins-unit = at-if1 .before in
+    let at-rest = at-begins-unit .before in
+    let at-loop = at-rest .before in
+    turn (at-loop .loop .inv) (at-rest .rest .ensures) (sym (at-begins-unit .begins-unit .ensures) ∙ at-if1 .if1 .taken) (c .before .before .before .rest2 .ensures) (c .before .before .unit-span .ensures) (c .before .unit-fault .ensures)
 
 returns : tie.Need-returns Inv-loop μ-loop
 returns c = ends (c .before .before .before .loop .inv) (c .before .before .rest .ensures) (sym (c .before .begins-unit .ensures) ∙ c .if1 .left)

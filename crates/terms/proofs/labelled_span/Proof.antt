@@ -35,7 +35,13 @@ closed-requires : tie.Need-closed-requires
 closed-requires c κs = search needs
 
 returns : tie.Need-returns
-returns c = labelled-is (c .before .before .before .before .before .before .before .before .before .before .args .s .now) (c .before .before .before .before .before .before .before .before .rest .ensures) (c .before .before .before .before .before .before .before .read-number .ensures) (c .before .before .before .before .before .rest2 .ensures) (c .before .before .before .before .symbol-len .ensures) (c .before .before .before .rest3 .ensures) (c .before .before .read-number2 .ensures) (c .closed .ensures)
+returns c =
+    let at-symbol-len = c .before .before .before .before in
+    let at-rest2 = at-symbol-len .before in
+    let at-read-number = at-rest2 .before .before in
+    let at-rest = at-read-number .before in
+    let at-args = at-rest .before .before in
+    labelled-is (at-args .args .s .now) (at-rest .rest .ensures) (at-read-number .read-number .ensures) (at-rest2 .rest2 .ensures) (at-symbol-len .symbol-len .ensures) (c .before .before .before .rest3 .ensures) (c .before .before .read-number2 .ensures) (c .closed .ensures)
 
 pub labelled-span-spec : {M : Type 1} → statement M
 labelled-span-spec =

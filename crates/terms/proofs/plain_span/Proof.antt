@@ -20,7 +20,10 @@ add-t6 : tie.Need-add-t6
 add-t6 c = omega (arith, plain-fits (c .before .before .before .before .before .before .args .s .now) (c .before .before .before .before .symbol-len .ensures) (c .before .before .before .rest .ensures) (c .before .before .read-number .ensures))
 
 returns : tie.Need-returns
-returns c = plain-is (c .before .before .before .before .before .before .args .s .now) (c .before .before .before .before .symbol-len .ensures) (c .before .before .before .rest .ensures) (c .before .before .read-number .ensures) (c .before .or-one .ensures)
+returns c =
+    let at-symbol-len = c .before .before .before .before in
+    let at-args = at-symbol-len .before .before in
+    plain-is (at-args .args .s .now) (at-symbol-len .symbol-len .ensures) (c .before .before .before .rest .ensures) (c .before .before .read-number .ensures) (c .before .or-one .ensures)
 
 pub plain-span-spec : {M : Type 1} → statement M
 plain-span-spec =

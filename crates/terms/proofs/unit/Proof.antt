@@ -13,7 +13,9 @@ read-element-requires : tie.Need-read-element-requires
 read-element-requires c κs = search needs
 
 returns : tie.Need-returns
-returns c = unit-is (c .before .before .before .before .args .s .now) (c .before .before .unit-span .ensures) (c .before .rest .ensures) (c .read-element .ensures)
+returns c =
+    let at-args = c .before .before .before .before in
+    unit-is (at-args .args .s .now) (c .before .before .unit-span .ensures) (c .before .rest .ensures) (c .read-element .ensures)
 
 pub unit-spec : {M : Type 1} → statement M
 unit-spec = tie.close (tie.spec unit-span-requires rest-requires read-element-requires returns)

@@ -24,7 +24,8 @@ same-length c = search needs
 
 returns : tie.Need-returns
 returns c =
-    let at-answer = c .before .before .before .before .before .before .before in
+    let at-way = c .before .before .before .before .before .before .before in
+    let at-answer = at-way in
     let at-stretch = at-answer .before .before in
     let at-room = at-stretch .before in
     answered-by (at-room .room .ensures) (at-stretch .stretch .ensures) (at-answer .answer .ensures) (c .before .before .before .put8 .ensures) (c .answered .ensures)

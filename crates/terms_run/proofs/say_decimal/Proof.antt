@@ -48,7 +48,8 @@ same-length c = search needs
 
 returns : tie.Need-returns
 returns c =
-    let at-put-field3 = c .before .before .before .before .before .before in
+    let at-way = c .before .before .before .before .before .before in
+    let at-put-field3 = at-way in
     let at-places = at-put-field3 .before in
     let at-put-field2 = at-places .before .before .before .before in
     let at-value = at-put-field2 .before in
@@ -63,7 +64,8 @@ same-length-2 c = search needs
 
 returns-2 : tie.Need-returns-2
 returns-2 c =
-    let at-enum-told = c .before .before .before .before .before in
+    let at-way = c .before .before .before .before .before in
+    let at-enum-told = at-way in
     let at-put-field = at-enum-told .before .before .before .before in
     let at-read-decimal = at-put-field .before .before in
     let at-args = at-read-decimal .before .before .before in

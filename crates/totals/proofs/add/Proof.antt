@@ -43,20 +43,29 @@ ahead-requires-7 c κs = search needs
 
 returns : tie.Need-returns
 returns c =
+    let at-ahead5 = c .before .before .before .before in
+    let at-ahead4 = at-ahead5 .before in
+    let at-ahead3 = at-ahead4 .before in
+    let at-ahead2 = at-ahead3 .before in
+    let at-ahead = at-ahead2 .before in
+    let at-sum-of = at-ahead .before in
+    let at-measure = at-sum-of .before .before in
+    let at-less = at-measure .before .before .before in
+    let at-rest = at-less .before in
     rw (
       c .ahead7 .ensures,
       c .before .note2 .ensures,
       c .before .before .note .ensures,
       c .before .before .before .ahead6 .ensures,
-      c .before .before .before .before .ahead5 .ensures,
-      c .before .before .before .before .before .ahead4 .ensures,
-      c .before .before .before .before .before .before .ahead3 .ensures,
-      c .before .before .before .before .before .before .before .ahead2 .ensures,
-      c .before .before .before .before .before .before .before .before .ahead .ensures,
-      c .before .before .before .before .before .before .before .before .before .sum-of .ensures,
-      c .before .before .before .before .before .before .before .before .before .before .before .measure .ensures,
-      c .before .before .before .before .before .before .before .before .before .before .before .before .before .before .less .ensures,
-      c .before .before .before .before .before .before .before .before .before .before .before .before .before .before .before .rest .ensures,
+      at-ahead5 .ahead5 .ensures,
+      at-ahead4 .ahead4 .ensures,
+      at-ahead3 .ahead3 .ensures,
+      at-ahead2 .ahead2 .ensures,
+      at-ahead .ahead .ensures,
+      at-sum-of .sum-of .ensures,
+      at-measure .measure .ensures,
+      at-less .less .ensures,
+      at-rest .rest .ensures,
     )
 
 pub add-spec : {M : Type 1} → statement M

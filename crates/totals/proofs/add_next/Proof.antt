@@ -16,7 +16,9 @@ add-requires : tie.Need-add-requires
 add-requires c κs = search needs
 
 returns : tie.Need-returns
-returns c = next-added (c .before .before .before .before .before .before .args .line .now) (c .before .before .before .before .before .before .args .t) (c .before .before .before .ahead .ensures) (c .before .before .rest .ensures) (c .before .read-parts .ensures) (c .add .ensures)
+returns c =
+    let at-args = c .before .before .before .before .before .before in
+    next-added (at-args .args .line .now) (at-args .args .t) (c .before .before .before .ahead .ensures) (c .before .before .rest .ensures) (c .before .read-parts .ensures) (c .add .ensures)
 
 pub add-next-spec : {M : Type 1} → statement M
 add-next-spec =

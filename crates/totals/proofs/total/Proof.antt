@@ -34,13 +34,21 @@ add-next-requires : tie.Need-add-next-requires Inv-loop μ-loop
 add-next-requires c κs = search needs
 
 loop-less : tie.Need-loop-less Inv-loop μ-loop
-loop-less c = counting-falls _ (c .before .before .before .before .loop .inv) (c .before .before .before .rest .ensures) (sym (c .before .before .begins-with .ensures) ∙ c .before .if2 .taken) (c .add-next .ensures)
+loop-less c =
+    let at-loop = c .before .before .before .before in
+    counting-falls _ (at-loop .loop .inv) (c .before .before .before .rest .ensures) (sym (c .before .before .begins-with .ensures) ∙ c .before .if2 .taken) (c .add-next .ensures)
 
 loop-again : tie.Need-loop-again Inv-loop μ-loop
-loop-again c = counting-turns _ (c .before .before .before .before .loop .inv) (c .before .before .before .rest .ensures) (sym (c .before .before .begins-with .ensures) ∙ c .before .if2 .taken) (c .add-next .ensures)
+loop-again c =
+    let at-loop = c .before .before .before .before in
+    counting-turns _ (at-loop .loop .inv) (c .before .before .before .rest .ensures) (sym (c .before .before .begins-with .ensures) ∙ c .before .if2 .taken) (c .add-next .ensures)
 
 returns-2 : tie.Need-returns-2 Inv-loop μ-loop
-returns-2 c = counting-ends _ (c .before .before .before .loop .inv) (c .before .before .rest .ensures) (c .before .before .before .before .before .before .before .before .args .first) (c .before .before .before .before .before .if1 .left) (c .before .before .before .before .add-first .ensures) (sym (c .before .begins-with .ensures) ∙ c .if2 .left)
+returns-2 c =
+    let at-add-first = c .before .before .before .before in
+    let at-if1 = at-add-first .before in
+    let at-args = at-if1 .before .before .before in
+    counting-ends _ (c .before .before .before .loop .inv) (c .before .before .rest .ensures) (at-args .args .first) (at-if1 .if1 .left) (at-add-first .add-first .ensures) (sym (c .before .begins-with .ensures) ∙ c .if2 .left)
 
 pub total-spec : {M : Type 1} → statement M
 total-spec =

@@ -31,7 +31,8 @@ same-length-3 c = search needs
 
 returns : tie.Need-returns
 returns c =
-    let at-write-one = c .before .before .before .before .before .before .before .before .before .before in
+    let at-way = c .before .before .before .before .before .before .before .before .before .before in
+    let at-write-one = at-way in
     let at-stretch = at-write-one .before .before .before in
     let at-room = at-stretch .before in
     let at-args = at-room .before .before .before .before .before .before .before in

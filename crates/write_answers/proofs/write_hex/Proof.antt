@@ -22,8 +22,11 @@ same-length c = search needs
 
 returns : tie.Need-returns
 returns c =
-    let a = c .before .before .before .before .before .before .before .before .before .before .before .args in
-    hex-refused (a .machine .now) (a .digits .now) (length (a .table .now)) (length (a .line .now)) (sym (c .before .before .before .before .before .before .is-hex .ensures) ∙ not-true _ (c .before .before .before .before .before .if1 .taken))
+    let at-if1 = c .before .before .before .before .before in
+    let at-is-hex = at-if1 .before in
+    let at-args = at-is-hex .before .before .before .before .before in
+    let a = at-args .args in
+    hex-refused (a .machine .now) (a .digits .now) (length (a .table .now)) (length (a .line .now)) (sym (at-is-hex .is-hex .ensures) ∙ not-true _ (at-if1 .if1 .taken))
     (c .before .before .before .clear .ensures) (c .refuse .ensures)
 
 put-unhexed-requires : tie.Need-put-unhexed-requires
@@ -43,9 +46,14 @@ same-length-3 c = search needs
 
 returns-2 : tie.Need-returns-2
 returns-2 c =
-    let a = c .before .before .before .before .before .before .before .before .before .before .before .before .before .before .before .before .args in
-    hex-written (a .machine .now) (a .digits .now) (length (a .table .now)) (length (a .line .now)) (sym (c .before .before .before .before .before .before .before .before .before .before .before .is-hex .ensures) ∙ not-false _ (c .before .before .before .before .before .before .before .before .before .before .if1 .left))
-    (put-front (c .before .before .before .before .before .before .before .before .put-unhexed .ensures) (c .before .before .before .before .stretch .ensures)) (c .before .before .write-by .ensures)
+    let at-stretch = c .before .before .before .before in
+    let at-put-unhexed = at-stretch .before .before .before .before in
+    let at-if1 = at-put-unhexed .before .before in
+    let at-is-hex = at-if1 .before in
+    let at-args = at-is-hex .before .before .before .before .before in
+    let a = at-args .args in
+    hex-written (a .machine .now) (a .digits .now) (length (a .table .now)) (length (a .line .now)) (sym (at-is-hex .is-hex .ensures) ∙ not-false _ (at-if1 .if1 .left))
+    (put-front (at-put-unhexed .put-unhexed .ensures) (at-stretch .stretch .ensures)) (c .before .before .write-by .ensures)
 
 pub write-hex-spec : {M : Type 1} → statement M
 write-hex-spec =

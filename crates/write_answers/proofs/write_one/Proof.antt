@@ -16,8 +16,11 @@ same-length-2 c = search needs
 
 returns : tie.Need-returns
 returns c =
-    let a = c .before .before .before .before .before .before .before .before .before .before .before .before .args in
-    one-sized (a .machine .now) (a .sized) (a .asked .now) (length (a .table .now)) (c .before .before .before .before .before .before .before .if1 .taken) (c .before .before .before .before .write-sized .ensures)
+    let at-write-sized = c .before .before .before .before in
+    let at-if1 = at-write-sized .before .before .before in
+    let at-args = at-if1 .before .before .before .before .before in
+    let a = at-args .args in
+    one-sized (a .machine .now) (a .sized) (a .asked .now) (length (a .table .now)) (at-if1 .if1 .taken) (at-write-sized .write-sized .ensures)
 
 write-hex-requires : tie.Need-write-hex-requires
 write-hex-requires c κs = search needs
@@ -30,8 +33,11 @@ same-length-4 c = search needs
 
 returns-2 : tie.Need-returns-2
 returns-2 c =
-    let a = c .before .before .before .before .before .before .before .before .before .before .before .before .args in
-    one-plain (a .machine .now) (a .sized) (a .asked .now) (length (a .table .now)) (c .before .before .before .before .before .before .before .if1 .left) (c .before .line2 .given) (c .before .before .before .before .write-hex .ensures)
+    let at-write-hex = c .before .before .before .before in
+    let at-if1 = at-write-hex .before .before .before in
+    let at-args = at-if1 .before .before .before .before .before in
+    let a = at-args .args in
+    one-plain (a .machine .now) (a .sized) (a .asked .now) (length (a .table .now)) (at-if1 .if1 .left) (c .before .line2 .given) (at-write-hex .write-hex .ensures)
 
 pub write-one-spec : {M : Type 1} → statement M
 write-one-spec =

@@ -38,7 +38,9 @@ add-t14 : tie.Need-add-t14 Inv-loop μ-loop
 add-t14 c = omega (arith, c .before .before .before .before .loop .inv .inside, c .before .before .before .before .loop .inv .room)
 
 returns-4 : tie.Need-returns-4 Inv-loop μ-loop
-returns-4 c = stopped (c .before .before .before .before .loop .inv) (c .before .before .before .loop-test .taken) (c .before .next .ensures) (c .if4 .taken)
+returns-4 c =
+    let at-loop = c .before .before .before .before in
+    stopped (at-loop .loop .inv) (c .before .before .before .loop-test .taken) (c .before .next .ensures) (c .if4 .taken)
 
 add-i : tie.Need-add-i Inv-loop μ-loop
 add-i c = search needs
@@ -47,7 +49,9 @@ loop-less : tie.Need-loop-less Inv-loop μ-loop
 loop-less c = search needs
 
 loop-again : tie.Need-loop-again Inv-loop μ-loop
-loop-again c = turn (c .before .before .before .before .loop .inv) (c .before .before .before .loop-test .taken) (c .before .next .ensures) (c .if4 .left)
+loop-again c =
+    let at-loop = c .before .before .before .before in
+    turn (at-loop .loop .inv) (c .before .before .before .loop-test .taken) (c .before .next .ensures) (c .if4 .left)
 
 add-t7 : tie.Need-add-t7 Inv-loop μ-loop
 add-t7 c = omega (arith, c .before .loop .inv .inside, c .before .loop .inv .room)
