@@ -1,3 +1,1 @@
-pub mod Reading
-pub mod Answering
-pub mod One
+pub mod Lines

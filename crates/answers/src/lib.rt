@@ -1,87 +1,59 @@
-// The programs `reads` and `rooms`: lines of standard input are read, and each is answered by number, place and length, and the table
-// in hexadecimal digits, `-` where there is none. Lines end at line feeds, and the last may lack its own. Which lines are
-// found is stated by `next_line`, and `one_line` states what is answered to the line that was found; what is written cannot be stated, so
-// `answer_lines` and `all` are proved safe and ending.
-ghost use mathlib.Core.Bool.{true};
-ghost use lib.ListN.{take, drop};
-ghost use Rattle.answers.specs.Answered.{Answered};
-ghost use Rattle.answers.specs.Reads.{ReadInto};
-use deliver::Answer;
-use feeds::behind;
-use feeds::stretch;
-use numbers::read_number;
-use programs::finish;
-use reading::read_by;
-use streams::Stream;
-use streams::next_line;
-use streams::room;
-use tells::put_answer;
+// What a call answers, and how a line is handed over. Document 01, "Numbers of refusal": a line to be written is tested against 1 and 8, and
+// an output holds the result and zeros behind it, or zeros.
+ghost use mathlib.Core.Path.{_≡_};
+ghost use lib.ListN.{length};
+ghost use Rattle.answers.specs.Delivered.{answered, refusedOf, cleared, lineOver};
+use put_bytes::clear;
+use put_bytes::put_run;
 
-// How many bytes a table needs at most.
-pub const TABLE: usize = 21340;
+// How many bytes a line may have.
+pub const MAX_LINE: usize = 4096;
 
-// The longest answer: three numbers of at most 20 digits, each with a blank; the table; a line feed.
-const ANSWER: usize = 64 + 2 * TABLE;
-
-// All lines, for the program of this name. Where they are sized, each begins with the length of its output, a number of at most 21,340, and a blank; else the output
-// is as long as any table needs.
-pub fn answer_lines(name: &[u8], sized: bool) {
-    let machine = shape::machine();
-    let mut buf = io::large_buffer();
-    let mut out = io::large_buffer();
-    let mut table = [0u8; TABLE];
-    all(name, &machine, &mut buf, &mut out, &mut table, sized);
+// The number of refusal, or 0; its place, or the bytes needed; and how many bytes of the output were written.
+pub struct Answer {
+    pub number: usize,
+    pub place: usize,
+    pub len: usize,
 }
 
-// Line after line, until none comes. A proved loop has to end, so it counts down from a number that no run uses up.
-fn all(name: &[u8], machine: &[u8], buf: &mut [u8], out: &mut [u8], table: &mut [u8], sized: bool) {
-    let mut s = next_line(buf, out, Stream::begin());
-    let mut turns = u64::MAX;
-    while turns > 0 {
-        if !s.found {
-            finish(name, out, s);
-            return;
-        }
-        let said = one_line(machine, buf, out, table, s, sized);
-        s = next_line(buf, out, said);
-        turns -= 1;
+pub fn refuse(number: usize, place: usize) -> Answer
+    ensures { λ r. ⌜ r ≡ refusedOf number place ⌝ }
+{
+    Answer {
+        number,
+        place,
+        len: 0,
     }
 }
 
-// The line that was found is answered, behind the answers that wait.
-fn one_line(
-    machine: &[u8],
-    buf: &[u8],
-    out: &mut [u8],
-    table: &mut [u8],
-    s: Stream,
-    sized: bool,
-) -> Stream
-    ensures { λ r. ⌜ Answered (now (machine .entry)) (take (s .len) (drop (s .from) (now (buf .entry)))) sized s (now (table .entry)) (now (table .exit)) (now (out .entry)) (now (out .exit)) r ⌝ }
+// Zeros from a place on.
+pub fn clear_from(out: &mut [u8], from: usize)
+    ensures { λ _. ⌜ now (out .exit) ≡ cleared (now (out .entry)) from ⌝ }
 {
-    let t = room(out, s, ANSWER);
-    let line = stretch(buf, s.from, s.len);
-    let a = read_one(machine, line, table, sized);
-    let end = put_answer(out, t.waiting, a, table);
-    t.answered(end)
-}
-
-// A line behind its number, or, where lines are not sized, all of it into the whole table.
-fn read_one(machine: &[u8], line: &[u8], table: &mut [u8], sized: bool) -> Answer
-    ensures { λ r. ⌜ ReadInto (now (machine .entry)) (now (line .entry)) sized (now (table .entry)) (now (table .exit)) r ⌝ }
-{
-    if sized {
-        return read_sized(machine, line, table);
+    let mut i = from;
+    while i < out.len() {
+        out[i] = 0;
+        i += 1;
     }
-    read_by(machine, line, table)
 }
 
-// The line behind a number and a blank, into so many bytes, or into all where they are fewer.
-fn read_sized(machine: &[u8], asked: &[u8], table: &mut [u8]) -> Answer
-    ensures { λ r. ⌜ ReadInto (now (machine .entry)) (now (asked .entry)) true (now (table .entry)) (now (table .exit)) r ⌝ }
+// A line that is found to be a table's, against its bound and the output.
+pub fn write_line(line: &[u8], out: &mut [u8]) -> Answer
+    ensures { λ r. ⌜ answered r (now (out .exit)) ≡ lineOver (now (line .entry)) (length (now (out .entry))) ⌝ }
 {
-    let n = read_number(asked);
-    let line = stretch(stretch(asked, n.len, asked.len()), 1, asked.len());
-    let bytes = behind(n.value as usize, 0, table.len());
-    read_by(machine, line, &mut table[..bytes])
+    if MAX_LINE < line.len() {
+        clear(out);
+        return refuse(1, MAX_LINE);
+    }
+    if out.len() < line.len() {
+        clear(out);
+        return refuse(8, line.len());
+    }
+    put_run(out, 0, line);
+    clear_from(out, line.len());
+    Answer {
+        number: 0,
+        place: 0,
+        len: line.len(),
+    }
 }

@@ -16,7 +16,7 @@ use Rattle.rules.specs.Elements.{Symbol, atomicNumber}
 use Rattle.elements.specs.declared.Element.{Element}
 use Rattle.elements.specs.Numbers.{word, atomicOf, spelled}
 use Rattle.elements.specs.Symbols.{small, smallOf, element, elementOf}
-use Rattle.elements.proofs.Laws.{Spelt, spelt-symbol, word-symbol, atomic-symbol}
+use Rattle.elements.proofs.SymbolsAgree.{Spelt, spelt-symbol, word-symbol, atomic-symbol}
 
 -- ---- of any text
 

@@ -17,7 +17,7 @@ use Rattle.lang.proofs.Machine.{allB, all→}
 use Rattle.rules.specs.Bytes.{bytes}
 use Rattle.rules.specs.Elements.{symbols}
 use Rattle.elements.specs.Numbers.{atomicOf, spelled}
-use Rattle.elements.proofs.Laws.{which-below, atomic-which, spelled-word, no-small}
+use Rattle.elements.proofs.SymbolsAgree.{which-below, atomic-which, spelled-word, no-small}
 
 -- ---- the arm of a symbol
 

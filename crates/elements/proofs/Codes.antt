@@ -10,7 +10,7 @@ use Rattle.rules.specs.Elements.{symbols}
 use Rattle.elements.specs.declared.Letters.{Letters}
 use Rattle.elements.specs.Numbers.{lettersOf, codeOf}
 use Rattle.elements.proofs.Table.{long}
-use Rattle.elements.proofs.Laws.{Spelt, spelt-letters}
+use Rattle.elements.proofs.SymbolsAgree.{Spelt, spelt-letters}
 
 abbrev none : Letters
 none = record { first = 0; second = 0 }

@@ -1,6 +1,6 @@
 pub mod Words
 pub mod Table
-pub mod Laws
+pub mod SymbolsAgree
 pub mod Begins
 pub mod Codes
 pub mod Cases

@@ -13,9 +13,9 @@ use Rattle.rules.specs.Answers.{Answer, refuses, gives, Delivers, no-room, done
 use Rattle.rules.proofs.PreferredSpells.{said-in-order, preferred-says}
 use Rattle.rules.proofs.WritesOne.{holds-one, writes-one}
 use Rattle.shape.proofs.Unambiguous.{reads-one}
-use Rattle.writing.proofs.Prefers.{preferred-kept, preferred-rules, preferred-sum}
-use Rattle.writing.proofs.Shorter.{preferred-shorter}
-use Rattle.writing.proofs.Holds.{take-given}
+use Rattle.write_table.proofs.Prefers.{preferred-kept, preferred-rules, preferred-sum}
+use Rattle.write_table.proofs.Shorter.{preferred-shorter}
+use Rattle.write_table.proofs.Holds.{take-given}
 use Rattle.lines.specs.Relabels.{maxTable, Relabels, refused, relabelled}
 use Rattle.lines.proofs.Enough.{delivers-enough, read-enough}
 use Rattle.lines.proofs.Right.{reads-table, bytes-read}

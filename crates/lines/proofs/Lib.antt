@@ -1,5 +1,5 @@
 pub mod Plain
-pub mod Given
+pub mod SpellsLine
 pub mod Spelling
 pub mod Relabelled
 pub mod Right

@@ -5,9 +5,9 @@ use Prim.Native.Nat.{ℕ}
 use Rattle.rules.specs.Answers.{Reads, Writes}
 use Rattle.rules.proofs.WritesOne as rules
 use Rattle.shape.proofs.Unambiguous as shape
-use Rattle.deliver.specs.declared.Answer.{Answer}
-use Rattle.deliver.specs.Delivered.{answered}
-use Rattle.reading.proofs.One.{answered-one}
+use Rattle.answers.specs.declared.Answer.{Answer}
+use Rattle.answers.specs.Delivered.{answered}
+use Rattle.read_line.proofs.One.{answered-one}
 use Rattle.lines.specs.Relabels.{Relabels}
 use Rattle.lines.proofs.Back as back
 

@@ -23,11 +23,11 @@ use Rattle.rules.specs.Fields.{Table, filled, Says}
 use Rattle.rules.specs.Preferred.{shortened, preferredSpelling, preferred}
 use Rattle.rules.specs.Stored.{ionFields, lostUnits, addedUnits, isotopeRecords}
 use Rattle.rules.proofs.Totals.{perm-length, total}
-use Rattle.puts.specs.Puts.{maxPlace}
-use Rattle.respells.proofs.Kept.{ion-filled}
-use Rattle.totals.specs.declared.Totals.{Totals}
-use Rattle.totals.specs.Totals.{nothing, totalsOf}
-use Rattle.totals.proofs.Through.{lossesIn, isotopesIn, itemsIn, unitsIn, Counts, totals-read}
+use Rattle.put_bytes.specs.Puts.{maxPlace}
+use Rattle.respell_annotation.proofs.Kept.{ion-filled}
+use Rattle.measure_line.specs.declared.Totals.{Totals}
+use Rattle.measure_line.specs.Totals.{nothing, totalsOf}
+use Rattle.measure_line.proofs.Through.{lossesIn, isotopesIn, itemsIn, unitsIn, Counts, totals-read}
 use Rattle.lines.specs.Plain.{isPlain}
 
 -- ---- the parts of an annotation, as a table has them

@@ -10,19 +10,19 @@ use borrow.Author.Tests.{eq-eqb, ne-eqb, lt-ltb, le-ltb}
 use Rattle.rules.specs.Limits.{maxLine}
 use Rattle.rules.specs.Answers as rules
 use Rattle.rules.specs.Answers.{refuses}
-use Rattle.puts.specs.Puts.{Put}
-use Rattle.puts.proofs.Laws.{put-length}
+use Rattle.put_bytes.specs.Puts.{Put}
+use Rattle.put_bytes.proofs.Putting.{put-length}
 use Rattle.shape.specs.declared.Verdict.{Verdict}
 use Rattle.shape.specs.declared.Verdict.the-variants.{Fine, Short, Stray}
-use Rattle.terms.specs.declared.Fault.{Fault}
-use Rattle.annotations.specs.declared.Parts.{Parts}
-use Rattle.deliver.specs.declared.Answer.{Answer}
-use Rattle.totals.specs.declared.Totals.{Totals}
-use Rattle.totals.specs.Totals.{partsAt, totalsBy}
-use Rattle.deliver.specs.Delivered.{answered, refusedOf}
-use Rattle.totals.specs.Refusals.{firstOf}
-use Rattle.deliver.specs.Delivered.{cleared, lineOver}
-use Rattle.deliver.proofs.Lines.{line-cleared, line-long, line-no-room, line-fits}
+use Rattle.faults.specs.declared.Fault.{Fault}
+use Rattle.read_annotation.specs.declared.Parts.{Parts}
+use Rattle.answers.specs.declared.Answer.{Answer}
+use Rattle.measure_line.specs.declared.Totals.{Totals}
+use Rattle.measure_line.specs.Totals.{partsAt, totalsBy}
+use Rattle.answers.specs.Delivered.{answered, refusedOf}
+use Rattle.measure_line.specs.Refusals.{firstOf}
+use Rattle.answers.specs.Delivered.{cleared, lineOver}
+use Rattle.answers.proofs.Lines.{line-cleared, line-long, line-no-room, line-fits}
 use Rattle.lines.specs.Plain.{spellingOf}
 use Rattle.lines.specs.Relabels.{relabelledWith, relabelledOver, relabelledOf}
 

@@ -18,27 +18,27 @@ use Rattle.rules.specs.Preferred.{preferred}
 use Rattle.rules.specs.Stored.{stored}
 use Rattle.rules.specs.Answers.{Answer, refuses, gives, Sound, Holds, Reads}
 use Rattle.rules.proofs.OneTable as OneTable
-use Rattle.puts.specs.Puts.{maxPlace}
+use Rattle.put_bytes.specs.Puts.{maxPlace}
 use Rattle.shape.specs.declared.Verdict.{Verdict}
 use Rattle.shape.specs.declared.Verdict.the-variants.{Fine, Short, Stray}
 use Rattle.shape.specs.Steps.{machineBytes, scannedBy}
 use Rattle.shape.specs.Verdicts.{JudgedBy}
 use Rattle.shape.proofs.Scans.{by-machine}
 use Rattle.shape.proofs.OneSpelling.{one-spelling}
-use Rattle.annotations.proofs.Worded.{firstWord, nextWord, Worded}
-use Rattle.respells.specs.Annotations.{annotationSpelled}
-use Rattle.respells.proofs.Laws.{annotation-worded}
-use Rattle.pages.specs.Headers.{endAt}
-use Rattle.totals.specs.declared.Totals.{Totals}
-use Rattle.totals.specs.Totals.{partsAt, totalsOf}
-use Rattle.totals.specs.Refusals.{firstOf}
-use Rattle.reading.specs.Readings.{countsIn, tableOver, spelledOver, anyOver, readOf}
-use Rattle.totals.proofs.Given.{Gives, line-given}
-use Rattle.totals.proofs.Worded.{line-worded}
-use Rattle.reading.proofs.Right.{read-right}
-use Rattle.deliver.specs.Delivered.{lineOver}
-use Rattle.writing.proofs.Holds.{spelling-as, no-number, take-given}
-use Rattle.writing.proofs.Right.{line-right}
+use Rattle.read_annotation.proofs.Respelling.{firstPreferred, nextPreferred, Respelling}
+use Rattle.respell_annotation.specs.Annotations.{annotationSpelled}
+use Rattle.respell_annotation.proofs.RespelledAnnotation.{annotation-worded}
+use Rattle.store_sections.specs.Headers.{endAt}
+use Rattle.measure_line.specs.declared.Totals.{Totals}
+use Rattle.measure_line.specs.Totals.{partsAt, totalsOf}
+use Rattle.measure_line.specs.Refusals.{firstOf}
+use Rattle.read_line.specs.Readings.{countsIn, tableOver, spelledOver, anyOver, readOf}
+use Rattle.measure_line.proofs.EachGives.{Gives, line-given}
+use Rattle.measure_line.proofs.RespelledLine.{line-worded}
+use Rattle.read_line.proofs.Right.{read-right}
+use Rattle.answers.specs.Delivered.{lineOver}
+use Rattle.write_table.proofs.Holds.{spelling-as, no-number, take-given}
+use Rattle.write_table.proofs.Right.{line-right}
 use Rattle.lines.specs.Plain.{isPlain, nextSpelled, lineSpelled, spellingOf}
 use Rattle.lines.specs.Relabels.{maxTable, Relabels, refused, relabelled, relabelledOver, relabelledAs, relabelledOf}
 use Rattle.lines.proofs.Plain.{plain-preferred}
@@ -74,7 +74,7 @@ holds-read line room x = record { sound = x .sound; is = sym (bytes-read line ro
 -- ---- what is spelled for it
 
 -- a comma before each annotation but the first
-next-worded : Gives nextSpelled (Worded nextWord)
+next-worded : Gives nextSpelled (Respelling nextPreferred)
 next-worded a k end i at e kept h small =
     let x = annotation-worded a k end i at e kept h small in
     record { table = x .table; says = x .says; is = ap (λ (w : List ℕ). bytes "," ++ w) (x .is) }
@@ -83,7 +83,7 @@ next-worded a k end i at e kept h small =
 anew-preferred : (s : Spelling) (t : Table) → length (lineText s) ≤ maxPlace → Each Says s t → Kept (lineMarks s)
     → lineSpelled (lineText s) (partsAt (lineText s) 0) ≡ preferred t
 anew-preferred s t small says kept =
-    let g = line-given annotationSpelled nextSpelled (Worded firstWord) (Worded nextWord) annotation-worded next-worded s small kept in
+    let g = line-given annotationSpelled nextSpelled (Respelling firstPreferred) (Respelling nextPreferred) annotation-worded next-worded s small kept in
     let x = line-worded g in
     x .is ∙ ap preferred (OneTable.one-table one-spelling (x .says) says)
 

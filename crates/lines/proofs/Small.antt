@@ -25,7 +25,7 @@ use Rattle.rules.specs.Answers.{Sound}
 use Rattle.rules.proofs.Totals.{total, length-flat, total-le, perm-flat}
 use Rattle.rules.proofs.Bounds.{Bounded, table-few, table-bounded}
 use Rattle.rules.proofs.Lengths.{weight, stored-weight}
-use Rattle.annotations.proofs.Sizes.{ion-long, losses-long}
+use Rattle.read_annotation.proofs.Sizes.{ion-long, losses-long}
 use Rattle.lines.specs.Relabels.{maxTable}
 
 -- ---- an annotation, besides its texts

@@ -7,15 +7,15 @@ use native.Mathlib.Omega.{arith}
 use lib.ListN.{length, drop}
 use Rattle.rules.specs.Bytes.{bytes}
 use Rattle.rules.specs.Texts.{startsWith}
-use Rattle.puts.specs.Puts.{maxPlace, Put}
-use Rattle.puts.proofs.Laws.{put-none, put-length, put-then, put-as}
-use Rattle.heads.specs.declared.Respelled.{Respelled}
-use Rattle.annotations.specs.declared.Parts.{Parts}
-use Rattle.annotations.specs.Measured.{annotationSize}
-use Rattle.respells.specs.Annotations.{annotationSpelled, SpellsAnnotation}
-use Rattle.totals.specs.Totals.{partsAt}
-use Rattle.totals.specs.Walks.{behindBy}
-use Rattle.totals.proofs.Walking.{walked-none, Walking, walking-begins, walking-turns, walking-falls, walking-ends}
+use Rattle.put_bytes.specs.Puts.{maxPlace, Put}
+use Rattle.put_bytes.proofs.Putting.{put-none, put-length, put-then, put-as}
+use Rattle.print_count.specs.declared.Respelled.{Respelled}
+use Rattle.read_annotation.specs.declared.Parts.{Parts}
+use Rattle.read_annotation.specs.Measured.{annotationSize}
+use Rattle.respell_annotation.specs.Annotations.{annotationSpelled, SpellsAnnotation}
+use Rattle.measure_line.specs.Totals.{partsAt}
+use Rattle.measure_line.specs.Walks.{behindBy}
+use Rattle.measure_line.proofs.Walking.{walked-none, Walking, walking-begins, walking-turns, walking-falls, walking-ends}
 use Rattle.lines.specs.Plain.{nextSpelled, lineSpelled}
 
 -- from output d and places to₀ and at₀ of output and line on, the annotations up to `at` are spelled

@@ -4,10 +4,10 @@ use mathlib.Core.Bool.{Bool, _&&_, cond}
 use mathlib.Core.List.{List, _++_}
 use lib.Dec.{eqb}
 use Rattle.rules.specs.Bytes.{bytes}
-use Rattle.annotations.specs.declared.Parts.{Parts}
-use Rattle.respells.specs.Annotations.{annotationSpelled}
-use Rattle.totals.specs.declared.Totals.{Totals}
-use Rattle.totals.specs.Walks.{lineGivenBy}
+use Rattle.read_annotation.specs.declared.Parts.{Parts}
+use Rattle.respell_annotation.specs.Annotations.{annotationSpelled}
+use Rattle.measure_line.specs.declared.Totals.{Totals}
+use Rattle.measure_line.specs.Walks.{lineGivenBy}
 
 -- no losses, no isotopes, no adduct items, and no units
 unfoldable pub isPlain : Totals → Bool

@@ -9,11 +9,11 @@ use Rattle.rules.specs.Limits.{maxLine}
 use Rattle.rules.specs.Answers.{Answer, refuses, Reads, Writes}
 use Rattle.shape.specs.declared.Verdict.{Verdict}
 use Rattle.shape.specs.Verdicts.{numberOf, placeOf}
-use Rattle.annotations.specs.declared.Parts.{Parts}
-use Rattle.totals.specs.declared.Totals.{Totals}
-use Rattle.totals.specs.Totals.{partsAt, totalsOf}
-use Rattle.totals.specs.Refusals.{firstOf}
-use Rattle.deliver.specs.Delivered.{lineOver}
+use Rattle.read_annotation.specs.declared.Parts.{Parts}
+use Rattle.measure_line.specs.declared.Totals.{Totals}
+use Rattle.measure_line.specs.Totals.{partsAt, totalsOf}
+use Rattle.measure_line.specs.Refusals.{firstOf}
+use Rattle.answers.specs.Delivered.{lineOver}
 use Rattle.lines.specs.Plain.{spellingOf}
 
 -- how many bytes the table of a line within its bound has at most

@@ -2,32 +2,32 @@
 ghost use mathlib.Core.Path.{_≡_};
 ghost use lib.ListN.{length};
 ghost use Rattle.rules.specs.Answers.{Reads, Writes};
-ghost use Rattle.puts.specs.Puts.{Put};
+ghost use Rattle.put_bytes.specs.Puts.{Put};
 ghost use Rattle.shape.specs.Steps.{scannedBy};
-ghost use Rattle.deliver.specs.Delivered.{answered};
+ghost use Rattle.answers.specs.Delivered.{answered};
 ghost use Rattle.lines.specs.Plain.{isPlain, lineSpelled, spellingOf};
 ghost use Rattle.lines.specs.Relabels.{Relabels, relabelledOver, relabelledOf};
-use annotations::Parts;
-use deliver::Answer;
-use deliver::MAX_LINE;
-use deliver::clear_from;
-use deliver::refuse;
-use openings::ahead;
-use puts::clear;
-use puts::put_run;
-use puts::put8;
-use reading::read_by;
-use respells::spell_annotation;
+use answers::Answer;
+use answers::MAX_LINE;
+use answers::clear_from;
+use answers::refuse;
+use measure_line::Totals;
+use measure_line::first_refusal;
+use measure_line::read_at;
+use measure_line::total;
+use put_bytes::clear;
+use put_bytes::put_run;
+use put_bytes::put8;
+use read_annotation::Parts;
+use read_line::read_by;
+use respell_annotation::spell_annotation;
 use shape::Verdict;
 use shape::machine;
 use shape::scan_by;
-use terms::begins_with;
-use terms::rest;
-use totals::Totals;
-use totals::first_refusal;
-use totals::read_at;
-use totals::total;
-use writing::write_by;
+use slices::advance;
+use slices::begins_with;
+use slices::rest;
+use write_table::write_by;
 
 // The table that a line spells, or why there is none.
 pub fn read(line: &[u8], out: &mut [u8]) -> Answer
@@ -73,14 +73,14 @@ fn spell_line(out: &mut [u8], line: &[u8], first: Parts) -> usize
     }
     let x = spell_annotation(out, 0, line, first);
     let mut to = x.to;
-    let mut at = ahead(0, x.len, line.len());
+    let mut at = advance(0, x.len, line.len());
     while begins_with(rest(line, at), b',') {
-        let from = ahead(at, 1, line.len());
+        let from = advance(at, 1, line.len());
         let p = read_at(line, from);
         let begin = put8(out, to, b',');
         let y = spell_annotation(out, begin, rest(line, from), p);
         to = y.to;
-        at = ahead(from, y.len, line.len());
+        at = advance(from, y.len, line.len());
     }
     to
 }

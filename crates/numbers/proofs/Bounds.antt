@@ -16,10 +16,10 @@ use Rattle.rules.specs.Decimals.{whole}
 use Rattle.rules.specs.Limits.{fits}
 use Rattle.rules.proofs.Digits.{digits-small, digits-big}
 use Rattle.numbers.specs.declared.Decimal.{Decimal}
-use Rattle.numbers.specs.declared.Made.the-variants.{Fits, Past}
+use Rattle.numbers.specs.declared.MadeDecimal.the-variants.{Fits, Past}
 use Rattle.numbers.specs.Making.{zeroDecimal, ruled, madeOf, madeDecimal}
 
--- ---- how many digits a number has
+-- ---- how many-digits digits a number has
 
 one-digit : (n : ℕ) → n < 10 → length (digits n) ≡ 1
 one-digit n h = ap length (digits-small n h)
@@ -42,11 +42,11 @@ digits-below (suc k) n h = go (digits-below k (n / 10) (omega (arith, pow-suc 10
     go i (yes l) = omega (arith, one-digit n l)
     go i (no l) = omega (arith, more-digits n (omega arith))
 
-many : (k n : ℕ) → 10 ^ suc k ≤ n → suc k < length (digits n)
-many zero n h = omega (arith, more-digits n h, some-digits (n / 10))
-many (suc k) n h =
+many-digits : (k n : ℕ) → 10 ^ suc k ≤ n → suc k < length (digits n)
+many-digits zero n h = omega (arith, more-digits n h, some-digits (n / 10))
+many-digits (suc k) n h =
     let p = pow-suc 10 (suc k) in
-    let i = many k (n / 10) (omega arith) in
+    let i = many-digits k (n / 10) (omega arith) in
     omega (arith, more-digits n (omega (arith, one-le-pow (suc k) 10 (omega arith))))
 
 -- ---- a number without its last digits
@@ -93,7 +93,7 @@ module _ (v p : ℕ) (h : p ≤ 9) where
           le-leb (length (digits (whole p v)) + p) 12 (omega arith) ∙ sym (lt-ltb v (10 ^ 12) l)
       go (no l) =
           let g : 10 ^ 12 ≤ v = omega arith in
-          let f = many (11 - p) (whole p v) (whole-ge p v (10 ^ suc (11 - p)) (omega (arith, parts))) in
+          let f = many-digits (11 - p) (whole p v) (whole-ge p v (10 ^ suc (11 - p)) (omega (arith, parts))) in
           lt-leb (length (digits (whole p v)) + p) 12 (omega arith) ∙ sym (le-ltb v (10 ^ 12) g)
 
 -- a decimal fits exactly where it has at most 9 places and its value is below 10 ^ 12

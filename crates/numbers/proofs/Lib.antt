@@ -4,4 +4,4 @@ pub mod Bounds
 pub mod Points
 pub mod Shares
 pub mod Written
-pub mod Laws
+pub mod SpelledNumbers

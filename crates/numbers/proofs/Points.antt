@@ -14,7 +14,7 @@ use Rattle.lang.proofs.Lits.{one-eq}
 use Rattle.lang.proofs.Tests.{is-t}
 use Rattle.rules.specs.Decimals.{whole}
 use Rattle.numbers.specs.declared.Digits.{Digits}
-use Rattle.numbers.specs.declared.Made.{Made}
+use Rattle.numbers.specs.declared.MadeDecimal.{MadeDecimal}
 use Rattle.numbers.specs.Leading.{leading, leadingOf}
 use Rattle.numbers.specs.Making.{madeOf}
 use Rattle.numbers.specs.Points.{point, fraction, fractionOf, pointed, decimalOf}
@@ -130,20 +130,20 @@ module _ {s : List ℕ} {whole all : Digits} (w : Walked s whole all) where
       let e : whole .value ≡ min (valueFrom 0 (leading s)) (10 ^ 12) = ap (λ (d : Digits). d .value) (w .front) in
       ap (λ (d : Digits). d .value) all-is ∙ capped (10 ^ 12) (whole .value) (valueFrom 0 (leading s)) tail (omega arith)
 
-  found : {made : Made} {p n : ℕ} → p ≡ min (all .len) 10 → made ≡ madeOf (all .value) p → n ≡ length (leading s) + pointed tail
+  found : {made : MadeDecimal} {p n : ℕ} → p ≡ min (all .len) 10 → made ≡ madeOf (all .value) p → n ≡ length (leading s) + pointed tail
       → record { made = made; len = n } ≡ decimalOf s
   unfolding decimalOf tail
   found {made} {p} {n} e m l =
-      ap₂ (λ (x : Made) (y : ℕ). record { made = x; len = y })
+      ap₂ (λ (x : MadeDecimal) (y : ℕ). record { made = x; len = y })
       (m ∙ ap₂ madeOf value (e ∙ ap (λ (x : ℕ). min x 10) places)
       ∙ made-capped (valueFrom (valueFrom 0 (leading s)) tail) (length tail))
       l
 
-  pub found-whole : {made : Made} {p : ℕ} → p ≡ min (all .len) 10 → made ≡ madeOf (all .value) p → all .len ≡ 0
+  pub found-whole : {made : MadeDecimal} {p : ℕ} → p ≡ min (all .len) 10 → made ≡ madeOf (all .value) p → all .len ≡ 0
       → record { made = made; len = whole .len } ≡ decimalOf s
   found-whole e m z = found e m (omega (arith, at, pointed-none tail (sym places ∙ z)))
 
-  pub found-point : {made : Made} {p : ℕ} → p ≡ min (all .len) 10 → made ≡ madeOf (all .value) p → (all .len ≡ 0 → ⊥)
+  pub found-point : {made : MadeDecimal} {p : ℕ} → p ≡ min (all .len) 10 → made ≡ madeOf (all .value) p → (all .len ≡ 0 → ⊥)
       → record { made = made; len = whole .len + 1 + all .len } ≡ decimalOf s
   found-point e m z = found e m (omega (arith, at, places, pointed-some tail (λ q. z (places ∙ q))))
 

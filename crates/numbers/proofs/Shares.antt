@@ -7,9 +7,9 @@ use native.Mathlib.Decide.{decLe}
 use Rattle.numbers.specs.declared.Decimal.{Decimal}
 use Rattle.numbers.specs.Shares.{largest, billionthsOf}
 
--- a value past the largest stays past it
-past : (a k : ℕ) → 1 ≤ k → min (min a largest * k) largest ≡ min (a * k) largest
-past a k h = go (decLe a largest)
+-- a value capped-again the largest stays capped-again it
+capped-again : (a k : ℕ) → 1 ≤ k → min (min a largest * k) largest ≡ min (a * k) largest
+capped-again a k h = go (decLe a largest)
   where
     go : Dec (a ≤ largest) → min (min a largest * k) largest ≡ min (a * k) largest
     go (yes g) = let e : min a largest ≡ a = omega arith in rw e
@@ -35,7 +35,7 @@ module _ {d : Decimal} where
       let k = 9 - (places + 1) in
       let e : 9 - places ≡ suc k = omega arith in
       let t : v * 10 ^ suc k ≡ v * 10 * 10 ^ k = rw (pow-suc 10 k) (omega arith) in
-      record { small = omega arith; is = s .is ∙ rw (e, t) (sym (past (v * 10) (10 ^ k) (one-le-pow k 10 (omega arith)))) }
+      record { small = omega arith; is = s .is ∙ rw (e, t) (sym (capped-again (v * 10) (10 ^ k) (one-le-pow k 10 (omega arith)))) }
 
   pub ends : {v places : ℕ} → Scaled d v places → 9 ≤ places → v ≡ billionthsOf d
   ends {v} {places} s h = let e : 9 - places ≡ 0 = omega arith in sym (s .is ∙ rw e (omega (arith, s .small)))

@@ -41,14 +41,14 @@ capped m x y (b ∷ w) e = capped m (x * 10 + (b - 48)) (y * 10 + (b - 48)) w (o
 
 -- ---- the walk
 
--- what is told after a value and so many digits, of which the rest is ahead
-abbrev pub ahead : ℕ → ℕ → ℕ → List ℕ → Digits
-ahead most value len s = record { value = min (valueFrom value (leading s)) most; len = len + length (leading s) }
+-- what is told after a value and so many digits, of which the rest is digitsAhead
+abbrev pub digitsAhead : ℕ → ℕ → ℕ → List ℕ → Digits
+digitsAhead most value len s = record { value = min (valueFrom value (leading s)) most; len = len + length (leading s) }
 
 pub record Passed (s : List ℕ) (before most value len : ℕ) : Type 0 where
   pub inside : len ≤ length s
   pub least : value ≤ most
-  pub is : leadingOf before most s ≡ ahead most value len (drop len s)
+  pub is : leadingOf before most s ≡ digitsAhead most value len (drop len s)
 
 module _ {s : List ℕ} {before most : ℕ} where
   pub begin : before ≤ most → Passed s before most before 0

@@ -8,8 +8,8 @@ use lib.ListN.{length}
 use Rattle.rules.specs.Numbers.{digits}
 use Rattle.rules.specs.Decimals.{whole, lastDigits, pointText}
 use Rattle.rules.proofs.Digits.{digits-small, digits-big}
-use Rattle.puts.specs.Puts.{maxPlace, Put}
-use Rattle.puts.proofs.Laws.{put-none, put-then, put-as}
+use Rattle.put_bytes.specs.Puts.{maxPlace, Put}
+use Rattle.put_bytes.proofs.Putting.{put-none, put-then, put-as}
 
 -- ---- numbers
 

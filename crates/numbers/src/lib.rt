@@ -5,12 +5,12 @@ ghost use Rattle.lang.specs.Re.{inC};
 ghost use Rattle.rules.specs.Bytes.{digit};
 ghost use Rattle.rules.specs.Numbers.{digits};
 ghost use Rattle.rules.specs.Decimals.{whole, lastDigits, decimalText};
-ghost use Rattle.puts.specs.Puts.{Put};
+ghost use Rattle.put_bytes.specs.Puts.{Put};
 ghost use Rattle.numbers.specs.Leading.{leadingOf, numberOf};
 ghost use Rattle.numbers.specs.Making.{zeroDecimal, ruled, madeOf, madeNumber, madeDecimal};
 ghost use Rattle.numbers.specs.Points.{fractionOf, decimalOf};
 ghost use Rattle.numbers.specs.Shares.{largest, billionthsOf};
-use puts::put8;
+use put_bytes::put8;
 
 // Ten to the Decimal::MAX_DIGITS: the first value that is too long, and what all longer ones are told as.
 const TOO_LONG: u64 = 1000000000000;
@@ -94,7 +94,7 @@ pub struct Decimal {
 }
 
 // A decimal within its bounds, or that it is past them.
-pub enum Made {
+pub enum MadeDecimal {
     Fits(Decimal),
     Past,
 }
@@ -107,16 +107,16 @@ impl Decimal {
     pub const MAX_DIGITS: u8 = 12;
 
     // A decimal, unless it is past its bounds. Nine places and a `0` before them are ten digits, so that the value's own digits decide.
-    pub fn new(value: u64, places: u8) -> Made
+    pub fn new(value: u64, places: u8) -> MadeDecimal
         ensures { λ r. ⌜ r ≡ madeOf value places ⌝ }
     {
         if Decimal::MAX_PLACES < places {
-            return Made::Past;
+            return MadeDecimal::Past;
         }
         if 0 < whole_of(value, Decimal::MAX_DIGITS) {
-            return Made::Past;
+            return MadeDecimal::Past;
         }
-        Made::Fits(Decimal { value, places })
+        MadeDecimal::Fits(Decimal { value, places })
     }
 
     // 0, without places.
@@ -144,14 +144,14 @@ impl Decimal {
     }
 }
 
-impl Made {
+impl MadeDecimal {
     // The number of the refusal: 0 for none, 4 for a decimal past its bounds.
     pub fn number(self) -> usize
         ensures { λ r. ⌜ r ≡ madeNumber self ⌝ }
     {
         match self {
-            Made::Fits(_) => 0,
-            Made::Past => 4,
+            MadeDecimal::Fits(_) => 0,
+            MadeDecimal::Past => 4,
         }
     }
 
@@ -160,15 +160,15 @@ impl Made {
         ensures { λ r. ⌜ r ≡ madeDecimal self ⌝ }
     {
         match self {
-            Made::Fits(d) => d,
-            Made::Past => Decimal::zero(),
+            MadeDecimal::Fits(d) => d,
+            MadeDecimal::Past => Decimal::zero(),
         }
     }
 }
 
 // What a part begins with, read as a decimal, and how many bytes it has.
 pub struct DecimalRead {
-    pub made: Made,
+    pub made: MadeDecimal,
     pub len: usize,
 }
 

@@ -1,5 +1,5 @@
 // Each line of standard input, read into an output that is as long as any line needs.
-use programs::was_asked;
+use run_program::was_asked;
 
 fn main() {
     if was_asked(
@@ -15,5 +15,5 @@ table in hexadecimal digits, `-` where there is none.
     ) {
         return;
     }
-    answers::answer_lines(b"reads", false);
+    run_reads::answer_lines(b"reads", false);
 }

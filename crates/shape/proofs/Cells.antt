@@ -8,8 +8,8 @@ use lib.ListN.{length, getD, replicate, List·getD-append}
 use lib.Seq.{getD-append-add}
 use Rattle.lang.proofs.Flat.{laid, laid-at}
 use Rattle.lang.proofs.Certify.{step, accepting, kind-lt}
-use Rattle.puts.specs.Puts.{Put}
-use Rattle.puts.proofs.Laws.{filled}
+use Rattle.put_bytes.specs.Puts.{Put}
+use Rattle.put_bytes.proofs.Putting.{filled}
 use Rattle.shape.specs.Tables.{states, kinds, rowsAt, endsAt, size, classes, rows, accepts, packed}
 use Rattle.shape.specs.Steps.{machineBytes, stepBy, endsBy}
 use Rattle.shape.proofs.TableMachine.{machine}

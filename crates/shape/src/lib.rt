@@ -15,7 +15,7 @@ use crate::tables::PACKED;
 use crate::tables::ROWS_AT;
 use crate::tables::SIZE;
 use crate::tables::STATES;
-use puts::put_words;
+use put_bytes::put_words;
 
 // What the shape of a line is.
 pub enum Verdict {

@@ -7,8 +7,8 @@ use mathlib.Core.List.{List}
 use lib.ListN.{length, replicate, length-replicate}
 use Rattle.shape.specs.declared.Progress.{Progress}
 use Rattle.shape.specs.Steps.{takenBy}
-use Rattle.streams.specs.declared.Stream.{Stream}
-use Rattle.programs.proofs.One.{waits-one}
+use Rattle.io_lines.specs.declared.Stream.{Stream}
+use Rattle.run_program.proofs.One.{waits-one}
 use Rattle.shapes.specs.declared.Work.{Work}
 use Rattle.shapes.specs.Shown.{Shown, Parted}
 

@@ -6,15 +6,15 @@ use mathlib.Core.List.{List}
 use lib.Dec.{ltb}
 use lib.ListN.{length}
 use borrow.Author.Tests.{ne-eqb, eq-eqb}
-use Rattle.puts.specs.Puts.{Put}
-use Rattle.puts.proofs.Laws.{put-as}
+use Rattle.put_bytes.specs.Puts.{Put}
+use Rattle.put_bytes.proofs.Putting.{put-as}
 use Rattle.shape.specs.declared.Progress.{Progress}
 use Rattle.shape.specs.declared.Verdict.{Verdict}
 use Rattle.shape.specs.declared.Verdict.the-variants.{Short}
 use Rattle.shape.specs.Steps.{standing, takenBy, verdictBy}
-use Rattle.streams.specs.declared.Stream.{Stream}
-use Rattle.streams.specs.Streams.{waitingOf, Roomed}
-use Rattle.programs.proofs.Waiting.{waits-by}
+use Rattle.io_lines.specs.declared.Stream.{Stream}
+use Rattle.io_lines.specs.Streams.{waitingOf, Roomed}
+use Rattle.run_program.proofs.Waiting.{waits-by}
 use Rattle.shapes.specs.Shown.{placeText, verdictText, isBegun, Shown, Parted, Last}
 
 module _ (p : Progress) where

@@ -11,8 +11,8 @@ use Rattle.shape.specs.declared.Progress.{Progress}
 use Rattle.shape.specs.declared.Verdict.{Verdict}
 use Rattle.shape.specs.Steps.{standing, takenBy, verdictBy}
 use Rattle.shape.specs.Verdicts.{numberOf, placeOf}
-use Rattle.streams.specs.declared.Stream.{Stream}
-use Rattle.programs.specs.Waits.{Waits}
+use Rattle.io_lines.specs.declared.Stream.{Stream}
+use Rattle.run_program.specs.Waits.{Waits}
 use Rattle.shapes.specs.declared.Work.{Work}
 
 -- a number, a blank, a place and a line feed

@@ -5,19 +5,19 @@ ghost use mathlib.Core.Path.{_≡_};
 ghost use mathlib.Core.List.{List};
 ghost use Prim.Native.Nat.{ℕ};
 ghost use lib.ListN.{length, take, drop};
-ghost use Rattle.puts.specs.Puts.{Put};
+ghost use Rattle.put_bytes.specs.Puts.{Put};
 ghost use Rattle.shapes.specs.Shown.{placeText, verdictText, isBegun, Shown, Parted, Last};
-use feeds::stretch;
+use io_lines::Stream;
+use io_lines::next_part;
+use io_lines::room;
+use io_parts::stretch;
 use numbers::put_number;
-use programs::finish;
-use programs::was_asked;
-use puts::put_run;
-use puts::put8;
+use put_bytes::put_run;
+use put_bytes::put8;
+use run_program::finish;
+use run_program::was_asked;
 use shape::Progress;
 use shape::Verdict;
-use streams::Stream;
-use streams::next_part;
-use streams::room;
 
 // The longest answer: a number, a blank, a place of 20 digits, a line feed.
 const ANSWER: usize = 23;

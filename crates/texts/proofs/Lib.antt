@@ -1,4 +1,4 @@
 pub mod Classes
-pub mod Turns
+pub mod LeadingLoop
 pub mod Whole
-pub mod Laws
+pub mod LeadingBytes

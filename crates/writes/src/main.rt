@@ -1,5 +1,5 @@
 // Each line of standard input is a stored table in hexadecimal digits, written into an output that is as long as a line may be.
-use programs::was_asked;
+use run_program::was_asked;
 
 fn main() {
     if was_asked(
@@ -15,5 +15,5 @@ line in hexadecimal digits, `-` where there is none or it is empty.
     ) {
         return;
     }
-    write_answers::answer_tables(b"writes", false);
+    run_writes::answer_tables(b"writes", false);
 }

@@ -1,5 +1,5 @@
 -- `lines::is_plain` meets its contract. Assumes nothing.
-use Rattle.lines.proofs.Given.{with-losses, with-isotopes, with-items, by-units}
+use Rattle.lines.proofs.SpellsLine.{with-losses, with-isotopes, with-items, by-units}
 use Rattle.lines.proofs.is_plain.Statement.{statement}
 use Rattle.lines.proofs.is_plain.Tie as tie
 

@@ -1,5 +1,5 @@
 -- `lines::put_spelling` meets its contract. Assumes nothing.
-use Rattle.lines.proofs.Given.{copied, anew}
+use Rattle.lines.proofs.SpellsLine.{copied, anew}
 use borrow.Author.Needs.{needs}
 use Rattle.lines.proofs.put_spelling.Statement.{statement}
 use Rattle.lines.proofs.put_spelling.Tie as tie

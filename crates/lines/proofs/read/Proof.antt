@@ -7,8 +7,8 @@ use lib.ListN.{length}
 use Rattle.rules.specs.Answers.{Reads}
 use Rattle.shape.specs.Steps.{machineBytes, scannedBy}
 use Rattle.shape.proofs.Scans.{by-machine}
-use Rattle.reading.specs.Readings.{readOf}
-use Rattle.reading.proofs.Right.{read-right}
+use Rattle.read_line.specs.Readings.{readOf}
+use Rattle.read_line.proofs.Right.{read-right}
 use Rattle.lines.proofs.read.Statement.{statement}
 use Rattle.lines.proofs.read.Tie as tie
 

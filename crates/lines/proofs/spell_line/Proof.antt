@@ -1,7 +1,7 @@
 -- `lines::spell_line` meets its contract. Assumes nothing.
 use borrow.Author.Needs.{needs}
 use Rattle.lines.proofs.Spelling.{Spelling, spelling-begins, spelling-length, spelling-falls, spelling-turns, spelling-ends, empty-spelled}
-use Rattle.puts.proofs.Laws.{put-length}
+use Rattle.put_bytes.proofs.Putting.{put-length}
 use lib.ListN.{length}
 use native.Mathlib.Omega.{arith}
 use mathlib.Core.Path.{refl, sym, _∙_}
@@ -21,8 +21,8 @@ returns c = empty-spelled _ _ (omega arith) (c .if1 .taken)
 spell-annotation-requires : tie.Need-spell-annotation-requires Inv-loop μ-loop
 spell-annotation-requires c κs = search needs
 
-ahead-requires : tie.Need-ahead-requires Inv-loop μ-loop
-ahead-requires c κs = search needs
+advance-requires : tie.Need-advance-requires Inv-loop μ-loop
+advance-requires c κs = search needs
 
 loop-holds : tie.Need-loop-holds Inv-loop μ-loop
 loop-holds c = spelling-begins _ (omega arith) (omega arith)
@@ -33,8 +33,8 @@ rest-requires c κs = search needs
 begins-with-requires : tie.Need-begins-with-requires Inv-loop μ-loop
 begins-with-requires c κs = search needs
 
-ahead-requires-2 : tie.Need-ahead-requires-2 Inv-loop μ-loop
-ahead-requires-2 c κs = search needs
+advance-requires-2 : tie.Need-advance-requires-2 Inv-loop μ-loop
+advance-requires-2 c κs = search needs
 
 read-at-requires : tie.Need-read-at-requires Inv-loop μ-loop
 read-at-requires c κs = search needs
@@ -48,32 +48,32 @@ rest-requires-2 c κs = search needs
 spell-annotation-requires-2 : tie.Need-spell-annotation-requires-2 Inv-loop μ-loop
 spell-annotation-requires-2 c κs = search needs
 
-ahead-requires-3 : tie.Need-ahead-requires-3 Inv-loop μ-loop
-ahead-requires-3 c κs = search needs
+advance-requires-3 : tie.Need-advance-requires-3 Inv-loop μ-loop
+advance-requires-3 c κs = search needs
 
 loop-less : tie.Need-loop-less Inv-loop μ-loop
 loop-less c =
     let at-rest2 = c .before .before .before .before in
     let at-put8 = at-rest2 .before .before .before .before in
     let at-read-at = at-put8 .before .before in
-    let at-ahead2 = at-read-at .before in
-    let at-if2 = at-ahead2 .before in
+    let at-advance2 = at-read-at .before in
+    let at-if2 = at-advance2 .before in
     let at-begins-with = at-if2 .before in
     let at-rest = at-begins-with .before in
     let at-loop = at-rest .before in
-    spelling-falls _ (at-loop .loop .inv) (at-rest .rest .ensures) (sym (at-begins-with .begins-with .ensures) ∙ at-if2 .if2 .taken) (at-ahead2 .ahead2 .ensures) (at-read-at .read-at .ensures) (at-rest2 .rest2 .ensures) (at-put8 .put8 .ensures) (c .before .before .before .spell-annotation2 .ensures) (c .ahead3 .ensures)
+    spelling-falls _ (at-loop .loop .inv) (at-rest .rest .ensures) (sym (at-begins-with .begins-with .ensures) ∙ at-if2 .if2 .taken) (at-advance2 .advance2 .ensures) (at-read-at .read-at .ensures) (at-rest2 .rest2 .ensures) (at-put8 .put8 .ensures) (c .before .before .before .spell-annotation2 .ensures) (c .advance3 .ensures)
 
 loop-again : tie.Need-loop-again Inv-loop μ-loop
 loop-again c =
     let at-rest2 = c .before .before .before .before in
     let at-put8 = at-rest2 .before .before .before .before in
     let at-read-at = at-put8 .before .before in
-    let at-ahead2 = at-read-at .before in
-    let at-if2 = at-ahead2 .before in
+    let at-advance2 = at-read-at .before in
+    let at-if2 = at-advance2 .before in
     let at-begins-with = at-if2 .before in
     let at-rest = at-begins-with .before in
     let at-loop = at-rest .before in
-    spelling-turns _ (at-loop .loop .inv) (at-rest .rest .ensures) (sym (at-begins-with .begins-with .ensures) ∙ at-if2 .if2 .taken) (at-ahead2 .ahead2 .ensures) (at-read-at .read-at .ensures) (at-rest2 .rest2 .ensures) (at-put8 .put8 .ensures) (c .before .before .before .spell-annotation2 .ensures) (c .ahead3 .ensures)
+    spelling-turns _ (at-loop .loop .inv) (at-rest .rest .ensures) (sym (at-begins-with .begins-with .ensures) ∙ at-if2 .if2 .taken) (at-advance2 .advance2 .ensures) (at-read-at .read-at .ensures) (at-rest2 .rest2 .ensures) (at-put8 .put8 .ensures) (c .before .before .before .spell-annotation2 .ensures) (c .advance3 .ensures)
 
 same-length : tie.Need-same-length Inv-loop μ-loop
 same-length c =
@@ -82,10 +82,10 @@ same-length c =
 
 returns-2 : tie.Need-returns-2 Inv-loop μ-loop
 returns-2 c =
-    let at-ahead = c .before .before .before .before in
-    let at-spell-annotation = at-ahead .before .before .before in
+    let at-advance = c .before .before .before .before in
+    let at-spell-annotation = at-advance .before .before .before in
     let at-if1 = at-spell-annotation .before .before in
-    spelling-ends _ (c .before .before .before .loop .inv) (c .before .before .rest .ensures) _ (at-if1 .if1 .left) (at-spell-annotation .spell-annotation .ensures) refl (at-ahead .ahead .ensures) (sym (c .before .begins-with .ensures) ∙ c .if2 .left)
+    spelling-ends _ (c .before .before .before .loop .inv) (c .before .before .rest .ensures) _ (at-if1 .if1 .left) (at-spell-annotation .spell-annotation .ensures) refl (at-advance .advance .ensures) (sym (c .before .begins-with .ensures) ∙ c .if2 .left)
 
 pub spell-line-spec : {M : Type 1} → statement M
 spell-line-spec =
@@ -95,16 +95,16 @@ spell-line-spec =
     μ-loop
     returns
     spell-annotation-requires
-    ahead-requires
+    advance-requires
     loop-holds
     rest-requires
     begins-with-requires
-    ahead-requires-2
+    advance-requires-2
     read-at-requires
     put8-requires
     rest-requires-2
     spell-annotation-requires-2
-    ahead-requires-3
+    advance-requires-3
     loop-less
     loop-again
     same-length

@@ -6,9 +6,9 @@ use lib.ListN.{length}
 use Rattle.rules.specs.Answers.{Writes}
 use Rattle.shape.specs.Steps.{machineBytes}
 use Rattle.shape.proofs.Scans.{by-machine}
-use Rattle.writing.specs.Writings.{writtenOf}
-use Rattle.writing.proofs.Low.{bytes-each}
-use Rattle.writing.proofs.Right.{write-right}
+use Rattle.write_table.specs.Writings.{writtenOf}
+use Rattle.write_table.proofs.Low.{bytes-each}
+use Rattle.write_table.proofs.Right.{write-right}
 use borrow.Author.Needs.{needs}
 use Rattle.lines.proofs.write.Statement.{statement}
 use Rattle.lines.proofs.write.Tie as tie

@@ -7,7 +7,7 @@ use borrow.Fn.PlainCycle.{Measures, is, falls, and}
 use Rattle.numbers.proofs.put_last.Reads as put-last
 use Rattle.numbers.proofs.put_last.Kinds as put-last-kinds
 use Rattle.numbers.proofs.+put_last.Lts-put_last as put-last-lts
-use Rattle.puts.proofs.put8.Reads as put8-reads
+use Rattle.put_bytes.proofs.put8.Reads as put8-reads
 use Rattle.numbers.proofs.+put_last.{statement}
 use Rattle.numbers.proofs.+put_last.Tie.{close}
 

@@ -6,7 +6,7 @@ use borrow.Fn.PlainCycle.{Measures, is, falls, and}
 use Rattle.numbers.proofs.put_number.Reads as put-number
 use Rattle.numbers.proofs.put_number.Kinds as put-number-kinds
 use Rattle.numbers.proofs.+put_number.Lts-put_number as put-number-lts
-use Rattle.puts.proofs.put8.Reads as put8-reads
+use Rattle.put_bytes.proofs.put8.Reads as put8-reads
 use Rattle.numbers.proofs.+put_number.{statement}
 use Rattle.numbers.proofs.+put_number.Tie.{close}
 

@@ -1,5 +1,5 @@
 use Rattle.numbers.proofs.Written.{put-whole, put-pointed}
-use Rattle.puts.proofs.Laws.{put-as}
+use Rattle.put_bytes.proofs.Putting.{put-as}
 use Rattle.rules.specs.Numbers.{digits}
 use mathlib.Core.Path.{ap}
 use borrow.Author.Needs.{needs}

@@ -1,5 +1,5 @@
 -- `shapes::put_place` meets its contract. Assumes nothing.
-use Rattle.puts.proofs.Laws.{put-then}
+use Rattle.put_bytes.proofs.Putting.{put-then}
 use borrow.Author.Needs.{needs}
 use Rattle.shapes.proofs.put_place.Statement.{statement}
 use Rattle.shapes.proofs.put_place.Tie as tie

@@ -1,4 +1,4 @@
-use Rattle.texts.proofs.Turns.{Before, begin, stops, turn, ends}
+use Rattle.texts.proofs.LeadingLoop.{Before, begin, stops, turn, ends}
 use Rattle.rules.specs.Bytes.{textByte}
 use lib.ListN.{length}
 use borrow.Author.Tests.{not-true, not-false}

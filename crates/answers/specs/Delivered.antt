@@ -1,0 +1,25 @@
+-- What a call answers, with the bytes of the output, and what a line that is to be written is answered by. Assumes nothing.
+use Prim.Native.Nat.{ℕ, _-_}
+use mathlib.Core.Bool.{cond}
+use mathlib.Core.List.{List, _++_}
+use lib.Dec.{ltb}
+use lib.ListN.{length, take, replicate}
+use Rattle.rules.specs.Limits.{maxLine}
+use Rattle.rules.specs.Answers as rules
+use Rattle.rules.specs.Answers.{refuses, gives}
+use Rattle.answers.specs.declared.Answer.{Answer}
+
+-- the answer of the paper, with the bytes of the output
+abbrev pub answered : Answer → List ℕ → rules.Answer
+answered r out = record { number = r .number; place = r .place; size = r .len; out = out }
+
+abbrev pub refusedOf : ℕ → ℕ → Answer
+refusedOf number place = record { number = number; place = place; len = 0 }
+
+-- zeros from a place on
+abbrev pub cleared : List ℕ → ℕ → List ℕ
+cleared d from = take from d ++ replicate (length d - from) 0
+
+-- a line that is a table's: 1, 8, or done
+unfoldable pub lineOver : List ℕ → ℕ → rules.Answer
+lineOver line room = cond (ltb maxLine (length line)) (refuses room 1 maxLine) (cond (ltb room (length line)) (refuses room 8 (length line)) (gives room line))

@@ -1,4 +1,0 @@
-pub mod Turns
-pub mod Pieces
-pub mod Chains
-pub mod Laws

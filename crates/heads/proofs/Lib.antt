@@ -1,3 +1,0 @@
-pub mod Steps
-pub mod Laws
-pub mod One

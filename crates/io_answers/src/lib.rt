@@ -1,0 +1,71 @@
+// What a reading answers, as a line of text: its number, place and length, and the table in hexadecimal digits, `-` where there is none.
+ghost use Prim.Native.Nat.{_/_, _%_};
+ghost use mathlib.Core.Path.{_≡_};
+ghost use Rattle.lang.specs.Parts.{flat};
+ghost use Rattle.put_bytes.specs.Puts.{Put};
+ghost use Rattle.io_answers.specs.Tells.{hexDigit, hexByte, field, shown, told};
+use answers::Answer;
+use io_parts::stretch;
+use numbers::put_number;
+use put_bytes::put8;
+
+// The digit of a byte's low half.
+fn low_digit(b: u8) -> u8
+    ensures { λ r. ⌜ r ≡ hexDigit (b % 16) ⌝ }
+{
+    let d = b % 16;
+    if d < 10 {
+        return 48 + d;
+    }
+    87 + d
+}
+
+// Two digits, the high one first.
+fn put_byte(out: &mut [u8], at: usize, b: u8) -> usize
+    ensures { λ r. ⌜ Put (now (out .entry)) at (hexByte b) (now (out .exit)) r ⌝ }
+{
+    let p = put8(out, at, low_digit(b / 16));
+    put8(out, p, low_digit(b))
+}
+
+// Two digits for each byte.
+pub fn put_hex(out: &mut [u8], at: usize, s: &[u8]) -> usize
+    ensures { λ r. ⌜ Put (now (out .entry)) at (flat hexByte (now (s .entry))) (now (out .exit)) r ⌝ }
+{
+    let mut to = at;
+    let mut taken: usize = 0;
+    while taken < s.len() {
+        to = put_byte(out, to, s[taken]);
+        taken += 1;
+    }
+    to
+}
+
+// The bytes of a table in digits, or that there are none.
+fn put_shown(out: &mut [u8], at: usize, s: &[u8]) -> usize
+    ensures { λ r. ⌜ Put (now (out .entry)) at (shown (now (s .entry))) (now (out .exit)) r ⌝ }
+{
+    if s.len() < 1 {
+        return put8(out, at, b'-');
+    }
+    put_hex(out, at, s)
+}
+
+// A number and a space.
+pub fn put_field(out: &mut [u8], at: usize, n: u64) -> usize
+    ensures { λ r. ⌜ Put (now (out .entry)) at (field n) (now (out .exit)) r ⌝ }
+{
+    let p = put_number(out, at, n);
+    put8(out, p, b' ')
+}
+
+// The answer to a line, and the table that it speaks of; it ends with a line feed.
+pub fn put_answer(out: &mut [u8], at: usize, a: Answer, table: &[u8]) -> usize
+    ensures { λ r. ⌜ Put (now (out .entry)) at (told a (now (table .entry))) (now (out .exit)) r ⌝ }
+{
+    let p = put_field(out, at, a.number as u64);
+    let q = put_field(out, p, a.place as u64);
+    let r = put_field(out, q, a.len as u64);
+    let t = put_shown(out, r, stretch(table, 0, a.len));
+    put8(out, t, b'\n')
+}

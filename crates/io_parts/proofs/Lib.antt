@@ -1,0 +1,4 @@
+pub mod ToLineFeed
+pub mod Parts
+pub mod Moves
+pub mod One

@@ -1,8 +1,0 @@
-pub mod Found
-pub mod Words
-pub mod Bounds
-pub mod Ends
-pub mod Told
-pub mod Positions
-pub mod Others
-pub mod Laws

@@ -1,0 +1,97 @@
+-- The loops over the annotations of a line: what is left to do makes the whole. Assumes nothing.
+use Prim.Native.Nat.{ℕ, _+_, _-_, _<_, _≤_, min}
+use mathlib.Core.Path.{_≡_, refl, sym, ap, _∙_}
+use mathlib.Core.Bool.{Bool, true, false}
+use mathlib.Core.List.{List}
+use native.Mathlib.Omega.{arith}
+use borrow.Author.Tests.{ne-eqb}
+use lib.Dec.{leb}
+use lib.ListN.{length, drop}
+use Rattle.rules.specs.Bytes.{bytes}
+use Rattle.rules.specs.Texts.{startsWith}
+use Rattle.rules.specs.House.{one}
+use Rattle.put_bytes.specs.Puts.{maxPlace}
+use Rattle.numbers.specs.Shares.{largest}
+use Rattle.faults.specs.declared.Fault.{Fault}
+use Rattle.faults.specs.Faults.{fault}
+use Rattle.read_annotation.specs.declared.Parts.{Parts}
+use Rattle.read_annotation.specs.declared.Measured.{Measured}
+use Rattle.read_annotation.specs.Groups.{plus}
+use Rattle.read_annotation.specs.Measured.{partsOf, measuredOf}
+use Rattle.measure_line.specs.declared.Totals.{Totals}
+use Rattle.measure_line.specs.Totals.{nothing, noted, summed, goesOn, behindComma, addedBy, addOf, addNext, totalsFrom, totalsBy}
+use Rattle.measure_line.proofs.Loops.{loop-on, loop-ends}
+use Rattle.measure_line.proofs.Steps.{add-falls}
+
+-- the first annotation, of which m was measured: a sum with nothing is the number itself, where it is one that fits
+pub first-added : (line : List ℕ) (p : Parts) {m : Measured} {breach excess : Fault} {at : ℕ} → m ≡ measuredOf line p
+    → m .losses ≤ maxPlace → m .isotopes ≤ maxPlace → m .items ≤ maxPlace → m .units ≤ maxPlace → m .text ≤ maxPlace → m .share ≤ largest
+    → breach ≡ noted (fault 0 0) 6 0 (m .kept) → excess ≡ noted (fault 0 0) 7 0 (leb (m .share) one) → at ≡ min (0 + m .len) (length line)
+    → record {
+      annotations = 1;
+      losses = m .losses;
+      isotopes = m .isotopes;
+      items = m .items;
+      units = m .units;
+      text = m .text;
+      sum = m .share;
+      limit = m .fault;
+      breach = breach;
+      excess = excess;
+      at = at;
+    }
+    ≡ addedBy line nothing 0 p
+first-added line p {m} pm hl hi ht hu hx hs pb pe pa =
+    let z : length line - length line ≡ 0 = omega arith in
+    let l : plus 0 (m .losses) ≡ m .losses = omega arith in
+    let i : plus 0 (m .isotopes) ≡ m .isotopes = omega arith in
+    let t : plus 0 (m .items) ≡ m .items = omega arith in
+    let u : plus 0 (m .units) ≡ m .units = omega arith in
+    let x : plus 0 (m .text) ≡ m .text = omega arith in
+    let s : summed 0 (m .share) ≡ m .share = omega arith in
+    rw (pb, pe, pa, ← pm, z, l, i, t, u, x, s)
+
+-- one annotation more, behind a comma
+pub next-added : (line : List ℕ) (t : Totals) {u : Totals} {from : ℕ} {r : List ℕ} {p : Parts} → from ≡ behindComma line (t .at) → r ≡ drop from line
+    → p ≡ partsOf (t .annotations) (length line) r (t .limit) → u ≡ addedBy line t from p → u ≡ addNext line t
+unfolding addOf
+next-added line t {from = from} pf pr pp pu =
+    pu ∙ ap (addedBy line t from) (pp ∙ ap (λ (r : List ℕ). partsOf (t .annotations) (length line) r (t .limit)) pr) ∙ ap (addOf line t) pf
+
+-- an empty line
+pub empty-totals : (line : List ℕ) (p : Parts) {n : Totals} → length line < 1 → n ≡ nothing → n ≡ totalsBy line p
+unfolding totalsBy
+empty-totals line p h e = let z : length line ≡ 0 = omega arith in e ∙ rw z
+
+-- from t₀ on: the annotations counted in t, and those that are left
+pub record Counting (line : List ℕ) (t₀ t : Totals) : Type 0 where
+  pub is : totalsFrom line (length line) t ≡ totalsFrom line (length line) t₀
+
+module _ (line : List ℕ) where
+  pub counting-begins : (t : Totals) → Counting line t t
+  counting-begins t = record { is = refl }
+
+  module _ {t₀ t : Totals} {r : List ℕ} (c : Counting line t₀ t) (pr : r ≡ drop (t .at) line) where
+    goes : {b : Bool} → startsWith (bytes ",") r ≡ b → goesOn line (t .at) ≡ b
+    goes e = ap (startsWith (bytes ",")) (sym pr) ∙ e
+
+    -- the first annotation began at 0
+    pub counting-ends : (p : Parts) → 1 ≤ length line → t₀ ≡ addedBy line nothing 0 p → startsWith (bytes ",") r ≡ false → t ≡ totalsBy line p
+    unfolding totalsBy
+    counting-ends p h e₀ e =
+        let z : (length line ≡ 0 → ⊥) = λ q. omega arith in
+        sym (loop-ends (λ (t : Totals). goesOn line (t .at)) (addNext line) (length line) t (goes e)) ∙ c .is
+        ∙ ap (totalsFrom line (length line)) e₀ ∙ rw (ne-eqb (length line) 0 z)
+
+    module _ {u : Totals} (e : startsWith (bytes ",") r ≡ true) (pu : u ≡ addNext line t) where
+      pub counting-turns : Counting line t₀ u
+      counting-turns =
+          record {
+            is =
+                ap (totalsFrom line (length line)) pu
+                ∙ sym (loop-on (λ (t : Totals). goesOn line (t .at)) (addNext line) (λ (t : Totals). length line - t .at) (add-falls line) (length line) t (omega arith) (goes e))
+                ∙ c .is;
+          }
+
+      pub counting-falls : length line - u .at < length line - t .at
+      counting-falls = let f = add-falls line t (goes e) in omega (arith, ap (λ (v : Totals). v .at) pu)

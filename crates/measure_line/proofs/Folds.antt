@@ -1,0 +1,103 @@
+-- The first annotation that breaks a rule, and the first that takes the sum of confidences past 1, found one annotation after the other.
+-- Assumes nothing.
+use Prim.Native.Nat.{ℕ, _+_, _<_, _≤_, min}
+use mathlib.Core.Path.{_≡_, refl, ap, ap₂, _∙_}
+use mathlib.Core.Bool.{Bool, true, false, not}
+use mathlib.Core.List.{[], _∷_}
+use native.Mathlib.Omega.{arith}
+use lib.Dec.{leb}
+use lib.ListN.{length}
+use borrow.Author.Tests.{leb-true, leb-false, lt-leb}
+use Rattle.lang.specs.Parts.{Opt, silent, written}
+use Rattle.rules.specs.Formulas.{Written}
+use Rattle.rules.specs.Annotations.{Annotation, annotationText}
+use Rattle.rules.specs.Lines.{Spelling}
+use Rattle.rules.specs.House.{annotationRules, confidenceOf, one, firstBreach, firstExcess}
+use Rattle.numbers.specs.Shares.{largest}
+use Rattle.faults.specs.declared.Fault.{Fault}
+use Rattle.faults.specs.Faults.{fault}
+use Rattle.faults.proofs.Marks.{join-known, join-kept, join-broken}
+use Rattle.measure_line.specs.Totals.{noted, summed}
+
+-- where the next annotation begins
+abbrev pub behind : ℕ → Annotation Written → ℕ
+behind at a = at + length (annotationText a) + 1
+
+abbrev pub foldBreach : Fault → ℕ → Spelling → Fault
+foldBreach f at [] = f
+foldBreach f at (a ∷ more) = foldBreach (noted f 6 at (annotationRules a)) (behind at a) more
+
+-- a confidence as it is told
+abbrev pub shareIn : Annotation Written → ℕ
+shareIn a = min (confidenceOf (a .confidence)) largest
+
+abbrev pub foldExcess : Fault → ℕ → ℕ → Spelling → Fault
+foldExcess f sum at [] = f
+foldExcess f sum at (a ∷ more) =
+    foldExcess (noted f 7 at (leb (summed sum (shareIn a)) one)) (summed sum (shareIn a)) (behind at a) more
+
+-- ---- what was found stays
+
+kept-known : (f : Fault) (number place : ℕ) (kept : Bool) → (f .number ≡ 0 → ⊥) → noted f number place kept ≡ f
+kept-known f number place kept h = join-known f (record { place = place; number = number; broken = not kept }) h
+
+breach-known : (f : Fault) (at : ℕ) (s : Spelling) → (f .number ≡ 0 → ⊥) → foldBreach f at s ≡ f
+breach-known f at [] h = refl
+breach-known f at (a ∷ more) h =
+    ap (λ (g : Fault). foldBreach g (behind at a) more) (kept-known f 6 at (annotationRules a) h) ∙ breach-known f (behind at a) more h
+
+excess-known : (f : Fault) (sum at : ℕ) (s : Spelling) → (f .number ≡ 0 → ⊥) → foldExcess f sum at s ≡ f
+excess-known f sum at [] h = refl
+excess-known f sum at (a ∷ more) h =
+    let next = summed sum (shareIn a) in
+    ap (λ (g : Fault). foldExcess g next (behind at a) more) (kept-known f 7 at (leb next one) h) ∙ excess-known f next (behind at a) more h
+
+-- ---- what is found is what the rules report
+
+-- none, or a number with its place
+abbrev pub told : ℕ → Opt ℕ → Fault
+told number silent = fault 0 0
+told number (written place) = fault number place
+
+note-kept : (number place : ℕ) → noted (fault 0 0) number place true ≡ fault 0 0
+note-kept number place = join-kept (fault 0 0) (record { place = place; number = number; broken = false }) refl
+
+note-broken : (number place : ℕ) → noted (fault 0 0) number place false ≡ fault number place
+note-broken number place = join-broken (fault 0 0) (record { place = place; number = number; broken = true }) refl refl
+
+pub breach-told : (at : ℕ) (s : Spelling) → foldBreach (fault 0 0) at s ≡ told 6 (firstBreach at s)
+breach-told at [] = refl
+breach-told at (a ∷ more) = by (breach-told (behind at a) more) (annotationRules a)
+  where
+    by : foldBreach (fault 0 0) (behind at a) more ≡ told 6 (firstBreach (behind at a) more) → (t : Bool)
+        → foldBreach (noted (fault 0 0) 6 at t) (behind at a) more ≡ told 6 (elim t [ true ↦ firstBreach (behind at a) more | false ↦ written at ])
+    by ih true = ap (λ (g : Fault). foldBreach g (behind at a) more) (note-kept 6 at) ∙ ih
+    by ih false =
+        ap (λ (g : Fault). foldBreach g (behind at a) more) (note-broken 6 at)
+        ∙ breach-known (fault 6 at) (behind at a) more (λ e. omega arith)
+
+-- a sum that is not past 1 was told as it is
+sum-within : (sum c : ℕ) → sum + c ≤ one → summed sum (min c largest) ≡ sum + c
+sum-within sum c h = omega arith
+
+sum-past : (sum c : ℕ) → one < sum + c → one < summed sum (min c largest)
+sum-past sum c h = omega arith
+
+pub excess-told : (sum at : ℕ) (s : Spelling) → foldExcess (fault 0 0) sum at s ≡ told 7 (firstExcess sum at s)
+excess-told sum at [] = refl
+excess-told sum at (a ∷ more) =
+    let c = confidenceOf (a .confidence) in
+    by c (summed sum (shareIn a)) (excess-told (sum + c) (behind at a) more) (leb (sum + c) one) refl (sum-within sum c) (sum-past sum c)
+  where
+    by : (c next : ℕ) → foldExcess (fault 0 0) (sum + c) (behind at a) more ≡ told 7 (firstExcess (sum + c) (behind at a) more)
+        → (t : Bool) → leb (sum + c) one ≡ t → (sum + c ≤ one → next ≡ sum + c) → (one < sum + c → one < next)
+        → foldExcess (noted (fault 0 0) 7 at (leb next one)) next (behind at a) more
+        ≡ told 7 (elim t [ true ↦ firstExcess (sum + c) (behind at a) more | false ↦ written at ])
+    by c next ih true e within past =
+        let w = within (leb-true (sum + c) one e) in
+        ap₂ (λ (x : Fault) (y : ℕ). foldExcess x y (behind at a) more)
+        (ap (noted (fault 0 0) 7 at) (ap (λ (n : ℕ). leb n one) w ∙ e) ∙ note-kept 7 at) w ∙ ih
+    by c next ih false e within past =
+        let w = past (leb-false (sum + c) one e) in
+        ap (λ (x : Fault). foldExcess x next (behind at a) more) (ap (noted (fault 0 0) 7 at) (lt-leb next one w) ∙ note-broken 7 at)
+        ∙ excess-known (fault 7 at) next (behind at a) more (λ e. omega arith)

@@ -1,0 +1,10 @@
+pub mod Loops
+pub mod Firsts
+pub mod Steps
+pub mod AnnotationLoops
+pub mod Walking
+pub mod Folds
+pub mod Through
+pub mod EachGives
+pub mod RespelledLine
+pub mod Numbered

@@ -1,0 +1,104 @@
+-- The changes of an ion's text. Assumes nothing.
+use Prim.Native.Nat.{ℕ, zero, suc, _<_, _≤_}
+use mathlib.Core.Path.{_≡_, refl, sym, ap, ap₂, _∙_}
+use mathlib.Core.Bool.{false}
+use mathlib.Core.List.{List, [], _∷_, _++_, map}
+use native.Mathlib.Omega.{arith}
+use native.Mathlib.Decide.{decLe}
+use lib.Dec.{eqb}
+use lib.ListN.{length, getD, take, drop, List·getD-eq-default}
+use borrow.Author.Tests.{eq-eqb, ne-eqb}
+use Rattle.rules.specs.Bytes.{bytes}
+use Rattle.rules.specs.Numbers.{digits}
+use Rattle.rules.specs.Texts.{inBraces, inBrackets}
+use Rattle.rules.specs.Ions.{seriesNames}
+use Rattle.slices.specs.Numbers.{u16At}
+use Rattle.print_ion.specs.Texts.{seriesPrinted, bracesPrinted, bracketsPrinted, ionBytes}
+use Rattle.print_ion.specs.Ions.{labelPrinted, kindPrinted, ionPrinted}
+use Rattle.print_ion.specs.Fronts.{flagPrinted, analytePrinted}
+
+-- ---- series
+
+pub series-is : {n : ℕ} (k : ℕ) → n ≡ k → seriesPrinted k ≡ seriesPrinted n
+series-is k e = ap seriesPrinted (sym e)
+
+pub series-none : (n : ℕ) → (1 ≤ n → n ≤ 13 → ⊥) → [] ≡ seriesPrinted n
+unfolding seriesPrinted
+series-none zero h = refl
+series-none (suc n) h = by (decLe (suc n) 13)
+  where
+    by : Dec (suc n ≤ 13) → [] ≡ getD ([] ∷ map bytes seriesNames) (suc n) []
+    by (yes g) = absurd (h (omega arith) g)
+    by (no g) = sym (List·getD-eq-default ([] ∷ map bytes seriesNames) [] {n = suc n} (omega arith))
+
+-- ---- texts and names
+
+pub braces-none : (w : List ℕ) → length w < 1 → [] ≡ bracesPrinted w
+braces-none [] h = refl
+braces-none (b ∷ w) h = absurd (omega arith)
+
+pub braces-some : (w : List ℕ) → 1 ≤ length w → inBraces w ≡ bracesPrinted w
+braces-some [] h = absurd (omega arith)
+braces-some (b ∷ w) h = refl
+
+pub brackets-none : (w : List ℕ) → length w < 1 → [] ≡ bracketsPrinted w
+brackets-none [] h = refl
+brackets-none (b ∷ w) h = absurd (omega arith)
+
+pub brackets-some : (w : List ℕ) → 1 ≤ length w → inBrackets w ≡ bracketsPrinted w
+brackets-some [] h = absurd (omega arith)
+brackets-some (b ∷ w) h = refl
+
+-- ---- labels, flags, analytes
+
+module _ (s : List ℕ) {n : ℕ} where
+  pub label-none : n ≡ u16At (drop 6 s) → n ≡ 0 → bytes "?" ≡ labelPrinted s
+  unfolding labelPrinted
+  label-none e z = rw (← e, eq-eqb n 0 z)
+
+  pub label-some : n ≡ u16At (drop 6 s) → (n ≡ 0 → ⊥) → bytes "?" ++ digits n ≡ labelPrinted s
+  unfolding labelPrinted
+  label-some e z = rw (← e, ne-eqb n 0 z)
+
+  pub flag-none : n ≡ getD s 1 0 → n ≡ 0 → [] ≡ flagPrinted s
+  unfolding flagPrinted
+  flag-none e z = rw (← e, eq-eqb n 0 z)
+
+  pub flag-some : n ≡ getD s 1 0 → (n ≡ 0 → ⊥) → bytes "&" ≡ flagPrinted s
+  unfolding flagPrinted
+  flag-some e z = rw (← e, ne-eqb n 0 z)
+
+  pub analyte-none : n ≡ getD s 2 0 → n ≡ 0 → [] ≡ analytePrinted s
+  unfolding analytePrinted
+  analyte-none e z = rw (← e, eq-eqb n 0 z)
+
+  pub analyte-some : n ≡ getD s 2 0 → (n ≡ 0 → ⊥) → {m : ℕ} → m ≡ u16At (drop 4 s) → digits m ++ bytes "@" ≡ analytePrinted s
+  unfolding analytePrinted
+  analyte-some e z q = rw (← e, ne-eqb n 0 z, ← q)
+
+-- ---- ions, by the kind k, with the text w
+
+other : (k n : ℕ) → (1 ≤ k → k ≤ 9 → ⊥) → 1 ≤ n → n ≤ 9 → eqb k n ≡ false
+other k n h a b = ne-eqb k n (λ e. h (omega arith) (omega arith))
+
+no-kind : (s u w : List ℕ) (k : ℕ) → (1 ≤ k → k ≤ 9 → ⊥) → [] ≡ kindPrinted k s u w
+unfolding kindPrinted
+no-kind s u w k h =
+    rw (
+      other k 1 h (omega arith) (omega arith),
+      other k 2 h (omega arith) (omega arith),
+      other k 3 h (omega arith) (omega arith),
+      other k 4 h (omega arith) (omega arith),
+      other k 5 h (omega arith) (omega arith),
+      other k 6 h (omega arith) (omega arith),
+      other k 7 h (omega arith) (omega arith),
+      other k 8 h (omega arith) (omega arith),
+      other k 9 h (omega arith) (omega arith),
+    )
+
+module _ (s u t : List ℕ) {k : ℕ} {w : List ℕ} (is : k ≡ getD s 0 0) (text : w ≡ take (ionBytes s) t) where
+  pub kind-is : (n : ℕ) → k ≡ n → kindPrinted n s u w ≡ ionPrinted s u t
+  kind-is n e = ap₂ (λ (j : ℕ) (v : List ℕ). kindPrinted j s u v) (sym e ∙ is) text
+
+  pub kind-none : (1 ≤ k → k ≤ 9 → ⊥) → [] ≡ ionPrinted s u t
+  kind-none h = no-kind s u w k h ∙ kind-is k refl

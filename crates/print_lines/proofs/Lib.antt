@@ -1,8 +1,0 @@
-pub mod Cursors
-pub mod Steps
-pub mod Parts
-pub mod Sections
-pub mod Laws
-pub mod Lengths
-pub mod Short
-pub mod One

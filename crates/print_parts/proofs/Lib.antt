@@ -1,0 +1,9 @@
+pub mod Tests
+pub mod PrintLoop
+pub mod Rows
+pub mod Stored
+pub mod Isotopes
+pub mod Tails
+pub mod Sound
+pub mod PrintedParts
+pub mod One

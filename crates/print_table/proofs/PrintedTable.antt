@@ -1,0 +1,62 @@
+-- A stored table is printed in preferred spelling. Assumes nothing.
+use Prim.Native.Nat.{ℕ, suc, min}
+use mathlib.Core.Path.{_≡_, refl, sym, ap, ap₂, _∙_}
+use mathlib.Core.List.{List, [], _∷_, _++_, map}
+use native.Mathlib.Omega.{arith}
+use lib.ListN.{length}
+use Rattle.lang.specs.Parts.{flat}
+use Rattle.lang.specs.Mark.{In, here, later}
+use Rattle.rules.specs.Numbers.{Number}
+use Rattle.rules.specs.Annotations.{Annotation, annotationMap, annotationText}
+use Rattle.rules.specs.Lines.{nextText}
+use Rattle.rules.specs.Fields.{Table}
+use Rattle.rules.specs.Preferred.{shortened, preferred}
+use Rattle.rules.specs.Answers.{Sound}
+use Rattle.rules.specs.Stored.{stored}
+use Rattle.rules.proofs.Bounds.{Bounded, table-few, table-bounded}
+use Rattle.rules.proofs.FitAnnotations.{InRange, table-in-range}
+use Rattle.store_sections.specs.declared.Counts.{Counts}
+use Rattle.store_sections.specs.Headers.{startsOf}
+use Rattle.print_table.specs.Parts.{StoredParts, storedPartsAt}
+use Rattle.print_table.specs.Annotations.{annotationPrinted, partsBehind}
+use Rattle.print_table.specs.Tables.{commaPrinted, annotationsPrinted, printedTable}
+use Rattle.print_table.proofs.Steps.{comma-next}
+use Rattle.print_table.proofs.Parts.{annotation-laid, behind-laid}
+use Rattle.print_table.proofs.Sections.{sectioned, others, parts-stored, first-laid, counts-stored}
+
+-- each annotation is within the limits
+abbrev Within : Table → Type 0
+Within t = (a : Annotation Number) → In a t → Bounded a × InRange a
+
+-- the first annotation of a row, and those partsBehind it
+module _ (a : Annotation Number) (t : Table) (q : StoredParts) (h : Bounded a × InRange a) where
+  first-text : annotationPrinted (sectioned (a ∷ t) q) ≡ annotationText (annotationMap shortened a)
+  first-text = ap annotationPrinted (first-laid a t q) ∙ annotation-laid a (sectioned t q) (h .0) (h .1)
+
+  first-behind : partsBehind (sectioned (a ∷ t) q) ≡ sectioned t q
+  first-behind = ap partsBehind (first-laid a t q) ∙ behind-laid a (sectioned t q) (h .0) (h .1)
+
+-- partsBehind the first annotation of a line
+next-printed : (i : ℕ) (t : Table) (q : StoredParts) → Within t → annotationsPrinted (suc i) (length t) (sectioned t q) ≡ flat nextText (map (annotationMap shortened) t)
+unfolding annotationsPrinted
+next-printed i [] q h = refl
+next-printed i (a ∷ t) q h =
+    ap₂ (λ (v w : List ℕ). v ++ w) (sym (comma-next (suc i) (λ z. omega arith)))
+    (ap₂ (λ (v w : List ℕ). v ++ w) (first-text a t q (h a here))
+    (ap (annotationsPrinted (suc (suc i)) (length t)) (first-behind a t q (h a here)) ∙ next-printed (suc i) t q (λ b j. h b (later j))))
+
+line-printed : (t : Table) (q : StoredParts) → Within t → annotationsPrinted 0 (length t) (sectioned t q) ≡ preferred t
+unfolding annotationsPrinted commaPrinted
+line-printed [] q h = refl
+line-printed (a ∷ t) q h =
+    ap₂ (λ (v w : List ℕ). v ++ w) (first-text a t q (h a here))
+    (ap (annotationsPrinted 1 (length t)) (first-behind a t q (h a here)) ∙ next-printed 0 t q (λ b j. h b (later j)))
+
+pub table-printed : (t : Table) → Sound t → printedTable (stored t) ≡ preferred t
+unfolding printedTable
+table-printed t s =
+    let counts = counts-stored t s in
+    let few : min (length t) 16 ≡ length t = omega (arith, table-few t s) in
+    ap₂ (annotationsPrinted 0) (ap (λ (n : Counts). min (n .annotations) 16) counts ∙ few)
+    (ap (λ (n : Counts). storedPartsAt (stored t) (startsOf n)) counts ∙ parts-stored t s)
+    ∙ line-printed t (others t) (λ a i. (table-bounded t s a i, table-in-range t s a i))

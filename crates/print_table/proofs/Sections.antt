@@ -1,0 +1,95 @@
+-- The sections of a stored table are where its header says. Assumes nothing.
+use Prim.Native.Nat.{ℕ}
+use mathlib.Core.Path.{_≡_, refl, sym, ap, ap₂, _∙_}
+use mathlib.Core.List.{List, [], _∷_, _++_, append-assoc, map}
+use native.Mathlib.Omega.{arith}
+use lib.ListN.{length, getD, drop, length-append}
+use lib.Seq.{drop-append-seam}
+use Rattle.rules.specs.Numbers.{Number}
+use Rattle.rules.specs.Annotations.{Annotation}
+use Rattle.rules.specs.Fields.{Table}
+use Rattle.rules.specs.Answers.{Sound}
+use Rattle.rules.specs.Stored.{Field, stores, lossRecord, isotopeRecords, itemRecord, unitRecord, annotationRecord, annotationUnits, annotationTexts, section, header, stored}
+use Rattle.rules.proofs.Lengths.{lossesOf, isotopesOf, itemsOf, unitsOf, textsOf, stored-length}
+use Rattle.rules.proofs.Sizes.{sizes-fit}
+use Rattle.store_sections.specs.Pages.{joined, begins}
+use Rattle.store_sections.specs.Headers.{startsOf, countsOf}
+use Rattle.store_sections.specs.Fills.{bytesIn}
+use Rattle.store_sections.proofs.Tables.{starts-laid}
+use Rattle.slices.proofs.StoredNumbers.{word-stored}
+use Rattle.print_table.specs.Parts.{StoredParts, storedPartsAt, countsAt}
+use Rattle.print_table.proofs.Parts.{rows-apart, laid}
+
+-- ---- lists one behind the other
+
+-- each with those behind it
+abbrev tails : List (List ℕ) → List (List ℕ)
+tails [] = []
+tails (l ∷ ls) = joined (l ∷ ls) ∷ tails ls
+
+from-begins : (w : List ℕ) (ls : List (List ℕ)) → map (λ p. drop p (w ++ joined ls)) (begins (length w) ls) ≡ tails ls
+from-begins w [] = refl
+from-begins w (l ∷ ls) =
+    ap₂ (λ (x : List ℕ) (y : List (List ℕ)). x ∷ y) (drop-append-seam w (l ++ joined ls))
+    (ap₂ (λ (n : ℕ) (v : List ℕ). map (λ p. drop p v) (begins n ls)) (sym (length-append w l)) (sym (append-assoc w l (joined ls))) ∙ from-begins (w ++ l) ls)
+
+-- ---- the parts of a table
+
+abbrev partsFrom : List (List ℕ) → StoredParts
+partsFrom ls =
+    record {
+      notes = getD ls 0 [];
+      losses = getD ls 1 [];
+      isotopes = getD ls 2 [];
+      items = getD ls 3 [];
+      units = getD ls 4 [];
+      text = getD ls 5 [];
+    }
+
+-- each section before what is left behind it
+abbrev pub sectioned : Table → StoredParts → StoredParts
+sectioned t q =
+    record {
+      notes = section annotationRecord t .bytes ++ q .notes;
+      losses = section lossRecord (lossesOf t) .bytes ++ q .losses;
+      isotopes = section (λ x. x) (isotopesOf t) .bytes ++ q .isotopes;
+      items = section itemRecord (itemsOf t) .bytes ++ q .items;
+      units = section unitRecord (unitsOf t) .bytes ++ q .units;
+      text = textsOf t ++ q .text;
+    }
+
+-- behind the last annotation: the sections behind each section
+abbrev pub others : Table → StoredParts
+others t =
+    let ls = tails (bytesIn t) in
+    record { notes = getD ls 1 []; losses = getD ls 2 []; isotopes = getD ls 3 []; items = getD ls 4 []; units = getD ls 5 []; text = [] }
+
+pub parts-stored : (t : Table) → Sound t → storedPartsAt (stored t) (startsOf (countsOf t)) ≡ sectioned t (others t)
+parts-stored t s =
+    let l = starts-laid t (omega (arith, sizes-fit t s)) in
+    ap partsFrom (ap (map (λ p. drop p (stored t))) (l .starts) ∙ from-begins (stores (header t)) (bytesIn t))
+
+-- the first annotation before the others
+pub first-laid : (a : Annotation Number) (t : Table) (q : StoredParts) → sectioned (a ∷ t) q ≡ laid a (sectioned t q)
+first-laid a t q =
+    let notes = append-assoc (stores (annotationRecord a)) (section annotationRecord t .bytes) (q .notes) in
+    let losses = rows-apart (λ l. stores (lossRecord l)) (a .losses) (lossesOf t) (q .losses) in
+    let isotopes = rows-apart (λ (fs : List Field). stores fs) (isotopeRecords (a .isotopes)) (isotopesOf t) (q .isotopes) in
+    let items = rows-apart (λ x. stores (itemRecord x)) (a .adduct) (itemsOf t) (q .items) in
+    let units = rows-apart (λ u. stores (unitRecord u)) (annotationUnits a) (unitsOf t) (q .units) in
+    let text = append-assoc (annotationTexts a) (textsOf t) (q .text) in
+    λ i. record { notes = notes i; losses = losses i; isotopes = isotopes i; items = items i; units = units i; text = text i }
+
+-- ---- the header
+
+pub counts-stored : (t : Table) → Sound t → countsAt (stored t) ≡ countsOf t
+counts-stored t s =
+    let size = sizes-fit t s in
+    let is = stored-length t in
+    let annotations = word-stored (length t) (drop 6 (stored t)) (omega arith) in
+    let losses = word-stored (length (lossesOf t)) (drop 10 (stored t)) (omega arith) in
+    let isotopes = word-stored (length (isotopesOf t)) (drop 14 (stored t)) (omega arith) in
+    let items = word-stored (length (itemsOf t)) (drop 18 (stored t)) (omega arith) in
+    let units = word-stored (length (unitsOf t)) (drop 22 (stored t)) (omega arith) in
+    let text = word-stored (length (textsOf t)) (drop 26 (stored t)) (omega arith) in
+    λ i. record { annotations = annotations i; losses = losses i; isotopes = isotopes i; items = items i; units = units i; text = text i }

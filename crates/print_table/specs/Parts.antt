@@ -1,0 +1,39 @@
+-- The parts of a stored table that stand at six cursors. Assumes nothing.
+use Prim.Native.Nat.{ℕ}
+use mathlib.Core.List.{List}
+use lib.ListN.{drop}
+use Rattle.slices.specs.Numbers.{u16At}
+use Rattle.store_sections.specs.declared.Cursors.{Cursors}
+use Rattle.store_sections.specs.declared.Counts.{Counts}
+
+-- what is left of the table from each cursor on
+pub record StoredParts : Type 0 where
+  pub notes : List ℕ
+  pub losses : List ℕ
+  pub isotopes : List ℕ
+  pub items : List ℕ
+  pub units : List ℕ
+  pub text : List ℕ
+
+abbrev pub storedPartsAt : List ℕ → Cursors → StoredParts
+storedPartsAt table c =
+    record {
+      notes = drop (c .annotations) table;
+      losses = drop (c .losses) table;
+      isotopes = drop (c .isotopes) table;
+      items = drop (c .items) table;
+      units = drop (c .units) table;
+      text = drop (c .text) table;
+    }
+
+-- how many there are in each section, as the header tells
+abbrev pub countsAt : List ℕ → Counts
+countsAt table =
+    record {
+      annotations = u16At (drop 4 table);
+      losses = u16At (drop 8 table);
+      isotopes = u16At (drop 12 table);
+      items = u16At (drop 16 table);
+      units = u16At (drop 20 table);
+      text = u16At (drop 24 table);
+    }

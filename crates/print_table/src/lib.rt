@@ -1,0 +1,146 @@
+// The line of a stored table, in preferred spelling: one annotation after the other, each from the six sections at their cursors. The
+// bytes are printed as they stand: whether they are a table is told by reading what was printed.
+ghost use mathlib.Core.Path.{_≡_};
+ghost use Rattle.put_bytes.specs.Puts.{Put};
+ghost use Rattle.print_table.specs.Parts.{countsAt};
+ghost use Rattle.print_table.specs.Annotations.{rowOf, PrintsAdduct, PrintsAnnotation};
+ghost use Rattle.print_table.specs.Tables.{commaPrinted, printedTable};
+use print_ion::ion_bytes;
+use print_ion::ion_units;
+use print_ion::print_front;
+use print_parts::PrintedTo;
+use print_parts::at_most;
+use print_parts::print_changes;
+use print_parts::print_isotopes;
+use print_parts::print_tail;
+use put_bytes::put_run;
+use put_bytes::put8;
+use slices::advance;
+use slices::byte_of;
+use slices::rest;
+use slices::u16_at;
+use store_sections::Counts;
+use store_sections::Cursors;
+use store_sections::starts;
+
+// The place behind an annotation in the output, and the cursors behind what it has in the table.
+pub struct Printed {
+    pub to: usize,
+    pub cursors: Cursors,
+}
+
+// How many losses, isotopes or adduct items the record of an annotation tells, in its byte at a place; no more than may be.
+fn row_of(s: &[u8], i: usize, most: usize) -> usize
+    ensures { λ r. ⌜ r ≡ rowOf (now (s .entry)) i most ⌝ }
+{
+    at_most(byte_of(s, i) as u16, most)
+}
+
+// The adduct of n items.
+fn print_adduct(out: &mut [u8], to: usize, x: &[u8], u: &[u8], t: &[u8], n: usize) -> PrintedTo
+    ensures { λ r. ⌜ PrintsAdduct n (now (x .entry)) (now (u .entry)) (now (t .entry)) (now (out .entry)) to (now (out .exit)) r ⌝ }
+{
+    if n == 0 {
+        return PrintedTo {
+            to,
+            units: 0,
+            text: 0,
+        };
+    }
+    let a = put_run(out, to, b"[M");
+    let r = print_changes(out, a, x, u, t, n);
+    let b = put8(out, r.to, b']');
+    PrintedTo {
+        to: b,
+        units: r.units,
+        text: r.text,
+    }
+}
+
+// The annotation whose parts stand at the cursors.
+pub fn print_annotation(out: &mut [u8], to: usize, table: &[u8], c: Cursors) -> Printed
+    ensures { λ r. ⌜ PrintsAnnotation (now (table .entry)) c (now (out .entry)) to (now (out .exit)) r ⌝ }
+{
+    let all = table.len();
+    let s = rest(table, c.annotations);
+    let losses = row_of(s, 32, 8);
+    let isotopes = row_of(s, 33, 4);
+    let items = row_of(s, 34, 4);
+    let a = print_front(out, to, s, rest(table, c.units), rest(table, c.text));
+    let u = advance(c.units, 6 * ion_units(s), all);
+    let t = advance(c.text, ion_bytes(s), all);
+    let l = print_changes(
+        out,
+        a,
+        rest(table, c.losses),
+        rest(table, u),
+        rest(table, t),
+        losses,
+    );
+    let v = advance(u, l.units, all);
+    let w = advance(t, l.text, all);
+    let b = print_isotopes(out, l.to, rest(table, c.isotopes), isotopes);
+    let x = print_adduct(
+        out,
+        b,
+        rest(table, c.items),
+        rest(table, v),
+        rest(table, w),
+        items,
+    );
+    let end = print_tail(out, x.to, s);
+    Printed {
+        to: end,
+        cursors: Cursors {
+            annotations: advance(c.annotations, 36, all),
+            losses: advance(c.losses, 6 * losses, all),
+            isotopes: advance(c.isotopes, 8 * isotopes, all),
+            items: advance(c.items, 6 * items, all),
+            units: advance(v, x.units, all),
+            text: advance(w, x.text, all),
+        },
+    }
+}
+
+// A comma before each annotation but the first.
+fn put_comma(out: &mut [u8], to: usize, i: usize) -> usize
+    ensures { λ r. ⌜ Put (now (out .entry)) to (commaPrinted i) (now (out .exit)) r ⌝ }
+{
+    if i == 0 {
+        return to;
+    }
+    put8(out, to, b',')
+}
+
+// How many there are in each section, as the header tells.
+pub fn counts_at(table: &[u8]) -> Counts
+    ensures { λ r. ⌜ r ≡ countsAt (now (table .entry)) ⌝ }
+{
+    Counts {
+        annotations: u16_at(rest(table, 4)) as usize,
+        losses: u16_at(rest(table, 8)) as usize,
+        isotopes: u16_at(rest(table, 12)) as usize,
+        items: u16_at(rest(table, 16)) as usize,
+        units: u16_at(rest(table, 20)) as usize,
+        text: u16_at(rest(table, 24)) as usize,
+    }
+}
+
+// The line of a table; the place behind it.
+pub fn print_table(out: &mut [u8], to: usize, table: &[u8]) -> usize
+    ensures { λ r. ⌜ Put (now (out .entry)) to (printedTable (now (table .entry))) (now (out .exit)) r ⌝ }
+{
+    let n = at_most(u16_at(rest(table, 4)), 16);
+    let mut c = starts(counts_at(table));
+    let mut at = to;
+    let mut i: usize = 0;
+    while i < n {
+        let begin = put_comma(out, at, i);
+        let p = print_annotation(out, begin, table, c);
+        at = p.to;
+        let next = p.cursors;
+        c = next;
+        i += 1;
+    }
+    at
+}

@@ -1,0 +1,4 @@
+pub mod UnitLoop
+pub mod TextParts
+pub mod Chains
+pub mod PutUnits

@@ -1,0 +1,99 @@
+-- What a part begins with, and the groups of parts, from what the readers of each tell. Assumes nothing.
+use Prim.Native.Nat.{ℕ, _-_, min, _+_}
+use mathlib.Core.Path.{_≡_, refl, sym}
+use mathlib.Core.Bool.{Bool, true, false, _&&_}
+use mathlib.Core.List.{List, [], _∷_}
+use lib.Dec.{eqb}
+use lib.ListN.{length, drop}
+use Rattle.lang.proofs.Tests.{not-t}
+use Rattle.rules.specs.Bytes.{bytes}
+use Rattle.rules.specs.Texts.{startsWith}
+use Rattle.rules.specs.Limits.{maxLosses, maxAnnotations, manyMark}
+use Rattle.put_bytes.specs.Puts.{maxPlace}
+use Rattle.faults.specs.declared.Fault.{Fault}
+use Rattle.faults.specs.Faults.{join}
+use Rattle.read_ion.specs.declared.IonRead.{IonRead}
+use Rattle.read_ion.specs.Ions.{ionOf}
+use Rattle.read_changes.specs.declared.Row.{Row}
+use Rattle.read_changes.specs.Rows.{changesOf}
+use Rattle.read_isotopes.specs.declared.IsotopesRead.{IsotopesRead}
+use Rattle.read_isotopes.specs.Rows.{isotopesOf}
+use Rattle.read_tail.specs.declared.ChargeRead.{ChargeRead}
+use Rattle.read_tail.specs.declared.DecimalPart.{DecimalPart}
+use Rattle.read_tail.specs.Charges.{chargeOf}
+use Rattle.read_tail.specs.Decimals.{deviationOf, confidenceOf}
+use Rattle.read_annotation.specs.declared.PrefixRead.{PrefixRead}
+use Rattle.read_annotation.specs.declared.Front.{Front}
+use Rattle.read_annotation.specs.declared.Middle.{Middle}
+use Rattle.read_annotation.specs.declared.Tail.{Tail}
+use Rattle.read_annotation.specs.declared.Parts.{Parts}
+use Rattle.read_annotation.specs.Parts.{prefixOf, adductOf}
+use Rattle.read_annotation.specs.Groups.{frontOf, middleOf, tailOf}
+use Rattle.read_annotation.specs.House.{rulesOf, shareOf}
+use Rattle.read_annotation.specs.Measured.{partsOf, measuredOf}
+
+-- ---- `[M`
+
+pub adduct-apart : (s : List ℕ) → startsWith (bytes "[") s ≡ false → false ≡ startsWith (bytes "[M") s
+adduct-apart [] e = refl
+adduct-apart (b ∷ s) e = by (eqb 91 b) e
+  where
+    by : (x : Bool) → x && true ≡ false → false ≡ (x && startsWith (bytes "M") s)
+    by true e = absurd (not-t {x = true} e tt)
+    by false e = refl
+
+pub adduct-behind : (s : List ℕ) → startsWith (bytes "[") s ≡ true → startsWith (bytes "M") (drop 1 s) ≡ startsWith (bytes "[M") s
+adduct-behind [] e = absurd (not-t {x = true} (sym e) tt)
+adduct-behind (b ∷ s) e = by (eqb 91 b) e
+  where
+    by : (x : Bool) → x && true ≡ true → startsWith (bytes "M") s ≡ (x && startsWith (bytes "M") s)
+    by true e = refl
+    by false e = absurd (not-t {x = true} (sym e) tt)
+
+-- ---- groups
+
+module _ (end : ℕ) (s : List ℕ) (f : Fault) {t v : List ℕ} {q : ℕ} where
+  pub front-is : {p : PrefixRead} {x : IonRead} → p ≡ prefixOf end s f → t ≡ drop (p .len) s → x ≡ ionOf end t (p .fault) → v ≡ drop (x .len) t → q ≡ length s - length v
+      → record { marked = p .marked; present = p .present; analyte = p .analyte; at = p .len; ion = x; len = q } ≡ frontOf end s f
+  unfolding frontOf
+  front-is pp pt px pv pq = rw (← pp, ← pt, ← px, ← pv, ← pq)
+
+module _ (end : ℕ) (s : List ℕ) (f : Fault) {t u v : List ℕ} {q : ℕ} where
+  pub middle-is : {l a : Row} {y : IsotopesRead} {n : ℕ} → l ≡ changesOf maxLosses end s f → t ≡ drop (l .len) s → y ≡ isotopesOf end t (l .fault) → u ≡ drop (y .len) t
+      → a ≡ adductOf end u (y .fault) → n ≡ min (l .units + a .units) maxPlace → v ≡ drop (a .len) u → q ≡ length s - length v
+      → record { losses = l .n; isotopes = y .n; items = a .n; units = n; text = l .text; len = q; fault = a .fault } ≡ middleOf end s f
+  unfolding middleOf
+  middle-is pl pt py pu pa pn pv pq = rw (← pl, ← pt, ← py, ← pu, ← pa, ← pn, ← pv, ← pq)
+
+  pub tail-is : {c : ChargeRead} {d e : DecimalPart} → c ≡ chargeOf end s f → t ≡ drop (c .len) s → d ≡ deviationOf end t (c .fault) → u ≡ drop (d .len) t
+      → e ≡ confidenceOf end u (d .fault) → v ≡ drop (e .len) u → q ≡ length s - length v
+      → record { charge = c .value; deviation = d; confidence = e; len = q } ≡ tailOf end s f
+  unfolding tailOf
+  tail-is pc pt pd pu pe pv pq = rw (← pc, ← pt, ← pd, ← pu, ← pe, ← pv, ← pq)
+
+module _ (end : ℕ) (s : List ℕ) (f : Fault) {t u : List ℕ} where
+  pub parts-are : (i : ℕ) {place : ℕ} {g : Fault} {a : Front} {m : Middle} {b : Tail} → place ≡ end - length s → g ≡ join f (manyMark maxAnnotations i place)
+      → a ≡ frontOf end s g → t ≡ drop (a .len) s → m ≡ middleOf end t (a .ion .fault) → u ≡ drop (m .len) t → b ≡ tailOf end u (m .fault)
+      → record { front = a; middle = m; tail = b } ≡ partsOf i end s f
+  unfolding partsOf
+  parts-are i pp pg pa pt pm pu pb = rw (← pp, ← pg, ← pa, ← pt, ← pm, ← pu, ← pb)
+
+-- ---- what was read, measured
+
+pub measure-is : (s : List ℕ) (p : Parts) {t u v : List ℕ} {n w share q : ℕ} {kept : Bool} → share ≡ shareOf (p .tail .confidence) → t ≡ drop (p .front .len) s → u ≡ drop (p .middle .len) t
+    → n ≡ min (p .front .ion .units + p .middle .units) maxPlace → w ≡ min (p .front .ion .text + p .middle .text) maxPlace
+    → kept ≡ rulesOf (p .front .ion) (p .middle .items) (p .tail .deviation) share → v ≡ drop (p .tail .len) u → q ≡ length s - length v
+    → record {
+      losses = p .middle .losses;
+      isotopes = p .middle .isotopes;
+      items = p .middle .items;
+      units = n;
+      text = w;
+      share = share;
+      kept = kept;
+      len = q;
+      fault = p .tail .confidence .fault;
+    }
+    ≡ measuredOf s p
+unfolding measuredOf
+measure-is s p ps pt pu pn pw pk pv pq = rw (← ps, ← pt, ← pu, ← pn, ← pw, ← pk, ← pv, ← pq)

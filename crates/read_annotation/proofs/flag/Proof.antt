@@ -1,0 +1,16 @@
+use mathlib.Core.Path.{sym, _∙_}
+use borrow.Author.Needs.{needs}
+use Rattle.read_annotation.proofs.flag.Statement.{statement}
+use Rattle.read_annotation.proofs.flag.Tie as tie
+
+begins-with-requires : tie.Need-begins-with-requires
+begins-with-requires c κs = search needs
+
+returns : tie.Need-returns
+returns c = rw (sym (c .before .begins-with .ensures) ∙ c .if1 .taken)
+
+returns-2 : tie.Need-returns-2
+returns-2 c = rw (sym (c .before .begins-with .ensures) ∙ c .if1 .left)
+
+pub flag-spec : {M : Type 1} → statement M
+flag-spec = tie.close (tie.spec begins-with-requires returns returns-2)

@@ -1,0 +1,57 @@
+-- The annotation that bytes begin with, read and measured. Assumes nothing.
+use Prim.Native.Nat.{ℕ, _-_}
+use mathlib.Core.List.{List}
+use lib.ListN.{length, drop}
+use Rattle.rules.specs.Limits.{maxAnnotations, manyMark}
+use Rattle.faults.specs.declared.Fault.{Fault}
+use Rattle.faults.specs.Faults.{join}
+use Rattle.read_annotation.specs.declared.Front.{Front}
+use Rattle.read_annotation.specs.declared.Middle.{Middle}
+use Rattle.read_annotation.specs.declared.Tail.{Tail}
+use Rattle.read_annotation.specs.declared.Parts.{Parts}
+use Rattle.read_annotation.specs.declared.Measured.{Measured}
+use Rattle.read_annotation.specs.Groups.{before, plus, frontOf, middleOf, tailOf}
+use Rattle.read_annotation.specs.House.{rulesOf, shareOf}
+
+-- ---- read
+
+abbrev pub partsBehind : ℕ → List ℕ → Front → Middle → Parts
+partsBehind end t a m = record { front = a; middle = m; tail = tailOf end (drop (m .len) t) (m .fault) }
+
+abbrev pub partsIn : ℕ → List ℕ → Front → Parts
+partsIn end s a = let t = drop (a .len) s in partsBehind end t a (middleOf end t (a .ion .fault))
+
+-- annotation number i of a line of `end` bytes
+unfoldable pub partsOf : ℕ → ℕ → List ℕ → Fault → Parts
+partsOf i end s f = partsIn end s (frontOf end s (join f (manyMark maxAnnotations i (end - length s))))
+
+-- ---- measured
+
+-- u is left behind the adduct
+abbrev pub measuredWith : List ℕ → List ℕ → Front → Middle → Tail → Measured
+measuredWith s u a m b =
+    record {
+      losses = m .losses;
+      isotopes = m .isotopes;
+      items = m .items;
+      units = plus (a .ion .units) (m .units);
+      text = plus (a .ion .text) (m .text);
+      share = shareOf (b .confidence);
+      kept = rulesOf (a .ion) (m .items) (b .deviation) (shareOf (b .confidence));
+      len = before s (drop (b .len) u);
+      fault = b .confidence .fault;
+    }
+
+unfoldable pub measuredOf : List ℕ → Parts → Measured
+measuredOf s p = measuredWith s (drop (p .middle .len) (drop (p .front .len) s)) (p .front) (p .middle) (p .tail)
+
+abbrev pub measureOf : ℕ → ℕ → List ℕ → Fault → Measured
+measureOf i end s f = measuredOf s (partsOf i end s f)
+
+-- ---- how far it goes
+
+abbrev pub behindIon : List ℕ → Parts → List ℕ
+behindIon s p = drop (p .front .len) s
+
+unfoldable pub annotationSize : List ℕ → Parts → ℕ
+annotationSize s p = before s (drop (p .tail .len) (drop (p .middle .len) (behindIon s p)))

@@ -1,0 +1,11 @@
+pub mod Parts
+pub mod Measures
+pub mod IsotopeLoops
+pub mod Ends
+pub mod Spelled
+pub mod Limits
+pub mod Rows
+pub mod SpelledIsotopes
+pub mod Stores
+pub mod Respelled
+pub mod One

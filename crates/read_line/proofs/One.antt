@@ -1,0 +1,40 @@
+-- Two answers that meet a contract of this crate are equal. Assumes nothing.
+use mathlib.Core.Path.{_≡_, sym, ap, ap₂, _∙_}
+use mathlib.Core.List.{List, _++_}
+use lib.ListN.{take, drop, take-append-drop}
+use Prim.Native.Nat.{ℕ}
+use Rattle.rules.specs.Answers as rules
+use Rattle.store_sections.specs.declared.Cursors.{Cursors}
+use Rattle.store_sections.proofs.One.{ran-one}
+use Rattle.read_annotation.specs.declared.Parts.{Parts}
+use Rattle.answers.specs.declared.Answer.{Answer}
+use Rattle.read_line.specs.declared.StoredTo.{StoredTo}
+use Rattle.read_line.specs.Stores.{StoresNext, StoresLine}
+use Rattle.answers.specs.Delivered.{answered}
+use Rattle.read_line.specs.Readings.{ReadsSpelled}
+
+pub stores-next-one : {line d e f : List ℕ} {from : ℕ} {p : Parts} {c : Cursors} {r q : StoredTo}
+    → StoresNext line from p d c e r → StoresNext line from p d c f q → (e ≡ f) × (r ≡ q)
+stores-next-one a b =
+    let e = ran-one (a .ran) (b .ran) in
+    let at = a .at ∙ sym (b .at) in
+    (e .0, λ i. record { at = at i; cursors = e .1 i })
+
+-- it has no result but the output
+pub stores-line-one : {line d e f : List ℕ} {p : Parts} {c : Cursors} → StoresLine line p d c e → StoresLine line p d c f → e ≡ f
+stores-line-one a b = ran-one (a .ran) (b .ran) .0
+
+-- the answer of the paper fixes the output and the code's answer
+pub answered-one : {r q : Answer} {e f : List ℕ} → answered r e ≡ answered q f → (e ≡ f) × (r ≡ q)
+answered-one x =
+    (ap (λ (a : rules.Answer). a .out) x, ap (λ (a : rules.Answer). record { number = a .number; place = a .place; len = a .size }) x)
+
+-- an answer in the first n bytes of an output, and the bytes behind them
+pub answered-in-one : (n : ℕ) {r q : Answer} {rest e f : List ℕ} {a : rules.Answer} → answered r (take n e) ≡ a → drop n e ≡ rest
+    → answered q (take n f) ≡ a → drop n f ≡ rest → (e ≡ f) × (r ≡ q)
+answered-in-one n {e = e} {f = f} x k y l =
+    let z = answered-one (x ∙ sym y) in
+    (sym (take-append-drop n e) ∙ ap₂ (λ (s t : List ℕ). s ++ t) (z .0) (k ∙ sym l) ∙ take-append-drop n f, z .1)
+
+pub reads-spelled-one : {line d e f : List ℕ} {r q : Answer} → ReadsSpelled line d e r → ReadsSpelled line d f q → (e ≡ f) × (r ≡ q)
+reads-spelled-one a b = answered-one (a .is ∙ sym (b .is))

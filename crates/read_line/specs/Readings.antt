@@ -1,0 +1,58 @@
+-- The answer to a line whose shape was judged, by what is counted of it. Assumes nothing.
+use Prim.Native.Nat.{ℕ}
+use mathlib.Core.Path.{_≡_}
+use mathlib.Core.Bool.{cond}
+use mathlib.Core.List.{List}
+use lib.Dec.{eqb, ltb}
+use lib.ListN.{length, replicate}
+use lib.Seq.{sets}
+use Rattle.rules.specs.Limits.{maxLine}
+use Rattle.rules.specs.Answers as rules
+use Rattle.rules.specs.Answers.{refuses}
+use Rattle.store_sections.specs.declared.Counts.{Counts}
+use Rattle.store_sections.specs.Pages.{run}
+use Rattle.store_sections.specs.Headers.{startsOf, endAt, headerBytes}
+use Rattle.shape.specs.declared.Verdict.{Verdict}
+use Rattle.shape.specs.Verdicts.{numberOf, placeOf}
+use Rattle.answers.specs.declared.Answer.{Answer}
+use Rattle.answers.specs.Delivered.{answered}
+use Rattle.measure_line.specs.declared.Totals.{Totals}
+use Rattle.measure_line.specs.Totals.{totalsOf}
+use Rattle.measure_line.specs.Refusals.{firstOf}
+use Rattle.read_line.specs.Stores.{lineEvents}
+
+abbrev pub countsIn : Totals → Counts
+countsIn t =
+    record { annotations = t .annotations; losses = t .losses; isotopes = t .isotopes; items = t .items; units = t .units; text = t .text }
+
+-- a refusal, over an output d that stays as it is
+abbrev pub refusedOver : List ℕ → ℕ → ℕ → rules.Answer
+refusedOver d number place = record { number = number; place = place; size = 0; out = d }
+
+-- header and sections, over the output d
+abbrev pub tableOver : List ℕ → List ℕ → Counts → List ℕ
+tableOver d line n = run (sets d 0 (headerBytes n)) (startsOf n) (lineEvents line)
+
+abbrev pub storedOver : List ℕ → List ℕ → Counts → rules.Answer
+storedOver d line n =
+    cond (ltb (length d) (endAt n))
+    (refusedOver d 8 (endAt n))
+    (record { number = 0; place = 0; size = endAt n; out = tableOver d line n })
+
+abbrev pub countedOver : List ℕ → List ℕ → Totals → rules.Answer
+countedOver d line t =
+    let f = firstOf t in cond (eqb (f .number) 0) (storedOver d line (countsIn t)) (refusedOver d (f .number) (f .place))
+
+-- of a line with a shape, into an output d
+unfoldable pub spelledOver : List ℕ → List ℕ → rules.Answer
+spelledOver d line = countedOver d line (totalsOf line)
+
+pub record ReadsSpelled (line d e : List ℕ) (r : Answer) : Type 0 where
+  pub is : answered r e ≡ spelledOver d line
+
+-- of a line whose shape was judged, into an output d: the verdict's own number, or what is read
+abbrev pub anyOver : List ℕ → Verdict → List ℕ → rules.Answer
+anyOver d v line = cond (eqb (numberOf v) 0) (spelledOver d line) (refusedOver d (numberOf v) (placeOf line v))
+
+unfoldable pub readOf : Verdict → List ℕ → ℕ → rules.Answer
+readOf v line room = cond (ltb maxLine (length line)) (refuses room 1 maxLine) (anyOver (replicate room 0) v line)

@@ -1,0 +1,180 @@
+// A line read: measured, then stored. Document 01, "Numbers of refusal": reading tests 1; then 2 or 3; then 4 and 5; then 6; 7; 8.
+// What was read of the first annotation is handed on from measuring to storing: most lines have no other.
+ghost use mathlib.Core.Path.{_≡_};
+ghost use lib.ListN.{length};
+ghost use Rattle.answers.specs.Delivered.{answered};
+ghost use Rattle.shape.specs.Steps.{scannedBy};
+ghost use Rattle.read_line.specs.Stores.{StoresNext, StoresLine};
+ghost use Rattle.read_line.specs.Readings.{countsIn, ReadsSpelled, anyOver, readOf};
+ghost use Rattle.read_line.specs.Same.{sameBytes};
+ghost use Rattle.read_line.specs.Back.{readsTo, few, largest, zeros};
+use answers::Answer;
+use answers::MAX_LINE;
+use answers::refuse;
+use measure_line::Totals;
+use measure_line::first_refusal;
+use measure_line::read_at;
+use measure_line::total;
+use put_bytes::clear;
+use read_annotation::Parts;
+use shape::Verdict;
+use shape::scan_by;
+use slices::advance;
+use slices::begins_with;
+use slices::first_of;
+use slices::rest;
+use store_annotation::store;
+use store_sections::Counts;
+use store_sections::Cursors;
+use store_sections::put_header;
+use store_sections::size_of;
+
+// Bytes that suffice for most tables.
+pub const FEW: usize = 1024;
+
+// Bytes that suffice for every table.
+pub const TABLE: usize = 43596;
+
+// How far storing has come.
+pub struct StoredTo {
+    pub at: usize,
+    pub cursors: Cursors,
+}
+
+// ---- storing
+
+// The annotation that begins at a place and was read.
+fn store_next(out: &mut [u8], c: Cursors, line: &[u8], from: usize, p: Parts) -> StoredTo
+    ensures { λ r. ⌜ StoresNext (now (line .entry)) from p (now (out .entry)) c (now (out .exit)) r ⌝ }
+{
+    let x = store(out, c, rest(line, from), p);
+    let cursors = x.cursors;
+    StoredTo {
+        at: advance(from, x.len, line.len()),
+        cursors,
+    }
+}
+
+// All annotations of a line, of which the first was read.
+fn store_all(out: &mut [u8], c: Cursors, line: &[u8], first: Parts)
+    ensures { λ r. ⌜ StoresLine (now (line .entry)) first (now (out .entry)) c (now (out .exit)) ⌝ }
+{
+    if line.len() < 1 {
+        return;
+    }
+    let mut t = store_next(out, c, line, 0, first);
+    while begins_with(rest(line, t.at), b',') {
+        let here = t.cursors;
+        let from = advance(t.at, 1, line.len());
+        let p = read_at(line, from);
+        let more = store_next(out, here, line, from, p);
+        t = more;
+    }
+}
+
+// ---- reading
+
+fn counts(t: Totals) -> Counts
+    ensures { λ r. ⌜ r ≡ countsIn t ⌝ }
+{
+    Counts {
+        annotations: t.annotations,
+        losses: t.losses,
+        isotopes: t.isotopes,
+        items: t.items,
+        units: t.units,
+        text: t.text,
+    }
+}
+
+// A line with a shape, into a cleared output.
+fn read_spelled(line: &[u8], out: &mut [u8]) -> Answer
+    ensures { λ r. ⌜ ReadsSpelled (now (line .entry)) (now (out .entry)) (now (out .exit)) r ⌝ }
+{
+    let first = read_at(line, 0);
+    let t = total(line, first);
+    let found = first_refusal(t);
+    if found.number != 0 {
+        return refuse(found.number, found.place);
+    }
+    let n = counts(t);
+    let size = size_of(n);
+    if out.len() < size {
+        return refuse(8, size);
+    }
+    let c = put_header(out, n);
+    store_all(out, c, line, first);
+    Answer {
+        number: 0,
+        place: 0,
+        len: size,
+    }
+}
+
+// A line of any length, by a lent machine, into a cleared output.
+fn read_any(machine: &[u8], line: &[u8], out: &mut [u8]) -> Answer
+    ensures { λ r. ⌜ answered r (now (out .exit)) ≡ anyOver (now (out .entry)) (scannedBy (now (machine .entry)) (now (line .entry))) (now (line .entry)) ⌝ }
+{
+    match scan_by(machine, line) {
+        Verdict::Fine => read_spelled(line, out),
+        Verdict::Short => refuse(3, line.len()),
+        Verdict::Stray(place) => refuse(2, place),
+    }
+}
+
+// A line by a lent machine: whoever has many lines makes the machine once.
+pub fn read_by(machine: &[u8], line: &[u8], out: &mut [u8]) -> Answer
+    ensures { λ r. ⌜ answered r (now (out .exit)) ≡ readOf (scannedBy (now (machine .entry)) (now (line .entry))) (now (line .entry)) (length (now (out .entry))) ⌝ }
+{
+    clear(out);
+    if MAX_LINE < line.len() {
+        return refuse(1, MAX_LINE);
+    }
+    read_any(machine, line, out)
+}
+
+// ---- reading back
+
+// Whether two parts have the same bytes.
+fn same_bytes(a: &[u8], b: &[u8]) -> bool
+    ensures { λ r. ⌜ r ≡ sameBytes (now (a .entry)) (now (b .entry)) ⌝ }
+{
+    if a.len() != b.len() {
+        return false;
+    }
+    let mut i: usize = 0;
+    while i < a.len() {
+        if a[i] != b[i] {
+            return false;
+        }
+        i += 1;
+    }
+    true
+}
+
+// Whether a line of any length reads to a table; `scratch` is cleared.
+fn reads_into(machine: &[u8], line: &[u8], table: &[u8], scratch: &mut [u8]) -> bool
+    ensures { λ r. ⌜ r ≡ readsTo (scannedBy (now (machine .entry)) (now (line .entry))) (now (scratch .entry)) (now (line .entry)) (now (table .entry)) ⌝ }
+{
+    let a = read_any(machine, line, scratch);
+    if a.number != 0 {
+        return false;
+    }
+    same_bytes(first_of(scratch, a.len), table)
+}
+
+// Whether a line of any length reads to a table of few bytes: clearing more costs more than reading most lines.
+pub fn reads_to_few(machine: &[u8], line: &[u8], table: &[u8]) -> bool
+    ensures { λ r. ⌜ r ≡ readsTo (scannedBy (now (machine .entry)) (now (line .entry))) (zeros few) (now (line .entry)) (now (table .entry)) ⌝ }
+{
+    let mut scratch = [0u8; FEW];
+    reads_into(machine, line, table, &mut scratch)
+}
+
+// Whether a line of any length reads to a table.
+pub fn reads_to(machine: &[u8], line: &[u8], table: &[u8]) -> bool
+    ensures { λ r. ⌜ r ≡ readsTo (scannedBy (now (machine .entry)) (now (line .entry))) (zeros largest) (now (line .entry)) (now (table .entry)) ⌝ }
+{
+    let mut scratch = [0u8; TABLE];
+    reads_into(machine, line, table, &mut scratch)
+}

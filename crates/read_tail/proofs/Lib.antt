@@ -1,0 +1,4 @@
+pub mod Measures
+pub mod Devs
+pub mod SpelledTail
+pub mod Within

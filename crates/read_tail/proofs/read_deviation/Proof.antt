@@ -1,0 +1,112 @@
+use Prim.Native.Nat.{_+_}
+use borrow.Author.Tests.{not-true, not-false}
+use Rattle.rules.specs.Texts.{startsWith}
+use Rattle.rules.specs.Bytes.{bytes}
+use mathlib.Core.Path.{sym, ap, _∙_}
+use native.Mathlib.Omega.{arith}
+use Rattle.read_tail.proofs.Devs.{in-ppm, in-units}
+use Rattle.read_tail.proofs.Measures.{decimal-fits, size-small, ppm-fits}
+use Rattle.read_tail.specs.Decimals.{deviationOf}
+use borrow.Author.Needs.{needs}
+use Rattle.read_tail.proofs.read_deviation.Statement.{statement}
+use Rattle.read_tail.proofs.read_deviation.Tie as tie
+
+begins-with-requires : tie.Need-begins-with-requires
+begins-with-requires c κs = search needs
+
+no-part-requires : tie.Need-no-part-requires
+no-part-requires c κs = search needs
+
+returns : tie.Need-returns
+unfolding deviationOf
+returns c = rw (sym (c .before .before .begins-with .ensures) ∙ not-true _ (c .before .if1 .taken)) (c .no-part .ensures)
+
+rest-requires : tie.Need-rest-requires
+rest-requires c κs = search needs
+
+begins-with-requires-2 : tie.Need-begins-with-requires-2
+begins-with-requires-2 c κs = search needs
+
+size-at-requires : tie.Need-size-at-requires
+size-at-requires c κs = search needs
+
+rest-requires-2 : tie.Need-rest-requires-2
+rest-requires-2 c κs = search needs
+
+read-decimal-requires : tie.Need-read-decimal-requires
+read-decimal-requires c κs = search needs
+
+add-len : tie.Need-add-len
+add-len c = omega (arith, decimal-fits (c .before .before .before .before .before .before .before .before .before .args .s .now) (c .before .before .before .size-at .result) (c .before .before .rest2 .ensures) (c .before .read-decimal .ensures), c .before .before .before .size-at .ensures, size-small (c .before .before .before .before .begins-with2 .result))
+
+minus-or-zero-requires : tie.Need-minus-or-zero-requires
+minus-or-zero-requires c κs = search needs
+
+minus-or-zero-requires-2 : tie.Need-minus-or-zero-requires-2
+minus-or-zero-requires-2 c κs = search needs
+
+rest-requires-3 : tie.Need-rest-requires-3
+rest-requires-3 c κs = search needs
+
+begins-ppm-requires : tie.Need-begins-ppm-requires
+begins-ppm-requires c κs = search needs
+
+add-made-part : tie.Need-add-made-part
+add-made-part c = omega (arith, ppm-fits (c .before .before .before .before .before .before .before .before .before .before .before .before .before .before .args .s .now) (c .before .before .before .before .before .before .before .before .size-at .result + c .before .before .before .before .before .before .read-decimal .result .len) (c .before .before .rest3 .ensures) (sym (c .before .begins-ppm .ensures) ∙ c .if2 .taken))
+
+made-part-requires : tie.Need-made-part-requires
+made-part-requires c κs = search needs
+
+returns-2 : tie.Need-returns-2
+returns-2 c =
+    let at-minus-or-zero2 = c .before .before .before .before in
+    let at-minus-or-zero = at-minus-or-zero2 .before in
+    let at-read-decimal = at-minus-or-zero .before .before in
+    let at-rest2 = at-read-decimal .before in
+    let at-size-at = at-rest2 .before in
+    let at-begins-with2 = at-size-at .before in
+    let at-rest = at-begins-with2 .before in
+    let at-if1 = at-rest .before in
+    let at-begins-with = at-if1 .before in
+    let at-args = at-begins-with .before .before in
+    in-ppm (at-args .args .s .now) (at-args .args .end) (at-args .args .f) (sym (at-begins-with .begins-with .ensures) ∙ not-false _ (at-if1 .if1 .left)) (at-begins-with2 .begins-with2 .ensures ∙ ap (startsWith (bytes "-")) (at-rest .rest .ensures)) (at-size-at .size-at .ensures) (at-rest2 .rest2 .ensures) (at-read-decimal .read-decimal .ensures) (c .before .before .before .rest3 .ensures) (at-minus-or-zero .minus-or-zero .ensures) (at-minus-or-zero2 .minus-or-zero2 .ensures) (sym (c .before .before .begins-ppm .ensures) ∙ c .before .if2 .taken) (c .made-part .ensures)
+
+made-part-requires-2 : tie.Need-made-part-requires-2
+made-part-requires-2 c κs = search needs
+
+returns-3 : tie.Need-returns-3
+returns-3 c =
+    let at-minus-or-zero2 = c .before .before .before .before in
+    let at-minus-or-zero = at-minus-or-zero2 .before in
+    let at-read-decimal = at-minus-or-zero .before .before in
+    let at-rest2 = at-read-decimal .before in
+    let at-size-at = at-rest2 .before in
+    let at-begins-with2 = at-size-at .before in
+    let at-rest = at-begins-with2 .before in
+    let at-if1 = at-rest .before in
+    let at-begins-with = at-if1 .before in
+    let at-args = at-begins-with .before .before in
+    in-units (at-args .args .s .now) (at-args .args .end) (at-args .args .f) (sym (at-begins-with .begins-with .ensures) ∙ not-false _ (at-if1 .if1 .left)) (at-begins-with2 .begins-with2 .ensures ∙ ap (startsWith (bytes "-")) (at-rest .rest .ensures)) (at-size-at .size-at .ensures) (at-rest2 .rest2 .ensures) (at-read-decimal .read-decimal .ensures) (c .before .before .before .rest3 .ensures) (at-minus-or-zero .minus-or-zero .ensures) (at-minus-or-zero2 .minus-or-zero2 .ensures) (sym (c .before .before .begins-ppm .ensures) ∙ c .before .if2 .left) (c .made-part2 .ensures)
+
+pub read-deviation-spec : {M : Type 1} → statement M
+read-deviation-spec =
+    tie.close
+    (tie.spec
+    begins-with-requires
+    no-part-requires
+    returns
+    rest-requires
+    begins-with-requires-2
+    size-at-requires
+    rest-requires-2
+    read-decimal-requires
+    add-len
+    minus-or-zero-requires
+    minus-or-zero-requires-2
+    rest-requires-3
+    begins-ppm-requires
+    add-made-part
+    made-part-requires
+    returns-2
+    made-part-requires-2
+    returns-3)

@@ -1,3 +1,0 @@
-pub mod Told
-pub mod Spelled
-pub mod Answered

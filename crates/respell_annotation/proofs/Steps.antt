@@ -1,0 +1,120 @@
+-- The steps of telling whether an annotation stays as it is, and of spelling it anew. Assumes nothing.
+use Prim.Native.Nat.{ℕ, _+_, _-_, _≤_, _<_}
+use mathlib.Core.Path.{_≡_, sym, ap, _∙_}
+use mathlib.Core.Bool.{Bool, true, false, not, _||_}
+use mathlib.Core.List.{List, [], _∷_, _++_}
+use lib.ListN.{length, take, drop, getD, drop-of-length-le}
+use borrow.Author.Tests.{eq-eqb, ne-eqb, le-leb, lt-leb}
+use Rattle.rules.specs.Bytes.{bytes}
+use Rattle.rules.specs.Texts.{startsWith}
+use Rattle.put_bytes.specs.Puts.{maxPlace, Put}
+use Rattle.put_bytes.proofs.Putting.{put-none, put-then, put-as}
+use Rattle.put_bytes.proofs.PutLoop.{run-more}
+use Rattle.print_count.specs.declared.Respelled.{Respelled}
+use Rattle.put_formula.specs.Preferred.{preferredUnits}
+use Rattle.read_ion.specs.declared.IonRead.{IonRead}
+use Rattle.read_isotopes.specs.Spelled.{spelledIsotopes, SpellsIsotopes}
+use Rattle.sort_changes.specs.Gathered.{gathered}
+use Rattle.sort_changes.specs.Events.{noKeys}
+use Rattle.sort_changes.specs.Spelled.{changesSpelled, SpellsChanges}
+use Rattle.read_annotation.specs.declared.Middle.{Middle}
+use Rattle.read_annotation.specs.declared.Parts.{Parts}
+use Rattle.read_annotation.specs.Measured.{behindIon, annotationSize}
+use Rattle.respell_annotation.specs.Kept.{hasOne, isKept}
+use Rattle.respell_annotation.specs.Annotations.{ionSpelled, adductSpelled, behindLosses, partsSpelled, annotationSpelled, SpellsAnnotation}
+
+-- ---- a `1` in a part: what is left to look at decides
+
+module _ (s : List ℕ) (i : ℕ) (w : hasOne s ≡ hasOne (drop i s)) where
+  pub one-found : i < length s → getD s i 0 ≡ 49 → true ≡ hasOne s
+  unfolding hasOne
+  one-found h e = sym (w ∙ ap hasOne (run-more s i h) ∙ ap (λ (t : Bool). t || hasOne (drop (i + 1) s)) (eq-eqb (getD s i 0) 49 e))
+
+  pub one-on : i < length s → (getD s i 0 ≡ 49 → ⊥) → hasOne s ≡ hasOne (drop (i + 1) s)
+  unfolding hasOne
+  one-on h e = w ∙ ap hasOne (run-more s i h) ∙ ap (λ (t : Bool). t || hasOne (drop (i + 1) s)) (ne-eqb (getD s i 0) 49 e)
+
+  pub one-none : length s ≤ i → false ≡ hasOne s
+  unfolding hasOne
+  one-none h = sym (w ∙ ap hasOne (drop-of-length-le s h))
+
+-- ---- what is kept
+
+module _ (x : IonRead) (m : Middle) (s : List ℕ) where
+  pub with-formula : (x .units ≡ 0 → ⊥) → false ≡ isKept x m s
+  unfolding isKept
+  with-formula u = rw (ne-eqb (x .units) 0 u)
+
+  module _ (u : x .units ≡ 0) where
+    pub with-losses : 1 < m .losses → false ≡ isKept x m s
+    unfolding isKept
+    with-losses l = rw (eq-eqb (x .units) 0 u, lt-leb (m .losses) 1 l)
+
+    module _ (l : m .losses ≤ 1) where
+      pub with-items : 1 < m .items → false ≡ isKept x m s
+      unfolding isKept
+      with-items d = rw (eq-eqb (x .units) 0 u, le-leb (m .losses) 1 l, lt-leb (m .items) 1 d)
+
+      pub by-bytes : {t : Bool} → m .items ≤ 1 → t ≡ hasOne s → not t ≡ isKept x m s
+      unfolding isKept
+      by-bytes d e = rw (eq-eqb (x .units) 0 u, le-leb (m .losses) 1 l, le-leb (m .items) 1 d) (ap not e)
+
+-- ---- the ion
+
+module _ (s : List ℕ) (x : IonRead) {d : List ℕ} {to : ℕ} where
+  pub ion-alone : {t e : List ℕ} {r : ℕ} → x .units ≡ 0 → t ≡ take (x .len) s → Put d to t e r → Put d to (ionSpelled s x) e r
+  unfolding ionSpelled
+  ion-alone u q p = rw (eq-eqb (x .units) 0 u) (put-as p q)
+
+  pub ion-formula : {t w d1 d2 e : List ℕ} {a b r : ℕ} → (x .units ≡ 0 → ⊥) → t ≡ take (x .start) s → Put d to t d1 a → w ≡ drop (x .start) s
+      → Put d1 a (preferredUnits (x .units) w) d2 b → Put d2 b (125 ∷ []) e r → Put d to (ionSpelled s x) e r
+  unfolding ionSpelled
+  ion-formula u q p v units end =
+      rw (ne-eqb (x .units) 0 u) (put-as (put-then p (put-then units end)) (λ i. q i ++ (preferredUnits (x .units) (v i) ++ (125 ∷ []))))
+
+-- ---- the adduct
+
+module _ (s : List ℕ) {d : List ℕ} {to : ℕ} where
+  pub adduct-none : length d ≤ maxPlace → to ≤ maxPlace → startsWith (bytes "[M") s ≡ false → Put d to (adductSpelled s) d to
+  unfolding adductSpelled
+  adduct-none h g e = rw e (put-none h g)
+
+  pub adduct-some : {t w d1 d2 e : List ℕ} {a r : ℕ} {x : Respelled} → startsWith (bytes "[M") s ≡ true → t ≡ take 2 s → Put d to t d1 a → w ≡ drop 2 s
+      → SpellsChanges w d1 a d2 x → Put d2 (x .to) (93 ∷ []) e r → Put d to (adductSpelled s) e r
+  unfolding adductSpelled
+  adduct-some f q p v items end = rw f (put-as (put-then p (put-then (items .put) end)) (λ i. q i ++ (changesSpelled (v i) ++ (93 ∷ []))))
+
+-- ---- the annotation
+
+module _ (s : List ℕ) (p : Parts) where
+  pub parts-put : {d t0 ta t1 t2 t3 u v d1 d2 d3 d4 d5 e : List ℕ} {l y : Respelled} {to a0 a1 a2 r : ℕ} → t0 ≡ take (p .front .at) s → Put d to t0 d1 a0
+      → ta ≡ drop (p .front .at) s → Put d1 a0 (ionSpelled ta (p .front .ion)) d2 a1 → t1 ≡ drop (p .front .len) s → SpellsChanges t1 d2 a1 d3 l
+      → t2 ≡ drop (l .len) t1 → SpellsIsotopes t2 d3 (l .to) d4 y → t3 ≡ drop (y .len) t2 → Put d4 (y .to) (adductSpelled t3) d5 a2
+      → u ≡ drop (p .middle .len) t1 → v ≡ take (p .tail .len) u → Put d5 a2 v e r → Put d to (partsSpelled s p) e r
+  unfolding partsSpelled
+  parts-put {l = l} {y = y} q0 prefix qa ion q1 losses e2 isotopes e3 adduct eu ev tail =
+      let z2 : l .len ≡ gathered noKeys (behindIon s p) .at = losses .len ∙ (λ j. gathered noKeys (q1 j) .at) in
+      let q2 = e2 ∙ (λ j. drop (z2 j) (q1 j)) in
+      let z3 : y .len ≡ length (behindLosses (behindIon s p)) - length (spelledIsotopes (behindLosses (behindIon s p)) .rest) =
+      isotopes .len ∙ (λ j. length (q2 j) - length (spelledIsotopes (q2 j) .rest)) in
+      let q3 = e3 ∙ (λ j. drop (z3 j) (q2 j)) in
+      let qv = ev ∙ ap (take (p .tail .len)) (eu ∙ ap (drop (p .middle .len)) q1) in
+      put-as (put-then prefix (put-then ion (put-then (losses .put) (put-then (isotopes .put) (put-then adduct tail)))))
+      (λ j. q0 j ++ (ionSpelled (qa j) (p .front .ion) ++ (changesSpelled (q1 j) ++ (spelledIsotopes (q2 j) .known ++ (adductSpelled (q3 j) ++ qv j)))))
+
+  module _ {t1 u v w : List ℕ} {b : Bool} {len : ℕ} (q1 : t1 ≡ drop (p .front .len) s) (qu : u ≡ drop (p .middle .len) t1) (qv : v ≡ drop (p .tail .len) u)
+      (ql : len ≡ length s - length v) (qw : w ≡ take (p .middle .len) t1) (qb : b ≡ isKept (p .front .ion) (p .middle) w) where
+    size-is : len ≡ annotationSize s p
+    unfolding annotationSize
+    size-is = ql ∙ ap (λ (r : List ℕ). length s - length r) (qv ∙ ap (drop (p .tail .len)) (qu ∙ ap (drop (p .middle .len)) q1))
+
+    kept-is : isKept (p .front .ion) (p .middle) (take (p .middle .len) (behindIon s p)) ≡ b
+    kept-is = sym (qb ∙ ap (isKept (p .front .ion) (p .middle)) (qw ∙ ap (take (p .middle .len)) q1))
+
+    pub put-kept : {d t e : List ℕ} {to r : ℕ} → b ≡ true → t ≡ take len s → Put d to t e r → SpellsAnnotation s p d to e (record { to = r; len = len })
+    unfolding annotationSpelled
+    put-kept k q x = record { len = size-is; put = rw (kept-is ∙ k) (put-as x (q ∙ ap (λ (n : ℕ). take n s) size-is)) }
+
+    pub put-anew : {d e : List ℕ} {to r : ℕ} → b ≡ false → Put d to (partsSpelled s p) e r → SpellsAnnotation s p d to e (record { to = r; len = len })
+    unfolding annotationSpelled
+    put-anew k x = record { len = size-is; put = rw (kept-is ∙ k) x }

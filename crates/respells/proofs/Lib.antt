@@ -1,7 +1,0 @@
-pub mod Steps
-pub mod Kept
-pub mod Ions
-pub mod Adducts
-pub mod Rests
-pub mod Laws
-pub mod One

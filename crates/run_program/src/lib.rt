@@ -1,0 +1,106 @@
+// How each program begins and ends: what it says of its arguments, and of what the system refused. What the system hands over and
+// takes cannot be stated: `was_asked`, `show`, `explain`, `refuse`, `finish` and `fail` are proved safe and ending, and the others state their answers.
+ghost use mathlib.Core.List.{_++_};
+ghost use Rattle.put_bytes.specs.Puts.{Put};
+ghost use Rattle.run_program.specs.Words.{Tells, helpWord};
+use io_lines::Failed;
+use io_lines::Stream;
+use io_lines::flush;
+use io_parts::stretch;
+use libc::STDERR_FILENO;
+use libc::STDOUT_FILENO;
+use put_bytes::put_run;
+
+// Whether the program was given arguments, which are answered then: `--help` alone by what the program does and, where its answers have
+// such numbers, what the numbers of refusal mean; all others by a line on standard error.
+pub fn was_asked(name: &[u8], help: &[u8], numbered: bool) -> bool {
+    let words = os::arg_count();
+    if words < 2 {
+        return false;
+    }
+    let mut word = [0u8; 8];
+    let n = os::arg(1, &mut word);
+    if words < 3 && is_help(&word[..n]) {
+        show(name, help, numbered);
+    } else {
+        refuse(name);
+    }
+    true
+}
+
+fn is_help(word: &[u8]) -> bool
+    ensures { λ r. ⌜ Tells r (now (word .entry)) helpWord ⌝ }
+{
+    check::same(word, b"--help")
+}
+
+fn show(name: &[u8], help: &[u8], numbered: bool) {
+    if !explain(help, numbered) {
+        fail(name, b": standard output");
+    }
+}
+
+// Whether the system took all of the text.
+fn explain(help: &[u8], numbered: bool) -> bool {
+    if !numbered {
+        return io::write_all(STDOUT_FILENO, help);
+    }
+    if !io::write_all(STDOUT_FILENO, help) {
+        return false;
+    }
+    io::write_all(
+        STDOUT_FILENO,
+        b"
+number  when                                                    place, in bytes from 0
+0       done                                                    0
+1       the line, read or to be written, has over 4,096 bytes   4096
+2       stray byte: the line does not begin any shape           how many bytes do begin one
+3       the line begins a shape and is none                     its length
+4       a number or a decimal past its bound                    its first digit
+5       too many annotations, items, units or text bytes        first byte of the first one too many
+6       a rule for one annotation is broken                     first byte of that annotation
+7       the confidences exceed 1                                first byte of the annotation that takes the sum past 1
+8       the output is too short                                 bytes needed
+9       the stored bytes are no table                           0
+",
+    )
+}
+
+fn refuse(name: &[u8]) {
+    let mut text = io::buffer();
+    let n = join(
+        &mut text,
+        name,
+        b": takes no arguments but --help, which explains it\n",
+    );
+    io::write_all(STDERR_FILENO, stretch(&text, 0, n));
+}
+
+// The last of a program: the answers that wait are written, and what the system refused is told on standard error.
+pub fn finish(name: &[u8], out: &[u8], s: Stream) {
+    let failed = s.failed;
+    match failed {
+        Failed::Nothing => {
+            if !flush(out, s.waiting) {
+                fail(name, b": standard output");
+            }
+        }
+        Failed::Reading => fail(name, b": standard input"),
+        Failed::Writing => fail(name, b": standard output"),
+    }
+}
+
+// The name of the program, what could not be read or written, and the system's own word for it.
+fn fail(name: &[u8], what: &[u8]) {
+    let mut text = io::buffer();
+    let n = join(&mut text, name, what);
+    os::fail(stretch(&text, 0, n));
+}
+
+// One text behind the other, from the output's start on; where they end.
+fn join(out: &mut [u8], first: &[u8], second: &[u8]) -> usize
+    ensures { λ r. ⌜ Put (now (out .entry)) 0 (now (first .entry) ++ now (second .entry)) (now (out .exit)) r ⌝ }
+{
+    let at = put_run(out, 0, first);
+    put_run(out, at, second)
+}

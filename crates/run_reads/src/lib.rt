@@ -1,0 +1,87 @@
+// The programs `reads` and `rooms`: lines of standard input are read, and each is answered by number, place and length, and the table
+// in hexadecimal digits, `-` where there is none. Lines end at line feeds, and the last may lack its own. Which lines are
+// found is stated by `next_line`, and `one_line` states what is answered to the line that was found; what is written cannot be stated, so
+// `answer_lines` and `all` are proved safe and ending.
+ghost use mathlib.Core.Bool.{true};
+ghost use lib.ListN.{take, drop};
+ghost use Rattle.run_reads.specs.Answered.{Answered};
+ghost use Rattle.run_reads.specs.Reads.{ReadInto};
+use answers::Answer;
+use io_answers::put_answer;
+use io_lines::Stream;
+use io_lines::next_line;
+use io_lines::room;
+use io_parts::behind;
+use io_parts::stretch;
+use numbers::read_number;
+use read_line::read_by;
+use run_program::finish;
+
+// How many bytes a table needs at most.
+pub const TABLE: usize = 21340;
+
+// The longest answer: three numbers of at most 20 digits, each with a blank; the table; a line feed.
+const ANSWER: usize = 64 + 2 * TABLE;
+
+// All lines, for the program of this name. Where they are sized, each begins with the length of its output, a number of at most 21,340, and a blank; else the output
+// is as long as any table needs.
+pub fn answer_lines(name: &[u8], sized: bool) {
+    let machine = shape::machine();
+    let mut buf = io::large_buffer();
+    let mut out = io::large_buffer();
+    let mut table = [0u8; TABLE];
+    all(name, &machine, &mut buf, &mut out, &mut table, sized);
+}
+
+// Line after line, until none comes. A proved loop has to end, so it counts down from a number that no run uses up.
+fn all(name: &[u8], machine: &[u8], buf: &mut [u8], out: &mut [u8], table: &mut [u8], sized: bool) {
+    let mut s = next_line(buf, out, Stream::begin());
+    let mut turns = u64::MAX;
+    while turns > 0 {
+        if !s.found {
+            finish(name, out, s);
+            return;
+        }
+        let said = one_line(machine, buf, out, table, s, sized);
+        s = next_line(buf, out, said);
+        turns -= 1;
+    }
+}
+
+// The line that was found is answered, behind the answers that wait.
+fn one_line(
+    machine: &[u8],
+    buf: &[u8],
+    out: &mut [u8],
+    table: &mut [u8],
+    s: Stream,
+    sized: bool,
+) -> Stream
+    ensures { λ r. ⌜ Answered (now (machine .entry)) (take (s .len) (drop (s .from) (now (buf .entry)))) sized s (now (table .entry)) (now (table .exit)) (now (out .entry)) (now (out .exit)) r ⌝ }
+{
+    let t = room(out, s, ANSWER);
+    let line = stretch(buf, s.from, s.len);
+    let a = read_one(machine, line, table, sized);
+    let end = put_answer(out, t.waiting, a, table);
+    t.answered(end)
+}
+
+// A line behind its number, or, where lines are not sized, all of it into the whole table.
+fn read_one(machine: &[u8], line: &[u8], table: &mut [u8], sized: bool) -> Answer
+    ensures { λ r. ⌜ ReadInto (now (machine .entry)) (now (line .entry)) sized (now (table .entry)) (now (table .exit)) r ⌝ }
+{
+    if sized {
+        return read_sized(machine, line, table);
+    }
+    read_by(machine, line, table)
+}
+
+// The line behind a number and a blank, into so many bytes, or into all where they are fewer.
+fn read_sized(machine: &[u8], asked: &[u8], table: &mut [u8]) -> Answer
+    ensures { λ r. ⌜ ReadInto (now (machine .entry)) (now (asked .entry)) true (now (table .entry)) (now (table .exit)) r ⌝ }
+{
+    let n = read_number(asked);
+    let line = stretch(stretch(asked, n.len, asked.len()), 1, asked.len());
+    let bytes = behind(n.value as usize, 0, table.len());
+    read_by(machine, line, &mut table[..bytes])
+}

@@ -1,0 +1,46 @@
+use mathlib.Core.Path.{refl}
+use Rattle.put_bytes.proofs.Putting.{put-then}
+use borrow.Author.Needs.{needs}
+use Rattle.run_relabel.proofs.put_told.Statement.{statement}
+use Rattle.run_relabel.proofs.put_told.Tie as tie
+
+put8-requires : tie.Need-put8-requires
+put8-requires c κs = search needs
+
+put-field-requires : tie.Need-put-field-requires
+put-field-requires c κs = search needs
+
+put-number-requires : tie.Need-put-number-requires
+put-number-requires c κs = search needs
+
+same-length : tie.Need-same-length
+same-length c = search needs
+
+returns : tie.Need-returns
+returns c =
+    let at-put-field = c .before .before .before .before .before .before in
+    let at-put8 = at-put-field .before .before .before .before in
+    let at-if1 = at-put8 .before .before in
+    record {
+      refused = λ h. put-then (at-put8 .put8 .ensures) (put-then (at-put-field .put-field .ensures) (c .before .before .put-number .ensures));
+      spelled = λ e. absurd (at-if1 .if1 .taken e);
+      behind = λ e. absurd (at-if1 .if1 .taken e);
+    }
+
+advance-requires : tie.Need-advance-requires
+advance-requires c κs = search needs
+
+returns-2 : tie.Need-returns-2
+returns-2 c = record { refused = λ h. absurd (h (c .before .if1 .left)); spelled = λ e. refl; behind = λ e. c .advance .ensures }
+
+pub put-told-spec : {M : Type 1} → statement M
+put-told-spec =
+    tie.close
+    (tie.spec
+    put8-requires
+    put-field-requires
+    put-number-requires
+    same-length
+    returns
+    advance-requires
+    returns-2)

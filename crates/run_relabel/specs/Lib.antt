@@ -1,0 +1,3 @@
+pub mod AnswerPut
+pub mod Spelled
+pub mod Answered

@@ -1,0 +1,126 @@
+// The programs `writes` and `write_rooms`: stored tables come from standard input, one a line in hexadecimal digits, and each is
+// answered by number, place and length, and its line in such digits, `-` where there is none or it is empty. Lines end at line feeds,
+// and the last may lack its own. Which lines are found is stated by `next_line`, and `one_table` states what is answered to the
+// table that was found; what is written cannot be stated, so `answer_tables` and `all` are proved safe and ending.
+ghost use mathlib.Core.Path.{_≡_};
+ghost use mathlib.Core.Bool.{true};
+ghost use lib.ListN.{length, take, drop};
+ghost use Rattle.answers.specs.Delivered.{answered};
+ghost use Rattle.run_writes.specs.Answered.{hexOf, roomIn, answerTo, Written, Answered};
+use answers::Answer;
+use answers::MAX_LINE;
+use answers::refuse;
+use io_answers::put_answer;
+use io_hex::is_hex;
+use io_hex::put_unhexed;
+use io_lines::Stream;
+use io_lines::next_line;
+use io_lines::room;
+use io_parts::behind;
+use io_parts::stretch;
+use numbers::read_number;
+use put_bytes::clear;
+use run_program::finish;
+use write_table::write_by;
+
+// One byte more than the header of a table can name as its length, so that what is cut to so many bytes is no table either.
+pub const TABLE: usize = 65536;
+
+// Half of the buffer holds the digits of so many bytes.
+const BUFFER: usize = 4 * TABLE;
+
+// The longest answer: three numbers of at most 20 digits, each with a blank; the line; a line feed.
+const ANSWER: usize = 64 + 2 * MAX_LINE;
+
+// All tables, for the program of this name. Where they are sized, each stands behind the length of its output, a number of at most 4,096, and a blank; else the
+// output is as long as a line may be.
+pub fn answer_tables(name: &[u8], sized: bool) {
+    let machine = shape::machine();
+    let mut buf = [0u8; BUFFER];
+    let mut out = io::large_buffer();
+    let mut table = [0u8; TABLE];
+    let mut line = [0u8; MAX_LINE];
+    all(
+        name,
+        &machine,
+        &mut buf,
+        &mut out,
+        &mut table,
+        &mut line,
+        sized,
+    );
+}
+
+// Table after table, until none comes. A proved loop has to end, so it counts down from a number that no run uses up.
+fn all(
+    name: &[u8],
+    machine: &[u8],
+    buf: &mut [u8],
+    out: &mut [u8],
+    table: &mut [u8],
+    line: &mut [u8],
+    sized: bool,
+) {
+    let mut s = next_line(buf, out, Stream::begin());
+    let mut turns = u64::MAX;
+    while turns > 0 {
+        if !s.found {
+            finish(name, out, s);
+            return;
+        }
+        let said = one_table(machine, buf, out, table, line, s, sized);
+        s = next_line(buf, out, said);
+        turns -= 1;
+    }
+}
+
+// The table that was found is answered, behind the answers that wait.
+fn one_table(
+    machine: &[u8],
+    buf: &[u8],
+    out: &mut [u8],
+    table: &mut [u8],
+    line: &mut [u8],
+    s: Stream,
+    sized: bool,
+) -> Stream
+    ensures { λ r. ⌜ Answered (answerTo (now (machine .entry)) sized (take (s .len) (drop (s .from) (now (buf .entry)))) (length (now (table .entry))) (length (now (line .entry)))) s (now (out .entry)) (now (out .exit)) r ⌝ }
+{
+    let t = room(out, s, ANSWER);
+    let asked = stretch(buf, s.from, s.len);
+    let a = write_one(machine, asked, table, line, sized);
+    let end = put_answer(out, t.waiting, a, line);
+    t.answered(end)
+}
+
+// What is asked, sized or not.
+fn write_one(machine: &[u8], asked: &[u8], table: &mut [u8], line: &mut [u8], sized: bool) -> Answer
+    ensures { λ r. ⌜ Written (roomIn sized (now (asked .entry)) (length (now (line .entry)))) (answerTo (now (machine .entry)) sized (now (asked .entry)) (length (now (table .entry))) (length (now (line .entry)))) (now (line .entry)) (now (line .exit)) r ⌝ }
+{
+    if sized {
+        return write_sized(machine, asked, table, line);
+    }
+    write_hex(machine, asked, table, line)
+}
+
+// The digits behind a number and a blank, into so many bytes.
+fn write_sized(machine: &[u8], asked: &[u8], table: &mut [u8], line: &mut [u8]) -> Answer
+    ensures { λ r. ⌜ Written (roomIn true (now (asked .entry)) (length (now (line .entry)))) (answerTo (now (machine .entry)) true (now (asked .entry)) (length (now (table .entry))) (length (now (line .entry)))) (now (line .entry)) (now (line .exit)) r ⌝ }
+{
+    let n = read_number(asked);
+    let digits = stretch(stretch(asked, n.len, asked.len()), 1, asked.len());
+    let bytes = behind(n.value as usize, 0, line.len());
+    write_hex(machine, digits, table, &mut line[..bytes])
+}
+
+// What no digits spell is no table: the line holds zeros then, as it does after every refusal.
+fn write_hex(machine: &[u8], digits: &[u8], table: &mut [u8], line: &mut [u8]) -> Answer
+    ensures { λ r. ⌜ answered r (now (line .exit)) ≡ hexOf (now (machine .entry)) (now (digits .entry)) (length (now (table .entry))) (length (now (line .entry))) ⌝ }
+{
+    if !is_hex(digits) {
+        clear(line);
+        return refuse(9, 0);
+    }
+    let n = put_unhexed(table, 0, digits);
+    write_by(machine, stretch(table, 0, n), line)
+}

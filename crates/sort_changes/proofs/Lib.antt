@@ -1,0 +1,13 @@
+pub mod Steps
+pub mod Grown
+pub mod Gathers
+pub mod Alone
+pub mod Spells
+pub mod SlotHolds
+pub mod SlotsInserted
+pub mod Sections
+pub mod Rows
+pub mod StoredChanges
+pub mod Respelled
+pub mod Fits
+pub mod One

@@ -1,9 +1,0 @@
-pub mod Steps
-pub mod Numbers
-pub mod Ions
-pub mod Adducts
-pub mod Records
-pub mod Rests
-pub mod Sections
-pub mod Laws
-pub mod One

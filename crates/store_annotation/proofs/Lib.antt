@@ -1,0 +1,9 @@
+pub mod Steps
+pub mod Numbers
+pub mod Ions
+pub mod Adducts
+pub mod Records
+pub mod Rests
+pub mod Sections
+pub mod StoredAnnotation
+pub mod One

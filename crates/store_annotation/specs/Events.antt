@@ -1,0 +1,61 @@
+-- What an annotation stores in each section, from the bytes that begin with it and what was read of them. Assumes nothing.
+use Prim.Native.Nat.{ℕ, _-_}
+use mathlib.Core.Path.{_≡_}
+use mathlib.Core.Bool.{cond}
+use mathlib.Core.List.{List, [], _∷_, _++_}
+use lib.ListN.{length, take, drop}
+use Rattle.rules.specs.Bytes.{bytes}
+use Rattle.rules.specs.Texts.{startsWith}
+use Rattle.put_formula.specs.Records.{recordsOf}
+use Rattle.store_sections.specs.declared.Cursors.{Cursors}
+use Rattle.store_sections.specs.Pages.{Event, Ran}
+use Rattle.read_ion.specs.declared.IonRead.{IonRead}
+use Rattle.read_isotopes.specs.Records.{filedIsotopes}
+use Rattle.sort_changes.specs.Gathered.{gathered}
+use Rattle.sort_changes.specs.Events.{noKeys, changeEvents}
+use Rattle.read_annotation.specs.declared.Front.{Front}
+use Rattle.read_annotation.specs.declared.Tail.{Tail}
+use Rattle.read_annotation.specs.declared.Parts.{Parts}
+use Rattle.read_annotation.specs.Measured.{behindIon, annotationSize}
+use Rattle.store_annotation.specs.declared.Rows.{Rows}
+use Rattle.store_annotation.specs.declared.Added.{Added}
+use Rattle.store_annotation.specs.declared.Stored.{Stored}
+use Rattle.store_annotation.specs.Records.{recordBytes}
+
+-- the ion's units and its text
+unfoldable pub ionEvents : List ℕ → IonRead → List Event
+ionEvents s x = (4, recordsOf (x .units) (drop (x .start) s)) ∷ (5, take (x .text) (drop 1 (drop (x .start) s))) ∷ []
+
+-- ---- the adduct
+
+unfoldable pub adductCount : List ℕ → ℕ
+adductCount s = cond (startsWith (bytes "[M") s) (length (gathered noKeys (drop 2 s) .slots)) 0
+
+unfoldable pub adductEvents : List ℕ → List Event
+adductEvents s = cond (startsWith (bytes "[M") s) (changeEvents 3 (drop 2 s)) []
+
+pub record StoresAdduct (s d : List ℕ) (c : Cursors) (e : List ℕ) (r : Added) : Type 0 where
+  pub n : r .n ≡ adductCount s
+  pub ran : Ran d c (adductEvents s) e (r .cursors)
+
+-- ---- the annotation, by what is left behind each of its parts
+
+abbrev pub behindLosses : List ℕ → List ℕ
+behindLosses s = drop (gathered noKeys s .at) s
+
+abbrev pub behindIsotopes : List ℕ → List ℕ
+behindIsotopes s = drop (length s - length (filedIsotopes s .rest)) s
+
+-- s1 is left behind the ion, s2 behind the losses, s3 behind the isotopes
+abbrev pub eventsWith : List ℕ → List ℕ → List ℕ → List ℕ → Front → Tail → List Event
+eventsWith s s1 s2 s3 a b =
+    let n : Rows = record { losses = length (gathered noKeys s1 .slots); isotopes = filedIsotopes s2 .known .n; items = adductCount s3 } in
+    ionEvents (drop (a .at) s) (a .ion)
+    ++ (changeEvents 1 s1 ++ ((2, filedIsotopes s2 .known .bytes) ∷ (adductEvents s3 ++ ((0, recordBytes a b n) ∷ []))))
+
+unfoldable pub annotationEvents : List ℕ → Parts → List Event
+annotationEvents s p = eventsWith s (behindIon s p) (behindLosses (behindIon s p)) (behindIsotopes (behindLosses (behindIon s p))) (p .front) (p .tail)
+
+pub record StoresAnnotation (s : List ℕ) (p : Parts) (d : List ℕ) (c : Cursors) (e : List ℕ) (r : Stored) : Type 0 where
+  pub len : r .len ≡ annotationSize s p
+  pub ran : Ran d c (annotationEvents s p) e (r .cursors)

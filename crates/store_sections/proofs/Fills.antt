@@ -1,0 +1,51 @@
+-- Events that store the sections of a table: of none, of one annotation, and of one table after the other. Assumes nothing.
+use Prim.Native.Nat.{ℕ}
+use mathlib.Core.Path.{_≡_, refl, sym, ap, ap₂, _∙_}
+use mathlib.Core.List.{List, [], _∷_, _++_, append-nil}
+use Rattle.lang.specs.Parts.{flat}
+use Rattle.rules.specs.Numbers.{Number}
+use Rattle.rules.specs.Annotations.{Annotation}
+use Rattle.rules.specs.Fields.{Table}
+use Rattle.rules.specs.Stored.{stores, annotationRecord, lossRecord, isotopeRecords, itemRecord, unitRecord, annotationUnits, annotationTexts}
+use Rattle.store_sections.specs.Pages.{Event, bytesOf, parts}
+use Rattle.store_sections.specs.Fills.{bytesIn, Fills}
+use Rattle.store_sections.proofs.Events.{flat-append, bytes-append}
+
+pub fills-none : Fills [] []
+fills-none = record { annotations = refl; losses = refl; isotopes = refl; items = refl; units = refl; text = refl }
+
+-- the events of one annotation
+pub fills-one : {es : List Event} (a : Annotation Number) → bytesOf 0 es ≡ stores (annotationRecord a)
+    → bytesOf 1 es ≡ flat (λ l. stores (lossRecord l)) (a .losses) → bytesOf 2 es ≡ flat (λ x. stores x) (isotopeRecords (a .isotopes))
+    → bytesOf 3 es ≡ flat (λ x. stores (itemRecord x)) (a .adduct) → bytesOf 4 es ≡ flat (λ u. stores (unitRecord u)) (annotationUnits a)
+    → bytesOf 5 es ≡ annotationTexts a → Fills (a ∷ []) es
+fills-one a n l i x u t =
+    record {
+      annotations = n ∙ sym (append-nil (stores (annotationRecord a)));
+      losses = l ∙ ap (flat (λ l. stores (lossRecord l))) (sym (append-nil (a .losses)));
+      isotopes = i ∙ ap (flat (λ x. stores x)) (sym (append-nil (isotopeRecords (a .isotopes))));
+      items = x ∙ ap (flat (λ x. stores (itemRecord x))) (sym (append-nil (a .adduct)));
+      units = u ∙ ap (flat (λ u. stores (unitRecord u))) (sym (append-nil (annotationUnits a)));
+      text = t ∙ sym (append-nil (annotationTexts a));
+    }
+
+-- one after the other
+both : (j : ℕ) (es fs : List Event) {x y z : List ℕ} → bytesOf j es ≡ x → bytesOf j fs ≡ y → z ≡ x ++ y → bytesOf j (es ++ fs) ≡ z
+both j es fs p q r = bytes-append j es fs ∙ ap₂ _++_ p q ∙ sym r
+
+flats : {A B C : Type 0} (g : B → List C) (h : A → List B) (xs ys : List A) → flat g (flat h (xs ++ ys)) ≡ flat g (flat h xs) ++ flat g (flat h ys)
+flats g h xs ys = ap (flat g) (flat-append h xs ys) ∙ flat-append g (flat h xs) (flat h ys)
+
+pub fills-then : {t u : Table} {es fs : List Event} → Fills t es → Fills u fs → Fills (t ++ u) (es ++ fs)
+fills-then {t} {u} {es} {fs} a b =
+    record {
+      annotations = both 0 es fs (a .annotations) (b .annotations) (flat-append (λ a. stores (annotationRecord a)) t u);
+      losses = both 1 es fs (a .losses) (b .losses) (flats (λ l. stores (lossRecord l)) (λ a. a .losses) t u);
+      isotopes = both 2 es fs (a .isotopes) (b .isotopes) (flats (λ x. stores x) (λ a. isotopeRecords (a .isotopes)) t u);
+      items = both 3 es fs (a .items) (b .items) (flats (λ x. stores (itemRecord x)) (λ a. a .adduct) t u);
+      units = both 4 es fs (a .units) (b .units) (flats (λ u. stores (unitRecord u)) annotationUnits t u);
+      text = both 5 es fs (a .text) (b .text) (flat-append annotationTexts t u);
+    }
+
+pub fills-parts : {t : Table} {es : List Event} → Fills t es → parts es ≡ bytesIn t
+fills-parts f = λ i. f .annotations i ∷ f .losses i ∷ f .isotopes i ∷ f .items i ∷ f .units i ∷ f .text i ∷ []

@@ -1,0 +1,10 @@
+pub mod Others
+pub mod Events
+pub mod StoreLoop
+pub mod Sheets
+pub mod Page
+pub mod Places
+pub mod Headers
+pub mod Fills
+pub mod Tables
+pub mod One

@@ -1,0 +1,21 @@
+-- Events that store the sections of a table. Assumes nothing.
+use mathlib.Core.Path.{_≡_}
+use mathlib.Core.List.{List, map}
+use Prim.Native.Nat.{ℕ}
+use Rattle.lang.specs.Parts.{flat}
+use Rattle.rules.specs.Fields.{Table}
+use Rattle.rules.specs.Stored.{stores, annotationRecord, lossRecord, isotopeRecords, itemRecord, unitRecord, annotationUnits, annotationTexts, sections}
+use Rattle.store_sections.specs.Pages.{Event, bytesOf}
+
+-- the bytes of each section of a table
+abbrev pub bytesIn : Table → List (List ℕ)
+bytesIn t = map (λ s. s .bytes) (sections t)
+
+-- each section gets its bytes, in any order of the sections
+pub record Fills (t : Table) (es : List Event) : Type 0 where
+  pub annotations : bytesOf 0 es ≡ flat (λ a. stores (annotationRecord a)) t
+  pub losses : bytesOf 1 es ≡ flat (λ l. stores (lossRecord l)) (flat (λ a. a .losses) t)
+  pub isotopes : bytesOf 2 es ≡ flat (λ x. stores x) (flat (λ a. isotopeRecords (a .isotopes)) t)
+  pub items : bytesOf 3 es ≡ flat (λ x. stores (itemRecord x)) (flat (λ a. a .adduct) t)
+  pub units : bytesOf 4 es ≡ flat (λ u. stores (unitRecord u)) (flat annotationUnits t)
+  pub text : bytesOf 5 es ≡ flat annotationTexts t

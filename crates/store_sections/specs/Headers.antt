@@ -1,0 +1,75 @@
+-- The header of a stored table, from how many there are in each section. Assumes nothing.
+use Prim.Native.Nat.{ℕ, _+_, _*_, min}
+use mathlib.Core.Path.{_≡_}
+use mathlib.Core.List.{List, [], _∷_}
+use lib.ListN.{length}
+use Rattle.lang.specs.Parts.{flat}
+use Rattle.rules.specs.Fields.{Table}
+use Rattle.rules.specs.Stored.{Field, u16, stores, isotopeRecords, annotationUnits, annotationTexts, edition, headerSize}
+use Rattle.put_bytes.specs.Puts.{maxPlace, Put}
+use Rattle.store_sections.specs.declared.Cursors.{Cursors}
+use Rattle.store_sections.specs.declared.Counts.{Counts}
+
+-- the place behind n things of a size, or the largest
+abbrev pub behind : ℕ → ℕ → ℕ → ℕ
+behind p n size = min (p + n * size) maxPlace
+
+-- where the sections begin: a loss, an adduct item and a unit have 6 bytes, an annotation 36, an isotope 8, a byte of text 1
+abbrev pub lossesAt : Counts → ℕ
+lossesAt n = behind headerSize (n .annotations) 36
+
+abbrev pub isotopesAt : Counts → ℕ
+isotopesAt n = behind (lossesAt n) (n .losses) 6
+
+abbrev pub itemsAt : Counts → ℕ
+itemsAt n = behind (isotopesAt n) (n .isotopes) 8
+
+abbrev pub unitsAt : Counts → ℕ
+unitsAt n = behind (itemsAt n) (n .items) 6
+
+abbrev pub textAt : Counts → ℕ
+textAt n = behind (unitsAt n) (n .units) 6
+
+abbrev pub endAt : Counts → ℕ
+endAt n = behind (textAt n) (n .text) 1
+
+abbrev pub startsOf : Counts → Cursors
+startsOf n =
+    record {
+      annotations = headerSize;
+      losses = lossesAt n;
+      isotopes = isotopesAt n;
+      items = itemsAt n;
+      units = unitsAt n;
+      text = textAt n;
+    }
+
+abbrev pub pair : ℕ → ℕ → List ℕ
+pair a b = stores (u16 a ∷ u16 b ∷ [])
+
+-- edition and length, then of each section how many and where
+abbrev pub headerFields : Counts → Cursors → ℕ → List Field
+headerFields n c end =
+    u16 edition ∷ u16 end ∷ u16 (n .annotations) ∷ u16 (c .annotations)
+    ∷ u16 (n .losses) ∷ u16 (c .losses) ∷ u16 (n .isotopes) ∷ u16 (c .isotopes)
+    ∷ u16 (n .items) ∷ u16 (c .items) ∷ u16 (n .units) ∷ u16 (c .units) ∷ u16 (n .text) ∷ u16 (c .text) ∷ []
+
+abbrev pub headerBytes : Counts → List ℕ
+headerBytes n = stores (headerFields n (startsOf n) (endAt n))
+
+-- the header is stored over d, which is then e; the cursors stand where the sections begin
+pub record Headed (d : List ℕ) (n : Counts) (e : List ℕ) (c : Cursors) : Type 0 where
+  pub put : Put d 0 (headerBytes n) e headerSize
+  pub starts : c ≡ startsOf n
+
+-- how many there are in each section of a table
+abbrev pub countsOf : Table → Counts
+countsOf t =
+    record {
+      annotations = length t;
+      losses = length (flat (λ a. a .losses) t);
+      isotopes = length (flat (λ a. isotopeRecords (a .isotopes)) t);
+      items = length (flat (λ a. a .adduct) t);
+      units = length (flat annotationUnits t);
+      text = length (flat annotationTexts t);
+    }

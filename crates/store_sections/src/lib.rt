@@ -1,0 +1,121 @@
+// The page of a stored table: six sections, each with a cursor of its own, and the header that says where they begin.
+ghost use mathlib.Core.Path.{_≡_};
+ghost use Rattle.put_bytes.specs.Puts.{Put};
+ghost use Rattle.store_sections.specs.Pages.{at, moved};
+ghost use Rattle.store_sections.specs.Headers.{behind, startsOf, endAt, pair, Headed};
+
+// Where the next byte of each section goes.
+pub struct Cursors {
+    pub annotations: usize,
+    pub losses: usize,
+    pub isotopes: usize,
+    pub items: usize,
+    pub units: usize,
+    pub text: usize,
+}
+
+// How many there are in each section.
+pub struct Counts {
+    pub annotations: usize,
+    pub losses: usize,
+    pub isotopes: usize,
+    pub items: usize,
+    pub units: usize,
+    pub text: usize,
+}
+
+// The cursor of section j, in the order of the sections; that of a section that there is not stands behind every output.
+pub fn cursor(c: Cursors, j: usize) -> usize
+    ensures { λ r. ⌜ r ≡ at j c ⌝ }
+{
+    match j {
+        0 => c.annotations,
+        1 => c.losses,
+        2 => c.isotopes,
+        3 => c.items,
+        4 => c.units,
+        5 => c.text,
+        _ => usize::MAX,
+    }
+}
+
+// The cursors, with that of section j set to r.
+pub fn with_cursor(c: Cursors, j: usize, r: usize) -> Cursors
+    ensures { λ k. ⌜ k ≡ moved j r c ⌝ }
+{
+    let mut k = c;
+    match j {
+        0 => k.annotations = r,
+        1 => k.losses = r,
+        2 => k.isotopes = r,
+        3 => k.items = r,
+        4 => k.units = r,
+        5 => k.text = r,
+        _ => {}
+    }
+    k
+}
+
+// The place behind `n` things of a size, or the largest place where that would not fit.
+pub fn place_behind(at: usize, n: usize, size: usize) -> usize
+    ensures { λ r. ⌜ r ≡ behind at n size ⌝ }
+{
+    if size < 1 {
+        return at;
+    }
+    if (usize::MAX - at) / size < n {
+        return usize::MAX;
+    }
+    at + n * size
+}
+
+// Where each section begins.
+pub fn starts(n: Counts) -> Cursors
+    ensures { λ r. ⌜ r ≡ startsOf n ⌝ }
+{
+    let losses = place_behind(28, n.annotations, 36);
+    let isotopes = place_behind(losses, n.losses, 6);
+    let items = place_behind(isotopes, n.isotopes, 8);
+    let units = place_behind(items, n.items, 6);
+    let text = place_behind(units, n.units, 6);
+    Cursors {
+        annotations: 28,
+        losses: losses,
+        isotopes: isotopes,
+        items: items,
+        units: units,
+        text: text,
+    }
+}
+
+// How many bytes the whole table has.
+pub fn size_of(n: Counts) -> usize
+    ensures { λ r. ⌜ r ≡ endAt n ⌝ }
+{
+    let c = starts(n);
+    place_behind(c.text, n.text, 1)
+}
+
+// Two numbers of two bytes.
+fn put_pair(out: &mut [u8], at: usize, a: usize, b: usize) -> usize
+    ensures { λ r. ⌜ Put (now (out .entry)) at (pair a b) (now (out .exit)) r ⌝ }
+{
+    let next = put_bytes::put_le(out, at, a as u64, 2);
+    put_bytes::put_le(out, next, b as u64, 2)
+}
+
+// The header: edition and length, then of each section how many there are and where it begins.
+pub fn put_header(out: &mut [u8], n: Counts) -> Cursors
+    ensures { λ r. ⌜ Headed (now (out .entry)) n (now (out .exit)) r ⌝ }
+{
+    let c = starts(n);
+    let end = place_behind(c.text, n.text, 1);
+    let mut at = put_pair(out, 0, 1, end);
+    at = put_pair(out, at, n.annotations, c.annotations);
+    at = put_pair(out, at, n.losses, c.losses);
+    at = put_pair(out, at, n.isotopes, c.isotopes);
+    at = put_pair(out, at, n.items, c.items);
+    at = put_pair(out, at, n.units, c.units);
+    put_pair(out, at, n.text, c.text);
+    c
+}

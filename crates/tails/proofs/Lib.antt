@@ -1,4 +1,0 @@
-pub mod Measures
-pub mod Devs
-pub mod Laws
-pub mod Within

@@ -1,9 +1,0 @@
-pub mod Parts
-pub mod Marks
-pub mod Measures
-pub mod Turns
-pub mod Rows
-pub mod Spelled
-pub mod Limits
-pub mod Ends
-pub mod Formulas

@@ -1,0 +1,20 @@
+// Each line of standard input has the form `N LINE`, and LINE is read into an output of N bytes.
+use run_program::was_asked;
+
+fn main() {
+    if was_asked(
+        b"rooms",
+        b"rooms makes a table of each mzPAF line, with an output of the length that is asked for.
+
+Standard input has on each line a number of bytes (at most 21,340), a space and a line of annotations.
+Lines end at line feeds, and the last may lack its own.
+
+Standard output has one answer a line: the number of refusal, the place, how many bytes the table has, and the
+table in hexadecimal digits, `-` where there is none.
+",
+        true,
+    ) {
+        return;
+    }
+    run_reads::answer_lines(b"rooms", true);
+}

@@ -1,0 +1,20 @@
+// Each line of standard input has the form `N TABLE`, and the table, in hexadecimal digits, is written into an output of N bytes.
+use run_program::was_asked;
+
+fn main() {
+    if was_asked(
+        b"write_rooms",
+        b"write_rooms spells each stored table as an mzPAF line, with an output of the length that is asked for.
+
+Standard input has on each line a number of bytes (at most 4,096), a space and a stored table in hexadecimal
+digits. Lines end at line feeds, and the last may lack its own.
+
+Standard output has one answer a line: the number of refusal, the place, how many bytes the line has, and the
+line in hexadecimal digits, `-` where there is none or it is empty.
+",
+        true,
+    ) {
+        return;
+    }
+    run_writes::answer_tables(b"write_rooms", true);
+}

@@ -1,0 +1,151 @@
+-- A line reads to bytes exactly where these are a table and the line is one of its spellings. Assumes nothing.
+use Prim.Native.Nat.{ℕ, _+_, _-_, _≤_}
+use mathlib.Core.Path.{_≡_, refl, sym, ap, _∙_, subst}
+use mathlib.Core.Bool.{true}
+use mathlib.Core.List.{List, _++_}
+use native.Mathlib.Omega.{arith}
+use lib.Dec.{eqb}
+use lib.ListN.{length, take, replicate}
+use lib.Seq.{take-append-seam}
+use borrow.Author.Tests.{eqb-true}
+use Rattle.lang.specs.Parts.{Opt, silent, written}
+use Rattle.lang.specs.Mark.{Kept}
+use Rattle.lang.specs.Order.{Each}
+use Rattle.lang.proofs.Tests.{is-t, t-is}
+use Rattle.lang.proofs.Deriv.{and-0, and-1}
+use Rattle.rules.specs.Lines.{Spelling, lineText, Shape, Misshapen}
+use Rattle.rules.specs.Fields.{Table, Says}
+use Rattle.rules.specs.Limits.{lineMarks}
+use Rattle.rules.specs.House.{firstBreach, firstExcess}
+use Rattle.rules.specs.Preferred.{preferred, preferredSpelling}
+use Rattle.rules.specs.Stored.{stored}
+use Rattle.rules.specs.Answers.{Answer, gives, Delivers, no-room, done, ReadsSum, ReadsRules, ReadsSpelling, Sound, Holds}
+use Rattle.rules.proofs.OneShape.{judged-shape, judged-misshapen}
+use Rattle.rules.proofs.FirstBroken.{wins-number}
+use Rattle.rules.proofs.OneShape.{misshapen-no-shape}
+use Rattle.rules.proofs.OneTable as OneTable
+use Rattle.put_bytes.specs.Puts.{maxPlace}
+use Rattle.shape.specs.declared.Verdict.{Verdict}
+use Rattle.shape.specs.declared.Verdict.the-variants.{Fine, Short, Stray}
+use Rattle.shape.specs.Verdicts.{JudgedBy}
+use Rattle.read_line.specs.Readings.{spelledOver, anyOver}
+use Rattle.shape.proofs.OneSpelling.{one-spelling}
+use Rattle.read_line.proofs.Right.{spelled-right}
+use Rattle.read_line.specs.Same.{sameBytes, allBytes}
+use Rattle.read_line.specs.Back.{isRead, readsTo, zeros}
+use Rattle.rules.proofs.PreferredSpells.{said-in-order, preferred-says}
+use Rattle.write_table.proofs.Low.{line-bytes}
+use Rattle.write_table.proofs.Prefers.{preferred-kept, preferred-rules, preferred-sum}
+use Rattle.read_line.proofs.Same.{same-is, same-refl}
+
+written-silent : {p : ℕ} → _≡_ {A = Opt ℕ} (written p) silent → ⊥
+written-silent {p} e = subst There e tt
+  where
+    There : Opt ℕ → Type 0
+    There silent = ⊥
+    There (written p) = Unit {0}
+
+-- ---- what is read: a table, if the number is 0
+
+-- the answer's number is 0: it gives the stored bytes of a table that the spelling says, within limits and rules
+pub record ReadAs (s : Spelling) (room : ℕ) (a : Answer) : Type 0 where
+  pub table : Table
+  pub says : Each Says s table
+  pub limits : Kept (lineMarks s)
+  pub sound : Sound table
+  pub is : a ≡ gives room (stored table)
+
+delivered : (s : Spelling) (room : ℕ) (t : Table) → Each Says s t → Kept (lineMarks s) → Sound t → {a : Answer} → Delivers room (stored t) a → a .number ≡ 0 → ReadAs s room a
+delivered s room t y k w (no-room h) e = absurd (omega arith)
+delivered s room t y k w (done h) e = record { table = t; says = y; limits = k; sound = w; is = refl }
+
+sum-as : (s : Spelling) (room : ℕ) → Kept (lineMarks s) → firstBreach 0 s ≡ silent → {a : Answer} → ReadsSum s room a → a .number ≡ 0 → ReadAs s room a
+sum-as s room k r (ReadsSum.excess p z) e = absurd (omega arith)
+sum-as s room k r (ReadsSum.kept z t y d) e = delivered s room t y k (record { spelling = s; says = y; limits = k; rules = r; sum = z }) d e
+
+rules-as : (s : Spelling) (room : ℕ) → Kept (lineMarks s) → {a : Answer} → ReadsRules s room a → a .number ≡ 0 → ReadAs s room a
+rules-as s room k (ReadsRules.breach p z) e = absurd (omega arith)
+rules-as s room k (ReadsRules.kept z r) e = sum-as s room k z r e
+
+pub spelling-as : (s : Spelling) (room : ℕ) {a : Answer} → ReadsSpelling s room a → a .number ≡ 0 → ReadAs s room a
+spelling-as s room (ReadsSpelling.limit m w) e = absurd (omega (arith, wins-number s m w))
+spelling-as s room (ReadsSpelling.kept k r) e = rules-as s room k r e
+
+-- ---- what is read of the preferred spelling of a sound table: the table
+
+module _ (t : Table) (kept : Kept (lineMarks (preferredSpelling t))) (rules : firstBreach 0 (preferredSpelling t) ≡ silent)
+    (sum : firstExcess 0 0 (preferredSpelling t) ≡ silent) (says : Each Says (preferredSpelling t) t) (room : ℕ) (fits : length (stored t) ≤ room) where
+  abbrev s : Spelling
+  s = preferredSpelling t
+
+  delivers-it : {a : Answer} (u : Table) → u ≡ t → Delivers room (stored u) a → a ≡ gives room (stored t)
+  delivers-it u q (no-room h) = absurd (omega (arith, ap (λ (x : Table). length (stored x)) q))
+  delivers-it u q (done h) = ap (λ (x : Table). gives room (stored x)) q
+
+  sum-it : {a : Answer} → ReadsSum s room a → a ≡ gives room (stored t)
+  sum-it (ReadsSum.excess p z) = absurd (written-silent (sym z ∙ sum))
+  sum-it (ReadsSum.kept z u y d) = delivers-it u (OneTable.one-table one-spelling y says) d
+
+  rules-it : {a : Answer} → ReadsRules s room a → a ≡ gives room (stored t)
+  rules-it (ReadsRules.breach p z) = absurd (written-silent (sym z ∙ rules))
+  rules-it (ReadsRules.kept z r) = sum-it r
+
+  spelling-it : {a : Answer} → ReadsSpelling s room a → a ≡ gives room (stored t)
+  spelling-it (ReadsSpelling.limit m w) = absurd (kept m (w .is-in) (w .broken))
+  spelling-it (ReadsSpelling.kept k r) = rules-it r
+
+-- ---- shape
+
+pub no-number : {line : List ℕ} {n p : ℕ} → Misshapen line n p → n ≡ 0 → ⊥
+no-number (Misshapen.stray p x) e = omega arith
+no-number (Misshapen.short x y) e = omega arith
+
+shape-fine : (line : List ℕ) (v : Verdict) → JudgedBy line v → Shape line → v ≡ Fine
+shape-fine line Fine j x = refl
+shape-fine line Short j x = absurd (misshapen-no-shape (judged-misshapen j (λ e. omega arith)) x)
+shape-fine line (Stray p) j x = absurd (misshapen-no-shape (judged-misshapen j (λ e. omega arith)) x)
+
+-- ---- for callers: a line reads to the bytes
+
+pub take-given : (room : ℕ) (w : List ℕ) → take (length w) (w ++ replicate (room - length w) 0) ≡ w
+take-given room w = take-append-seam w (replicate (room - length w) 0)
+
+-- the line, read again, is a table's: these bytes are one
+module _ (w table : List ℕ) (room : ℕ) (small : room ≤ maxPlace) (fits : length w ≤ maxPlace) where
+  read-as : (v : Verdict) → JudgedBy w v → anyOver (zeros room) v w .number ≡ 0
+      → (t : Table) × (Sound t × (take (anyOver (zeros room) v w .size) (anyOver (zeros room) v w .out) ≡ stored t))
+  read-as Fine j e =
+      let x = judged-shape j refl in
+      let s = x .0 in
+      let q : lineText s ≡ w = x .1 in
+      let r = subst (λ (l : List ℕ). ReadsSpelling s room (spelledOver (zeros room) l)) q (spelled-right room small s (omega (arith, ap length q))) in
+      let y = spelling-as s room r e in
+      let t = y .table in
+      (t, (y .sound, ap (λ (a : Answer). take (a .size) (a .out)) (y .is) ∙ take-given room (stored t)))
+  read-as Short j e = absurd (omega arith)
+  read-as (Stray p) j e = absurd (omega arith)
+
+  pub reads-holds : (v : Verdict) → (allBytes w ≡ true → JudgedBy w v) → readsTo v (zeros room) w table ≡ true → (t : Table) × Holds table t
+  unfolding readsTo
+  reads-holds v j e =
+      let a = anyOver (zeros room) v w in
+      let b = t-is (allBytes w) (and-0 (allBytes w) (isRead a table) (is-t e)) in
+      let i = and-1 (allBytes w) (isRead a table) (is-t e) in
+      let n = eqb-true (a .number) 0 (t-is (eqb (a .number) 0) (and-0 (eqb (a .number) 0) (sameBytes (take (a .size) (a .out)) table) i)) in
+      let m = same-is (take (a .size) (a .out)) table (t-is (sameBytes (take (a .size) (a .out)) table) (and-1 (eqb (a .number) 0) (sameBytes (take (a .size) (a .out)) table) i)) in
+      let x = read-as v (j b) n in
+      (x .0, record { sound = x .1 .0; is = sym (x .1 .1) ∙ m })
+
+-- the preferred line of a table reads to its bytes
+pub holds-reads : (t : Table) → Sound t → (room : ℕ) → room ≤ maxPlace → length (stored t) ≤ room → length (preferred t) ≤ maxPlace
+    → (v : Verdict) → (allBytes (preferred t) ≡ true → JudgedBy (preferred t) v) → readsTo v (zeros room) (preferred t) (stored t) ≡ true
+unfolding readsTo
+holds-reads t sound room small fits short v j =
+    let s = preferredSpelling t in
+    let b = line-bytes s in
+    let f = shape-fine (preferred t) v (j b) (s, refl) in
+    let g : spelledOver (zeros room) (preferred t) ≡ gives room (stored t) =
+    spelling-it t (preferred-kept t sound) (preferred-rules t sound) (preferred-sum t sound) (preferred-says (said-in-order (sound .says))) room fits (spelled-right room small s short) in
+    let a : anyOver (zeros room) v (preferred t) ≡ gives room (stored t) = ap (λ (v : Verdict). anyOver (zeros room) v (preferred t)) f ∙ g in
+    let i : isRead (gives room (stored t)) (stored t) ≡ true = ap (λ (l : List ℕ). sameBytes l (stored t)) (take-given room (stored t)) ∙ same-refl (stored t) in
+    rw (b, a) i

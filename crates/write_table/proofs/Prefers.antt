@@ -1,0 +1,104 @@
+-- The preferred spelling of a table that some line spells within limits and house rules is within them too: it has the same numbers, or
+-- leaves out a 1, and as many of everything. Assumes nothing.
+use Prim.Native.Nat.{ℕ, _+_}
+use mathlib.Core.Path.{_≡_, refl, sym, ap, ap₂, _∙_, subst}
+use mathlib.Core.Bool.{Bool, true, false, not, _&&_}
+use mathlib.Core.List.{List, [], _∷_, map}
+use lib.Dec.{T, leb}
+use Rattle.lang.specs.Parts.{Opt, silent, written}
+use Rattle.lang.specs.Mark.{Kept}
+use Rattle.lang.specs.Order.{Perm, same, swap, keep, then, Each, none, next}
+use Rattle.rules.specs.Numbers.{Number}
+use Rattle.rules.specs.Decimals.{Decimal}
+use Rattle.rules.specs.Formulas.{Written}
+use Rattle.rules.specs.Ions.{Ion, series, internal, immonium, precursor, reference, named, composed, smiles, unknown, ionMap}
+use Rattle.rules.specs.Adducts.{itemMap}
+use Rattle.rules.specs.Annotations.{Annotation, Deviation, annotationMap}
+use Rattle.rules.specs.Lines.{Spelling}
+use Rattle.rules.specs.Preferred.{shortened, preferredSpelling}
+use Rattle.rules.specs.Fields.{Table, filled, SameFields, Says}
+use Rattle.rules.specs.Limits.{lineMarks}
+use Rattle.rules.specs.House.{isEmpty, ionRule, deviationRule, confidenceOf, one, annotationRules, firstBreach, firstExcess}
+use Rattle.rules.specs.Answers.{Sound}
+use Rattle.rules.proofs.FitAnnotations.{passed}
+use Rattle.write_table.proofs.Limited.{table-within}
+use Rattle.write_table.proofs.Unbroken.{line-kept}
+
+-- ---- limits
+
+pub preferred-kept : (t : Table) → Sound t → Kept (lineMarks (preferredSpelling t))
+preferred-kept t s = line-kept t (table-within t s)
+
+-- ---- rules for one annotation do not look at free counts, nor at the order of losses and items
+
+ion-rule-map : {A B : Type 0} (f : A → B) (x : Ion A) (adduct : Bool) → ionRule (ionMap f x) adduct ≡ ionRule x adduct
+ion-rule-map f (series s n t) adduct = refl
+ion-rule-map f (internal m n t) adduct = refl
+ion-rule-map f (immonium a m) adduct = refl
+ion-rule-map f precursor adduct = refl
+ion-rule-map f (reference n) adduct = refl
+ion-rule-map f (named t) adduct = refl
+ion-rule-map f (composed x) adduct = refl
+ion-rule-map f (smiles t) adduct = refl
+ion-rule-map f (unknown n) adduct = refl
+
+empty-map : {A B : Type 0} (f : A → B) (xs : List A) → isEmpty (map f xs) ≡ isEmpty xs
+empty-map f [] = refl
+empty-map f (x ∷ xs) = refl
+
+empty-perm : {A : Type 0} {l m : List A} → Perm l m → isEmpty l ≡ isEmpty m
+empty-perm same = refl
+empty-perm swap = refl
+empty-perm (keep p) = refl
+empty-perm (then p q) = empty-perm p ∙ empty-perm q
+
+-- the rules, of what they look at
+abbrev rulesOf : {Free : Type 0} → Ion Free → Bool → Opt Deviation → Opt Decimal → Bool
+rulesOf x empty d c = ionRule x (not empty) && (deviationRule d && leb (confidenceOf c) one)
+
+rules-map : {A B : Type 0} (f : A → B) (a : Annotation A) → annotationRules (annotationMap f a) ≡ annotationRules a
+rules-map f a =
+    ap (λ (e : Bool). rulesOf (ionMap f (a .ion)) e (a .deviation) (a .confidence)) (empty-map (itemMap f) (a .adduct))
+    ∙ ap (λ (r : Bool). r && (deviationRule (a .deviation) && leb (confidenceOf (a .confidence)) one))
+    (ion-rule-map f (a .ion) (not (isEmpty (a .adduct))))
+
+rules-same : {a b : Annotation Number} → SameFields a b → annotationRules a ≡ annotationRules b
+rules-same {a} {b} e =
+    ap (λ (x : Ion Number). rulesOf x (isEmpty (a .adduct)) (a .deviation) (a .confidence)) (e .ion)
+    ∙ ap (λ (x : Bool). rulesOf (b .ion) x (a .deviation) (a .confidence)) (empty-perm (e .adduct))
+    ∙ ap (λ (x : Opt Deviation). rulesOf (b .ion) (isEmpty (b .adduct)) x (a .confidence)) (e .deviation)
+    ∙ ap (λ (x : Opt Decimal). rulesOf (b .ion) (isEmpty (b .adduct)) (b .deviation) x) (e .confidence)
+
+rules-kept : {a : Annotation Written} {b : Annotation Number} → Says a b → annotationRules a ≡ annotationRules (annotationMap shortened b)
+rules-kept {a} {b} s = sym (rules-map filled a) ∙ rules-same (s .fields) ∙ sym (rules-map shortened b)
+
+-- ---- a search for a place
+
+passes : (x : Bool) (more : Opt ℕ) (at : ℕ) → T x → more ≡ silent → _≡_ {A = Opt ℕ} (elim x [ true ↦ more | false ↦ written at ]) silent
+passes true more at t e = e
+passes false more at t e = absurd t
+
+rules-each : {s : Spelling} {t : Table} → Each Says s t → (p q : ℕ) → firstBreach p s ≡ silent → firstBreach q (preferredSpelling t) ≡ silent
+rules-each none p q e = refl
+rules-each (next {a = a} {b = b} {l = s} {m = t} r x) p q e =
+    let h = passed (annotationRules a) (firstBreach _ s) p e in
+    passes (annotationRules (annotationMap shortened b)) (firstBreach _ (preferredSpelling t)) q
+    (subst T (rules-kept r) (h .0)) (rules-each x _ _ (h .1))
+
+pub preferred-rules : (t : Table) → Sound t → firstBreach 0 (preferredSpelling t) ≡ silent
+preferred-rules t s = rules-each (s .says) 0 0 (s .rules)
+
+-- ---- the sum of the confidences, which are the same one by one
+
+sum-each : {s : Spelling} {t : Table} → Each Says s t → (m n p q : ℕ) → m ≡ n
+    → firstExcess m p s ≡ silent → firstExcess n q (preferredSpelling t) ≡ silent
+sum-each none m n p q i e = refl
+sum-each (next {a = a} {b = b} {l = s} {m = t} r x) m n p q i e =
+    let sum : m + confidenceOf (a .confidence) ≡ n + confidenceOf (b .confidence)
+    = ap₂ (λ (y z : ℕ). y + z) i (ap confidenceOf (r .fields .confidence)) in
+    let h = passed (leb (m + confidenceOf (a .confidence)) one) (firstExcess _ _ s) p e in
+    passes (leb (n + confidenceOf (b .confidence)) one) (firstExcess _ _ (preferredSpelling t)) q
+    (subst (λ (y : ℕ). T (leb y one)) sum (h .0)) (sum-each x _ _ _ _ sum (h .1))
+
+pub preferred-sum : (t : Table) → Sound t → firstExcess 0 0 (preferredSpelling t) ≡ silent
+preferred-sum t s = sum-each (s .says) 0 0 0 0 refl (s .sum)

@@ -1,0 +1,46 @@
+-- `write_table::finish` meets its contract: by whether the line reads to the bytes. Assumes nothing.
+use Rattle.write_table.proofs.Found.{found-not, found-held}
+use borrow.Author.Tests.{not-true, not-false}
+use lib.ListN.{length}
+use borrow.Author.Needs.{needs}
+use Rattle.write_table.proofs.finish.Statement.{statement}
+use Rattle.write_table.proofs.finish.Tie as tie
+
+clear-requires : tie.Need-clear-requires
+clear-requires c κs = search needs
+
+refuse-requires : tie.Need-refuse-requires
+refuse-requires c κs = search needs
+
+same-length : tie.Need-same-length
+same-length c = search needs
+
+returns : tie.Need-returns
+returns c =
+    let at-if1 = c .before .before .before .before .before in
+    let at-args = at-if1 .before .before .before in
+    let a = at-args .args in found-not (a .line .now) (length (a .out .now)) (a .held) (not-true _ (at-if1 .if1 .taken)) (c .before .before .before .clear .ensures) (c .refuse .ensures)
+
+write-line-requires : tie.Need-write-line-requires
+write-line-requires c κs = search needs
+
+same-length-2 : tie.Need-same-length-2
+same-length-2 c = search needs
+
+returns-2 : tie.Need-returns-2
+returns-2 c =
+    let at-if1 = c .before .before .before .before in
+    let at-args = at-if1 .before .before .before in
+    let a = at-args .args in found-held (a .line .now) (length (a .out .now)) (a .held) (not-false _ (at-if1 .if1 .left)) (c .before .before .write-line .ensures)
+
+pub finish-spec : {M : Type 1} → statement M
+finish-spec =
+    tie.close
+    (tie.spec
+    clear-requires
+    refuse-requires
+    same-length
+    returns
+    write-line-requires
+    same-length-2
+    returns-2)

@@ -1,0 +1,71 @@
+-- `write_table::write_by` meets its contract: small buffers where they suffice, else large ones. Assumes nothing.
+use Rattle.write_table.proofs.Found.{found-within, printed-past, printed-within, printed-first, written-many, written-large, written-few}
+use Rattle.read_line.specs.Back.{few, zeros}
+use Rattle.print_table.specs.Tables.{printedTable}
+use native.Mathlib.Omega.{arith}
+use mathlib.Core.Path.{_∙_}
+use lib.ListN.{length}
+use borrow.Author.Needs.{needs}
+use Rattle.write_table.proofs.write_by.Statement.{statement}
+use Rattle.write_table.proofs.write_by.Tie as tie
+
+slice-aggregate-print-table : tie.Need-slice-aggregate-print-table
+slice-aggregate-print-table c = search needs
+
+print-table-requires : tie.Need-print-table-requires
+print-table-requires c κs = search needs
+
+write-many-requires : tie.Need-write-many-requires
+write-many-requires c κs = search needs
+
+same-length : tie.Need-same-length
+same-length c = search needs
+
+returns : tie.Need-returns
+returns c = let a = c .before .before .before .before .before .before .before .before .before .before .before .args in written-many (a .machine .now) (a .table .now) (length (a .out .now)) (printed-past {most = few} (c .before .before .before .before .before .before .print-table .ensures) (omega arith) (c .before .before .before .before .if1 .taken)) (c .before .before .write-many .ensures)
+
+write-many-requires-2 : tie.Need-write-many-requires-2
+write-many-requires-2 c κs = search needs
+
+same-length-2 : tie.Need-same-length-2
+same-length-2 c = search needs
+
+returns-2 : tie.Need-returns-2
+returns-2 c = let a = c .before .before .before .before .before .before .before .before .before .before .before .before .args in written-large (a .machine .now) (a .table .now) (length (a .out .now)) (printed-within {most = few} (c .before .before .before .before .before .before .before .print-table .ensures) (omega arith) (c .before .before .before .before .before .if1 .left)) (c .before .before .before .before .if2 .taken) (c .before .before .write-many2 .ensures)
+
+slice-aggregate-first-of : tie.Need-slice-aggregate-first-of
+slice-aggregate-first-of c = search needs
+
+first-of-requires : tie.Need-first-of-requires
+first-of-requires c κs = search needs
+
+reads-to-few-requires : tie.Need-reads-to-few-requires
+reads-to-few-requires c κs = search needs
+
+finish-requires : tie.Need-finish-requires
+finish-requires c κs = search needs
+
+same-length-3 : tie.Need-same-length-3
+same-length-3 c = search needs
+
+returns-3 : tie.Need-returns-3
+returns-3 c = let a = c .before .before .before .before .before .before .before .before .before .before .before .before .before .before .before .args in let p = c .before .before .before .before .before .before .before .before .before .before .print-table .ensures in let h = c .before .before .before .before .before .before .before .before .if1 .left in let w = printed-within {most = few} p (omega arith) h in written-few (a .machine .now) (a .table .now) (length (a .out .now)) w (c .before .before .before .before .before .before .before .if2 .left) (found-within (a .machine .now) few (zeros few) (printedTable (a .table .now)) (a .table .now) (length (a .out .now)) (c .before .before .before .before .before .first-of .ensures ∙ printed-first {most = few} p (omega arith) h) w (c .before .before .before .before .reads-to-few .ensures) (c .before .before .finish .ensures))
+
+pub write-by-spec : {M : Type 1} → statement M
+write-by-spec =
+    tie.close
+    (tie.spec
+    slice-aggregate-print-table
+    print-table-requires
+    write-many-requires
+    same-length
+    returns
+    write-many-requires-2
+    same-length-2
+    returns-2
+    slice-aggregate-first-of
+    first-of-requires
+    reads-to-few-requires
+    finish-requires
+    same-length-3
+    returns-3)
