@@ -1,7 +1,7 @@
 #!/usr/bin/env python3
-"""The cases of the programs `reads` and `rooms`: their inputs, and what the rules say of them in words.
+"""The cases of the programs `reads` and `try_read_sized`: their inputs, and what the rules say of them in words.
 
-    python3 tools/cases.py                   writes crates/reads/stdin and crates/rooms/stdin
+    python3 tools/cases.py                   writes crates/reads/stdin and crates/try_read_sized/stdin
     python3 tools/cases.py --check           holds the stored outputs to what is stated here; prints differences
     python3 tools/cases.py --with PROGRAM    makes the stored outputs by a reader of lines, then checks
 
@@ -600,7 +600,7 @@ def check(made):
     answers = stored("reads", "stdout").split(b"\n")[:-1]
     assert len(answers) == len(lines), (len(answers), len(lines))
     wrong = list(checked_reads(answers))
-    answers = stored("rooms", "stdout").split(b"\n")[:-1]
+    answers = stored("try_read_sized", "stdout").split(b"\n")[:-1]
     assert len(answers) == len(made), (len(answers), len(made))
     for (room, line, expected), answer in zip(made, answers):
         got = tuple(int(n) for n in answer.split(b" ")[:3])
@@ -624,10 +624,10 @@ def main(words):
         return 0 if check(made) else 1
     # the last line lacks its line feed, as it may
     store("reads", "stdin", b"\n".join(lines))
-    store("rooms", "stdin", b"".join(b"%d " % room + line + b"\n" for room, line, _ in made))
+    store("try_read_sized", "stdin", b"".join(b"%d " % room + line + b"\n" for room, line, _ in made))
     if words[:1] == ["--with"]:
         store("reads", "stdout", answers_by(words[1], stored("reads", "stdin")))
-        store("rooms", "stdout", b"".join(answers_by(words[1], line + b"\n", "--out", str(room)) for room, line, _ in made))
+        store("try_read_sized", "stdout", b"".join(answers_by(words[1], line + b"\n", "--out", str(room)) for room, line, _ in made))
         return 0 if check(made) else 1
     return 0
 

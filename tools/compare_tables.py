@@ -7,7 +7,7 @@ OURS is "tools/run writes", a path or words between quotes; OTHER is another wri
 standard input, one a line, and print one answer a line. N (20,000 unless said) tables are made: from fields, with each field at or
 past its bound now and then, or from the stored output of the program `reads`; then bytes, words and whole records are changed,
 swapped, repeated and cut, with the header set right again or not; some have long texts, for lines around their bound. The same S makes
-the same tables. With R, OURS is "tools/run write_rooms", given an output of R bytes for each, and OTHER's words have to say the same. Prints each difference (K of
+the same tables. With R, OURS is "tools/run try_write_sized", given an output of R bytes for each, and OTHER's words have to say the same. Prints each difference (K of
 them, 20 unless said) and how often each number was answered; the exit status is 1 where the answers differ.
 """
 import argparse

@@ -110,13 +110,13 @@ def formula_text(units):
                    for nucleons, atomic, count in units)
 
 
-def piece_text(sign, count, what):
+def change_text(sign, count, what):
     """A loss or an adduct item: `what` is a name in a loss, `electron` in an adduct item, or units."""
     return sign + count_text(count) + (formula_text(what) if isinstance(what, list) else what)
 
 
 def losses_text(a):
-    return "".join(piece_text(sign, count, what if isinstance(what, list) else "[%s]" % what) for sign, count, what in a["losses"])
+    return "".join(change_text(sign, count, what if isinstance(what, list) else "[%s]" % what) for sign, count, what in a["losses"])
 
 
 def isotope_text(sign, what, n, nucleons, atomic):
@@ -124,7 +124,7 @@ def isotope_text(sign, what, n, nucleons, atomic):
 
 
 def adduct_text(a):
-    items = "".join(piece_text(sign, count, "e" if what == "electron" else what) for sign, count, what in a["items"])
+    items = "".join(change_text(sign, count, "e" if what == "electron" else what) for sign, count, what in a["items"])
     return "[M%s]" % items if items else ""
 
 

@@ -1,7 +1,7 @@
 #!/usr/bin/env python3
-"""The cases of the programs `writes` and `write_rooms`: stored tables, and what the rules say of them in words.
+"""The cases of the programs `writes` and `try_write_sized`: stored tables, and what the rules say of them in words.
 
-    python3 tools/table_cases.py                   writes crates/writes/stdin and crates/write_rooms/stdin
+    python3 tools/table_cases.py                   writes crates/writes/stdin and crates/try_write_sized/stdin
     python3 tools/table_cases.py --check           holds the stored outputs to what is stated here; prints differences
     python3 tools/table_cases.py --with PROGRAM    makes the stored outputs by a writer of tables, then checks
 
@@ -457,7 +457,7 @@ def is_pairs(line):
 
 def check():
     wrong = []
-    for name, given in (("writes", [(line, stated.get(line, ())) for line in cases]), ("write_rooms", [(made.hex().encode(), answer) for _, made, answer in spare])):
+    for name, given in (("writes", [(line, stated.get(line, ())) for line in cases]), ("try_write_sized", [(made.hex().encode(), answer) for _, made, answer in spare])):
         answers = stored(name, "stdout").split(b"\n")[:-1]
         assert len(answers) == len(given), (name, len(answers), len(given))
         for (line, expected), answer in zip(given, answers):
@@ -482,12 +482,12 @@ def main(words):
         return 0 if check() else 1
     # the last line lacks its line feed, as it may
     store("writes", "stdin", b"\n".join(cases))
-    store("write_rooms", "stdin", b"".join(b"%d " % room + made.hex().encode() + b"\n" for room, made, _ in spare))
+    store("try_write_sized", "stdin", b"".join(b"%d " % room + made.hex().encode() + b"\n" for room, made, _ in spare))
     if words[:1] == ["--with"]:
         given = [line for line in cases if is_pairs(line)]
         answers = iter(answers_by(words[1], b"".join(line + b"\n" for line in given)).splitlines(keepends=True))
         store("writes", "stdout", b"".join(next(answers) if is_pairs(line) else b"9 0 0 -\n" for line in cases))
-        store("write_rooms", "stdout", b"".join(answers_by(words[1], made.hex().encode() + b"\n", "--out", str(room)) for room, made, _ in spare))
+        store("try_write_sized", "stdout", b"".join(answers_by(words[1], made.hex().encode() + b"\n", "--out", str(room)) for room, made, _ in spare))
         return 0 if check() else 1
     return 0
 
