@@ -3,7 +3,7 @@
 
     python3 tools/tables.py
 
-It writes crates/shape/specs/Tables.antt, crates/shape/proofs/Rows.antt and crates/shape/src/tables.rt. Nothing is trusted of it:
+It writes crates/shape/specs/Tables.antt, crates/shape/proofs/Rows.antt and crates/scan_line/src/tables.rt. Nothing is trusted of it:
 the check proves that the tables are those of the grammar, and that the grammar is that of the rules.
 """
 import functools
@@ -199,7 +199,7 @@ def tables_rt(classes, rows, accepts):
 def main():
     classes, reps, rows, accepts, paths = machine(line_grammar())
     for path, text in [('crates/shape/specs/Tables.antt', tables_antt(classes, reps, rows, accepts, paths)),
-                       ('crates/shape/proofs/Rows.antt', rows_antt(rows)), ('crates/shape/src/tables.rt', tables_rt(classes, rows, accepts))]:
+                       ('crates/shape/proofs/Rows.antt', rows_antt(rows)), ('crates/scan_line/src/tables.rt', tables_rt(classes, rows, accepts))]:
         (ROOT / path).write_text(text, encoding='utf-8')
     print(f'{len(rows)} states, {len(reps)} classes')
 

@@ -12,8 +12,8 @@ use Rattle.rules.specs.Answers as rules
 use Rattle.rules.specs.Answers.{refuses}
 use Rattle.put_bytes.specs.Puts.{Put}
 use Rattle.put_bytes.proofs.Putting.{put-length}
-use Rattle.shape.specs.declared.Verdict.{Verdict}
-use Rattle.shape.specs.declared.Verdict.the-variants.{Fine, Short, Stray}
+use Rattle.scan_line.specs.declared.Verdict.{Verdict}
+use Rattle.scan_line.specs.declared.Verdict.the-variants.{Fine, Short, Stray}
 use Rattle.faults.specs.declared.Fault.{Fault}
 use Rattle.read_annotation.specs.declared.Parts.{Parts}
 use Rattle.answers.specs.declared.Answer.{Answer}

@@ -19,11 +19,11 @@ use Rattle.rules.specs.Stored.{stored}
 use Rattle.rules.specs.Answers.{Answer, refuses, gives, Sound, Holds, Reads}
 use Rattle.rules.proofs.OneTable as OneTable
 use Rattle.put_bytes.specs.Puts.{maxPlace}
-use Rattle.shape.specs.declared.Verdict.{Verdict}
-use Rattle.shape.specs.declared.Verdict.the-variants.{Fine, Short, Stray}
-use Rattle.shape.specs.Steps.{machineBytes, scannedBy}
-use Rattle.shape.specs.Verdicts.{JudgedBy}
-use Rattle.shape.proofs.Scans.{by-machine}
+use Rattle.scan_line.specs.declared.Verdict.{Verdict}
+use Rattle.scan_line.specs.declared.Verdict.the-variants.{Fine, Short, Stray}
+use Rattle.scan_line.specs.Steps.{machineBytes, scannedBy}
+use Rattle.scan_line.specs.Verdicts.{JudgedBy}
+use Rattle.scan_line.proofs.Scans.{by-machine}
 use Rattle.shape.proofs.OneSpelling.{one-spelling}
 use Rattle.read_annotation.proofs.Respelling.{firstPreferred, nextPreferred, Respelling}
 use Rattle.respell_annotation.specs.Annotations.{annotationSpelled}

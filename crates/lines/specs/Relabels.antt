@@ -7,8 +7,8 @@ use lib.Dec.{eqb, ltb}
 use lib.ListN.{length, take}
 use Rattle.rules.specs.Limits.{maxLine}
 use Rattle.rules.specs.Answers.{Answer, refuses, Reads, Writes}
-use Rattle.shape.specs.declared.Verdict.{Verdict}
-use Rattle.shape.specs.Verdicts.{numberOf, placeOf}
+use Rattle.scan_line.specs.declared.Verdict.{Verdict}
+use Rattle.scan_line.specs.Verdicts.{numberOf, placeOf}
 use Rattle.read_annotation.specs.declared.Parts.{Parts}
 use Rattle.measure_line.specs.declared.Totals.{Totals}
 use Rattle.measure_line.specs.Totals.{partsAt, totalsOf}

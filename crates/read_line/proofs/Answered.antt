@@ -11,8 +11,8 @@ use Rattle.store_sections.specs.declared.Counts.{Counts}
 use Rattle.store_sections.specs.Pages.{run}
 use Rattle.store_sections.specs.Headers.{endAt, Headed}
 use Rattle.read_annotation.specs.declared.Parts.{Parts}
-use Rattle.shape.specs.declared.Verdict.{Verdict}
-use Rattle.shape.specs.declared.Verdict.the-variants.{Fine, Short, Stray}
+use Rattle.scan_line.specs.declared.Verdict.{Verdict}
+use Rattle.scan_line.specs.declared.Verdict.the-variants.{Fine, Short, Stray}
 use Rattle.answers.specs.declared.Answer.{Answer}
 use Rattle.measure_line.specs.declared.Totals.{Totals}
 use Rattle.measure_line.specs.Totals.{partsAt, totalsBy}

@@ -7,7 +7,7 @@ use lib.Dec.{eqb}
 use lib.ListN.{take}
 use borrow.Author.Tests.{eq-eqb, ne-eqb}
 use Rattle.rules.specs.Answers as rules
-use Rattle.shape.specs.declared.Verdict.{Verdict}
+use Rattle.scan_line.specs.declared.Verdict.{Verdict}
 use Rattle.answers.specs.declared.Answer.{Answer}
 use Rattle.answers.specs.Delivered.{answered}
 use Rattle.read_line.specs.Readings.{anyOver}

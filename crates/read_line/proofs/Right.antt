@@ -29,9 +29,9 @@ use Rattle.store_sections.specs.Pages.{Ran, ends}
 use Rattle.store_sections.specs.Headers.{startsOf, endAt, headerBytes, Headed, countsOf}
 use Rattle.store_sections.specs.Fills.{Fills}
 use Rattle.store_sections.proofs.Tables.{table-stored}
-use Rattle.shape.specs.declared.Verdict.{Verdict}
-use Rattle.shape.specs.declared.Verdict.the-variants.{Fine, Short, Stray}
-use Rattle.shape.specs.Verdicts.{JudgedBy}
+use Rattle.scan_line.specs.declared.Verdict.{Verdict}
+use Rattle.scan_line.specs.declared.Verdict.the-variants.{Fine, Short, Stray}
+use Rattle.scan_line.specs.Verdicts.{JudgedBy}
 use Rattle.measure_line.specs.declared.Totals.{Totals}
 use Rattle.measure_line.specs.Totals.{totalsOf}
 use Rattle.read_line.specs.Stores.{lineEvents}

@@ -5,7 +5,7 @@ use mathlib.Core.List.{List}
 use lib.Dec.{eqb}
 use lib.ListN.{take, replicate}
 use Rattle.rules.specs.Answers.{Answer}
-use Rattle.shape.specs.declared.Verdict.{Verdict}
+use Rattle.scan_line.specs.declared.Verdict.{Verdict}
 use Rattle.read_line.specs.Readings.{anyOver}
 use Rattle.read_line.specs.Same.{sameBytes, allBytes}
 

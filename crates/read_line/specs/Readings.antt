@@ -12,8 +12,8 @@ use Rattle.rules.specs.Answers.{refuses}
 use Rattle.store_sections.specs.declared.Counts.{Counts}
 use Rattle.store_sections.specs.Pages.{run}
 use Rattle.store_sections.specs.Headers.{startsOf, endAt, headerBytes}
-use Rattle.shape.specs.declared.Verdict.{Verdict}
-use Rattle.shape.specs.Verdicts.{numberOf, placeOf}
+use Rattle.scan_line.specs.declared.Verdict.{Verdict}
+use Rattle.scan_line.specs.Verdicts.{numberOf, placeOf}
 use Rattle.answers.specs.declared.Answer.{Answer}
 use Rattle.answers.specs.Delivered.{answered}
 use Rattle.measure_line.specs.declared.Totals.{Totals}

@@ -8,7 +8,7 @@ use lib.ListN.{length, take, drop, length-drop, drop-of-length-le}
 use lib.Seq.{take-all, take-at, drop-at, length-take-le}
 use Rattle.numbers.specs.declared.Number.{Number}
 use Rattle.numbers.specs.Leading.{numberOf}
-use Rattle.shape.specs.Steps.{scannedBy}
+use Rattle.scan_line.specs.Steps.{scannedBy}
 use Rattle.answers.specs.declared.Answer.{Answer}
 use Rattle.answers.specs.Delivered.{answered}
 use Rattle.read_line.specs.Readings.{readOf}

@@ -5,7 +5,7 @@ use mathlib.Core.Bool.{Bool, cond}
 use mathlib.Core.List.{List}
 use lib.ListN.{length, take, drop}
 use Rattle.numbers.specs.Leading.{numberOf}
-use Rattle.shape.specs.Steps.{scannedBy}
+use Rattle.scan_line.specs.Steps.{scannedBy}
 use Rattle.answers.specs.declared.Answer.{Answer}
 use Rattle.answers.specs.Delivered.{answered}
 use Rattle.read_line.specs.Readings.{readOf}

@@ -26,7 +26,7 @@ const ANSWER: usize = 64 + 2 * TABLE;
 // All lines, for the program of this name. Where they are sized, each begins with the length of its output, a number of at most 21,340, and a blank; else the output
 // is as long as any table needs.
 pub fn answer_lines(name: &[u8], sized: bool) {
-    let machine = shape::machine();
+    let machine = scan_line::machine();
     let mut buf = io::large_buffer();
     let mut out = io::large_buffer();
     let mut table = [0u8; TABLE];

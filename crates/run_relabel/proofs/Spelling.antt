@@ -6,7 +6,7 @@ use native.Mathlib.Omega.{arith}
 use lib.ListN.{length, getD, take, drop, length-take, length-drop}
 use lib.Seq.{length-take-le, take-at, drop-at, take-append-le}
 use Rattle.rules.specs.Limits.{maxLine}
-use Rattle.shape.specs.Steps.{machineBytes, scannedBy}
+use Rattle.scan_line.specs.Steps.{machineBytes, scannedBy}
 use Rattle.answers.specs.declared.Answer.{Answer}
 use Rattle.answers.specs.Delivered.{answered}
 use Rattle.lines.specs.Relabels.{Relabels, relabelledOf}

@@ -6,7 +6,7 @@ ghost use Prim.Native.Nat.{_+_, _≤_};
 ghost use mathlib.Core.Path.{_≡_};
 ghost use lib.ListN.{length, take, drop};
 ghost use Rattle.rules.specs.Limits.{maxLine};
-ghost use Rattle.shape.specs.Steps.{machineBytes};
+ghost use Rattle.scan_line.specs.Steps.{machineBytes};
 ghost use Rattle.run_relabel.specs.Answered.{Answered};
 ghost use Rattle.run_relabel.specs.Spelled.{Spelled};
 ghost use Rattle.run_relabel.specs.AnswerPut.{AnswerPut};
@@ -26,7 +26,7 @@ use slices::advance;
 
 // All lines of standard input, for the program of this name.
 pub fn relabel_lines(name: &[u8]) {
-    let machine = shape::machine();
+    let machine = scan_line::machine();
     let mut buf = io::large_buffer();
     let mut out = io::large_buffer();
     all(name, &machine, &mut buf, &mut out);

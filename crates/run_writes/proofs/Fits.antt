@@ -9,7 +9,7 @@ use lib.ListN.{length, take}
 use borrow.Author.Tests.{ltb-false}
 use Rattle.rules.specs.Limits.{maxLine}
 use Rattle.rules.specs.Answers.{Answer, refuses, gives}
-use Rattle.shape.specs.Steps.{scannedBy}
+use Rattle.scan_line.specs.Steps.{scannedBy}
 use Rattle.print_table.specs.Tables.{printedTable}
 use Rattle.io_hex.specs.Hexes.{spelled, unhexed}
 use Rattle.answers.specs.Delivered.{lineOver}

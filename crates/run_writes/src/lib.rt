@@ -35,7 +35,7 @@ const ANSWER: usize = 64 + 2 * MAX_LINE;
 // All tables, for the program of this name. Where they are sized, each stands behind the length of its output, a number of at most 4,096, and a blank; else the
 // output is as long as a line may be.
 pub fn answer_tables(name: &[u8], sized: bool) {
-    let machine = shape::machine();
+    let machine = scan_line::machine();
     let mut buf = [0u8; BUFFER];
     let mut out = io::large_buffer();
     let mut table = [0u8; TABLE];

@@ -7,9 +7,4 @@ pub mod MeansNames
 pub mod MeansParts
 pub mod MeansLine
 pub mod OneSpelling
-pub mod Cells
 pub mod Unambiguous
-pub mod Walks
-pub mod Scans
-pub mod Parts
-pub mod One

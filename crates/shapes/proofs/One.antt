@@ -5,8 +5,8 @@ use mathlib.Core.Path.{_≡_, refl, sym, _∙_}
 use mathlib.Core.Bool.{Bool, true, false}
 use mathlib.Core.List.{List}
 use lib.ListN.{length, replicate, length-replicate}
-use Rattle.shape.specs.declared.Progress.{Progress}
-use Rattle.shape.specs.Steps.{takenBy}
+use Rattle.scan_line.specs.declared.Progress.{Progress}
+use Rattle.scan_line.specs.Steps.{takenBy}
 use Rattle.io_lines.specs.declared.Stream.{Stream}
 use Rattle.run_program.proofs.One.{waits-one}
 use Rattle.shapes.specs.declared.Work.{Work}

@@ -8,10 +8,10 @@ use lib.ListN.{length}
 use borrow.Author.Tests.{ne-eqb, eq-eqb}
 use Rattle.put_bytes.specs.Puts.{Put}
 use Rattle.put_bytes.proofs.Putting.{put-as}
-use Rattle.shape.specs.declared.Progress.{Progress}
-use Rattle.shape.specs.declared.Verdict.{Verdict}
-use Rattle.shape.specs.declared.Verdict.the-variants.{Short}
-use Rattle.shape.specs.Steps.{standing, takenBy, verdictBy}
+use Rattle.scan_line.specs.declared.Progress.{Progress}
+use Rattle.scan_line.specs.declared.Verdict.{Verdict}
+use Rattle.scan_line.specs.declared.Verdict.the-variants.{Short}
+use Rattle.scan_line.specs.Steps.{standing, takenBy, verdictBy}
 use Rattle.io_lines.specs.declared.Stream.{Stream}
 use Rattle.io_lines.specs.Streams.{waitingOf, Roomed}
 use Rattle.run_program.proofs.Waiting.{waits-by}

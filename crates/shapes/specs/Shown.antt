@@ -7,10 +7,10 @@ use lib.Dec.{eqb, ltb}
 use lib.ListN.{length}
 use Rattle.rules.specs.Bytes.{bytes}
 use Rattle.rules.specs.Numbers.{digits}
-use Rattle.shape.specs.declared.Progress.{Progress}
-use Rattle.shape.specs.declared.Verdict.{Verdict}
-use Rattle.shape.specs.Steps.{standing, takenBy, verdictBy}
-use Rattle.shape.specs.Verdicts.{numberOf, placeOf}
+use Rattle.scan_line.specs.declared.Progress.{Progress}
+use Rattle.scan_line.specs.declared.Verdict.{Verdict}
+use Rattle.scan_line.specs.Steps.{standing, takenBy, verdictBy}
+use Rattle.scan_line.specs.Verdicts.{numberOf, placeOf}
 use Rattle.io_lines.specs.declared.Stream.{Stream}
 use Rattle.run_program.specs.Waits.{Waits}
 use Rattle.shapes.specs.declared.Work.{Work}

@@ -16,8 +16,8 @@ use put_bytes::put_run;
 use put_bytes::put8;
 use run_program::finish;
 use run_program::was_asked;
-use shape::Progress;
-use shape::Verdict;
+use scan_line::Progress;
+use scan_line::Verdict;
 
 // The longest answer: a number, a blank, a place of 20 digits, a line feed.
 const ANSWER: usize = 23;
@@ -39,7 +39,7 @@ Standard output has one answer a line:
     ) {
         return;
     }
-    let machine = shape::machine();
+    let machine = scan_line::machine();
     let mut buf = io::large_buffer();
     let mut out = io::large_buffer();
     all(b"shapes", &machine, &mut buf, &mut out);

@@ -11,14 +11,14 @@ use lib.ListN.{length, getD}
 use borrow.Author.Tests.{lt-ltb, le-ltb}
 use Rattle.lang.proofs.Certify.{step, accepting}
 use Rattle.shape.specs.Tables.{states}
-use Rattle.shape.specs.declared.Verdict.{Verdict}
-use Rattle.shape.specs.declared.Verdict.the-variants.{Fine, Short, Stray}
-use Rattle.shape.specs.Steps.{machineBytes, stepBy, standing, runBy, verdictBy, scannedBy}
-use Rattle.shape.specs.Verdicts.{JudgedBy}
+use Rattle.scan_line.specs.declared.Verdict.{Verdict}
+use Rattle.scan_line.specs.declared.Verdict.the-variants.{Fine, Short, Stray}
+use Rattle.scan_line.specs.Steps.{machineBytes, stepBy, standing, runBy, verdictBy, scannedBy}
+use Rattle.scan_line.specs.Verdicts.{JudgedBy}
 use Rattle.shape.proofs.TableMachine.{machine}
-use Rattle.shape.proofs.Cells.{machine-steps}
-use Rattle.shape.proofs.Walks.{run-on, run-stops, taken-run}
-use Rattle.shape.proofs.Scans.{verdict-fine, verdict-short, verdict-stray, by-machine}
+use Rattle.scan_line.proofs.Cells.{machine-steps}
+use Rattle.scan_line.proofs.Walks.{run-on, run-stops, taken-run}
+use Rattle.scan_line.proofs.Scans.{verdict-fine, verdict-short, verdict-stray, by-machine}
 
 -- all are bytes
 abbrev pub AllBytes : List ℕ → Type 0

@@ -15,8 +15,8 @@ use Rattle.rules.specs.Limits.{maxLine, lineMarks}
 use Rattle.rules.specs.Answers.{refuses, ReadsSum, ReadsRules, ReadsSpelling, Reads}
 use Rattle.rules.proofs.OneShape.{judged-misshapen}
 use Rattle.rules.proofs.worked.Bounds.{Ruled}
-use Rattle.shape.specs.declared.Verdict.{Verdict}
-use Rattle.shape.specs.Verdicts.{numberOf, placeOf}
+use Rattle.scan_line.specs.declared.Verdict.{Verdict}
+use Rattle.scan_line.specs.Verdicts.{numberOf, placeOf}
 use Rattle.shape.proofs.Unambiguous.{reads-one}
 use Rattle.starred.specs.Becomes.{RefusedAs}
 use Rattle.starred.proofs.Judge.{judge, judge-right}

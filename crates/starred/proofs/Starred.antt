@@ -7,7 +7,7 @@ use Rattle.rules.proofs.worked.Others as others
 use Rattle.rules.proofs.worked.Several as several
 use Rattle.rules.proofs.worked.Bounds as bounds
 use Rattle.shape.specs.Tables.{rows as cells, classes, accepts}
-use Rattle.shape.specs.declared.Verdict.the-variants.{Short, Stray}
+use Rattle.scan_line.specs.declared.Verdict.the-variants.{Short, Stray}
 use Rattle.shape.proofs.TableMachine.{machine}
 use Rattle.starred.specs.Becomes.{RefusedAs, AllRows}
 use Rattle.starred.specs.Rows.{rows}

@@ -11,7 +11,7 @@ use borrow.Author.Tests.{lt-ltb, le-ltb}
 use Rattle.put_bytes.specs.Puts.{maxPlace, Put}
 use Rattle.put_bytes.proofs.Putting.{over-zeros}
 use Rattle.rules.specs.Answers as rules
-use Rattle.shape.specs.Steps.{scannedBy}
+use Rattle.scan_line.specs.Steps.{scannedBy}
 use Rattle.print_table.specs.Tables.{printedTable}
 use Rattle.answers.specs.declared.Answer.{Answer}
 use Rattle.answers.specs.Delivered.{answered, refusedOf}

@@ -25,9 +25,9 @@ use Rattle.rules.proofs.FirstBroken.{wins-number}
 use Rattle.rules.proofs.OneShape.{misshapen-no-shape}
 use Rattle.rules.proofs.OneTable as OneTable
 use Rattle.put_bytes.specs.Puts.{maxPlace}
-use Rattle.shape.specs.declared.Verdict.{Verdict}
-use Rattle.shape.specs.declared.Verdict.the-variants.{Fine, Short, Stray}
-use Rattle.shape.specs.Verdicts.{JudgedBy}
+use Rattle.scan_line.specs.declared.Verdict.{Verdict}
+use Rattle.scan_line.specs.declared.Verdict.the-variants.{Fine, Short, Stray}
+use Rattle.scan_line.specs.Verdicts.{JudgedBy}
 use Rattle.read_line.specs.Readings.{spelledOver, anyOver}
 use Rattle.shape.proofs.OneSpelling.{one-spelling}
 use Rattle.read_line.proofs.Right.{spelled-right}

@@ -15,8 +15,8 @@ use Rattle.rules.specs.Stored.{stored}
 use Rattle.rules.specs.Answers.{refuses, gives, no-room, done, Holds, Writes, no-table, long, fits}
 use Rattle.rules.proofs.Sizes.{sizes-fit}
 use Rattle.put_bytes.specs.Puts.{maxPlace}
-use Rattle.shape.specs.Steps.{scannedBy}
-use Rattle.shape.specs.Verdicts.{JudgedBy}
+use Rattle.scan_line.specs.Steps.{scannedBy}
+use Rattle.scan_line.specs.Verdicts.{JudgedBy}
 use Rattle.print_table.specs.Tables.{printedTable}
 use Rattle.print_table.proofs.PrintedTable.{table-printed}
 use Rattle.print_table.proofs.Short.{line-short}

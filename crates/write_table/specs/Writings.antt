@@ -7,7 +7,7 @@ use lib.Dec.{ltb}
 use lib.ListN.{length}
 use Rattle.rules.specs.Answers.{Answer, refuses}
 use Rattle.answers.specs.Delivered.{lineOver}
-use Rattle.shape.specs.Steps.{scannedBy}
+use Rattle.scan_line.specs.Steps.{scannedBy}
 use Rattle.print_table.specs.Tables.{printedTable}
 use Rattle.read_line.specs.Back.{readsTo, few, largest, zeros}
 

@@ -2,7 +2,7 @@
 // which bytes are a table. Document 01, "Numbers of refusal": writing tests 9, 1, 8.
 ghost use mathlib.Core.Path.{_≡_};
 ghost use lib.ListN.{length};
-ghost use Rattle.shape.specs.Steps.{scannedBy};
+ghost use Rattle.scan_line.specs.Steps.{scannedBy};
 ghost use Rattle.print_table.specs.Tables.{printedTable};
 ghost use Rattle.answers.specs.Delivered.{answered};
 ghost use Rattle.read_line.specs.Back.{readsTo, largest, zeros};

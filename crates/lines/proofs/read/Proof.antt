@@ -5,8 +5,8 @@ use native.Mathlib.Omega.{arith}
 use borrow.Author.Needs.{needs}
 use lib.ListN.{length}
 use Rattle.rules.specs.Answers.{Reads}
-use Rattle.shape.specs.Steps.{machineBytes, scannedBy}
-use Rattle.shape.proofs.Scans.{by-machine}
+use Rattle.scan_line.specs.Steps.{machineBytes, scannedBy}
+use Rattle.scan_line.proofs.Scans.{by-machine}
 use Rattle.read_line.specs.Readings.{readOf}
 use Rattle.read_line.proofs.Right.{read-right}
 use Rattle.lines.proofs.read.Statement.{statement}

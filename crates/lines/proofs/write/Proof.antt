@@ -4,8 +4,8 @@ use Prim.Native.Nat.{ℕ}
 use native.Mathlib.Omega.{arith}
 use lib.ListN.{length}
 use Rattle.rules.specs.Answers.{Writes}
-use Rattle.shape.specs.Steps.{machineBytes}
-use Rattle.shape.proofs.Scans.{by-machine}
+use Rattle.scan_line.specs.Steps.{machineBytes}
+use Rattle.scan_line.proofs.Scans.{by-machine}
 use Rattle.write_table.specs.Writings.{writtenOf}
 use Rattle.write_table.proofs.Low.{bytes-each}
 use Rattle.write_table.proofs.Right.{write-right}

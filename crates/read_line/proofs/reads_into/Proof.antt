@@ -1,5 +1,5 @@
 -- `read_line::reads_into` meets its contract: what was read is compared. Assumes nothing.
-use Rattle.shape.specs.Steps.{scannedBy}
+use Rattle.scan_line.specs.Steps.{scannedBy}
 use Rattle.read_line.proofs.Back.{reads-not, reads-same}
 use Rattle.read_line.proofs.Same.{bytes-all}
 use borrow.Author.Needs.{needs}

@@ -1,9 +1,9 @@
--- `shape::ends` meets its contract. Assumes nothing.
-use Rattle.shape.specs.Steps.{endsBy}
+-- `scan_line::ends` meets its contract. Assumes nothing.
+use Rattle.scan_line.specs.Steps.{endsBy}
 use mathlib.Core.Path.{refl}
 use borrow.Author.Needs.{needs}
-use Rattle.shape.proofs.ends.Statement.{statement}
-use Rattle.shape.proofs.ends.Tie as tie
+use Rattle.scan_line.proofs.ends.Statement.{statement}
+use Rattle.scan_line.proofs.ends.Tie as tie
 
 add-result : tie.Need-add-result
 add-result c = search needs

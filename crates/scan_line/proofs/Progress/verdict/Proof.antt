@@ -1,9 +1,9 @@
--- `shape::Progress::verdict` meets its contract. Assumes nothing.
-use Rattle.shape.proofs.Scans.{verdict-few, verdict-fine, verdict-short, verdict-stray}
+-- `scan_line::Progress::verdict` meets its contract. Assumes nothing.
+use Rattle.scan_line.proofs.Scans.{verdict-few, verdict-fine, verdict-short, verdict-stray}
 use mathlib.Core.Path.{sym, _∙_}
 use borrow.Author.Needs.{needs}
-use Rattle.shape.proofs.Progress.verdict.Statement.{statement}
-use Rattle.shape.proofs.Progress.verdict.Tie as tie
+use Rattle.scan_line.proofs.Progress.verdict.Statement.{statement}
+use Rattle.scan_line.proofs.Progress.verdict.Tie as tie
 
 returns : tie.Need-returns
 returns c = sym (verdict-few _ _ (c .if1 .taken))

@@ -1,10 +1,10 @@
--- `shape::machine` meets its contract: the constant is the machine's words, and they fill the bytes. Assumes nothing.
-use Rattle.shape.proofs.Cells.{made}
-use Rattle.shape.specs.Steps.{machineBytes}
+-- `scan_line::machine` meets its contract: the constant is the machine's words, and they fill the bytes. Assumes nothing.
+use Rattle.scan_line.proofs.Cells.{made}
+use Rattle.scan_line.specs.Steps.{machineBytes}
 use Rattle.shape.specs.Tables.{packed}
 use borrow.Author.Needs.{needs}
-use Rattle.shape.proofs.machine.Statement.{statement}
-use Rattle.shape.proofs.machine.Tie as tie
+use Rattle.scan_line.proofs.machine.Statement.{statement}
+use Rattle.scan_line.proofs.machine.Tie as tie
 
 slice-aggregate-put-words : tie.Need-slice-aggregate-put-words
 slice-aggregate-put-words c = search needs

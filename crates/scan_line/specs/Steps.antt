@@ -7,10 +7,10 @@ use lib.Dec.{ltb, leb, eqb}
 use lib.ListN.{length, getD}
 use Rattle.lang.specs.Parts.{flat}
 use Rattle.rules.specs.Stored.{little}
 use Rattle.shape.specs.Tables.{states, kinds, rowsAt, endsAt, size, packed}
-use Rattle.shape.specs.declared.Progress.{Progress}
-use Rattle.shape.specs.declared.Verdict.{Verdict}
-use Rattle.shape.specs.declared.Verdict.the-variants.{Fine, Short, Stray}
+use Rattle.scan_line.specs.declared.Progress.{Progress}
+use Rattle.scan_line.specs.declared.Verdict.{Verdict}
+use Rattle.scan_line.specs.declared.Verdict.the-variants.{Fine, Short, Stray}
 
 -- the bytes of the machine that decides shapes
 unfoldable pub machineBytes : List ℕ

@@ -1,10 +1,10 @@
--- `shape::scan_by` meets its contract: a scan of the whole line in one part. Assumes nothing.
-use Rattle.shape.specs.Steps.{takenBy, verdictBy, scannedBy}
-use Rattle.shape.specs.declared.Progress.{Progress}
+-- `scan_line::scan_by` meets its contract: a scan of the whole line in one part. Assumes nothing.
+use Rattle.scan_line.specs.Steps.{takenBy, verdictBy, scannedBy}
+use Rattle.scan_line.specs.declared.Progress.{Progress}
 use mathlib.Core.Path.{ap, _∙_}
 use borrow.Author.Needs.{needs}
-use Rattle.shape.proofs.scan_by.Statement.{statement}
-use Rattle.shape.proofs.scan_by.Tie as tie
+use Rattle.scan_line.proofs.scan_by.Statement.{statement}
+use Rattle.scan_line.proofs.scan_by.Tie as tie
 
 begin-requires : tie.Need-begin-requires
 begin-requires c κs = search needs

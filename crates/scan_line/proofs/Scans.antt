@@ -11,16 +11,16 @@ use Rattle.lang.proofs.Certify.{step, step-le}
 use Rattle.lang.proofs.Loop as Loop
 use Rattle.lang.proofs.Loop.{Reading}
 use Rattle.rules.specs.Lines.{Shape, stray, short, fine, misshapen}
 use Rattle.shape.specs.Tables.{states, size}
-use Rattle.shape.specs.declared.Progress.{Progress}
-use Rattle.shape.specs.declared.Verdict.the-variants.{Fine, Short, Stray}
-use Rattle.shape.specs.Steps.{machineBytes, stepBy, endsBy, standing, runBy, verdictBy, scannedBy}
-use Rattle.shape.specs.Verdicts.{JudgedBy}
+use Rattle.scan_line.specs.declared.Progress.{Progress}
+use Rattle.scan_line.specs.declared.Verdict.the-variants.{Fine, Short, Stray}
+use Rattle.scan_line.specs.Steps.{machineBytes, stepBy, endsBy, standing, runBy, verdictBy, scannedBy}
+use Rattle.scan_line.specs.Verdicts.{JudgedBy}
 use Rattle.shape.proofs.TableMachine.{machine}
 use Rattle.shape.proofs.Certificate.{certified}
 use Rattle.shape.proofs.OneSpelling.{from-start}
-use Rattle.shape.proofs.Cells.{Steps, machine-steps}
-use Rattle.shape.proofs.Walks.{run-on, run-stops, taken-run, from-byte}
+use Rattle.scan_line.proofs.Cells.{Steps, machine-steps}
+use Rattle.scan_line.proofs.Walks.{run-on, run-stops, taken-run, from-byte}
 
 -- ---- the verdict of a scan that stands somewhere
 

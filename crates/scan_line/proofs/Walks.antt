@@ -7,9 +7,9 @@ use native.Mathlib.Numerals.{add-one}
 use lib.ListN.{length, getD, drop, drop-of-length-le}
 use lib.Seq.{drop-cons}
 use borrow.Author.Tests.{lt-ltb, le-ltb, le-leb, lt-leb}
 use Rattle.shape.specs.Tables.{states, size}
-use Rattle.shape.specs.declared.Progress.{Progress}
-use Rattle.shape.specs.Steps.{stepBy, standing, runBy, takenBy}
+use Rattle.scan_line.specs.declared.Progress.{Progress}
+use Rattle.scan_line.specs.Steps.{stepBy, standing, runBy, takenBy}
 
 -- a list from its byte i on
 pub from-byte : (l : List ℕ) (i : ℕ) → i < length l → drop i l ≡ getD l i 0 ∷ drop (i + 1) l

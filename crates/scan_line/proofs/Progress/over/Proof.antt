@@ -1,11 +1,11 @@
--- `shape::Progress::over` meets its contract: the loop is the walk. Assumes nothing.
-use Rattle.shape.proofs.Walks.{Walking, stays-few, stays-dead, stays-full, begin, stopped, turn, ends}
+-- `scan_line::Progress::over` meets its contract: the loop is the walk. Assumes nothing.
+use Rattle.scan_line.proofs.Walks.{Walking, stays-few, stays-dead, stays-full, begin, stopped, turn, ends}
 use lib.ListN.{length}
 use Prim.Native.Nat.{_-_}
 use native.Mathlib.Omega.{arith}
 use borrow.Author.Needs.{needs}
-use Rattle.shape.proofs.Progress.over.Statement.{statement}
-use Rattle.shape.proofs.Progress.over.Tie as tie
+use Rattle.scan_line.proofs.Progress.over.Statement.{statement}
+use Rattle.scan_line.proofs.Progress.over.Tie as tie
 
 abbrev Inv-loop : tie.InvT-loop
 Inv-loop machine part start q₀ i₀ q i = Walking machine part start q₀ q i

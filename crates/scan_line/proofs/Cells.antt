@@ -10,10 +10,10 @@ use Rattle.lang.proofs.Flat.{laid, laid-at}
 use Rattle.lang.proofs.Certify.{step, accepting, kind-lt}
 use Rattle.put_bytes.specs.Puts.{Put}
 use Rattle.put_bytes.proofs.Putting.{filled}
 use Rattle.shape.specs.Tables.{states, kinds, rowsAt, endsAt, size, classes, rows, accepts, packed}
-use Rattle.shape.specs.Steps.{machineBytes, stepBy, endsBy}
+use Rattle.scan_line.specs.Steps.{machineBytes, stepBy, endsBy}
 use Rattle.shape.proofs.TableMachine.{machine}
 use Rattle.shape.proofs.Certificate.{certified}
 
 -- bytes that step and end as the machine does
 pub record Steps (m : List ℕ) : Type 0 where

@@ -1,13 +1,13 @@
--- `shape::next` meets its contract: a class is a byte, so both reads are inside. Assumes nothing.
+-- `scan_line::next` meets its contract: a class is a byte, so both reads are inside. Assumes nothing.
 use Rattle.shape.specs.Tables.{kinds, rowsAt}
 use lib.ListN.{getD}
 use Prim.Native.Nat.{_+_, _*_}
-use Rattle.shape.specs.Steps.{stepBy}
+use Rattle.scan_line.specs.Steps.{stepBy}
 use mathlib.Core.Path.{refl}
 use native.Mathlib.Omega.{arith}
 use borrow.Author.Needs.{needs}
-use Rattle.shape.proofs.next.Statement.{statement}
-use Rattle.shape.proofs.next.Tie as tie
+use Rattle.scan_line.proofs.next.Statement.{statement}
+use Rattle.scan_line.proofs.next.Tie as tie
 
 shared-slice-read-c : tie.Need-shared-slice-read-c
 shared-slice-read-c c = search needs

@@ -5,10 +5,10 @@ use mathlib.Core.List.{List, [], _∷_, _++_}
 use native.Mathlib.Omega.{arith}
 use native.Mathlib.Decide.{decLe}
 use lib.ListN.{length, length-append}
 use Rattle.shape.specs.Tables.{states, size}
-use Rattle.shape.specs.declared.Progress.{Progress}
-use Rattle.shape.specs.Steps.{stepBy, standing, runBy, takenBy}
-use Rattle.shape.proofs.Walks.{run-on, run-stops, stays-few, stays-dead, taken-run}
+use Rattle.scan_line.specs.declared.Progress.{Progress}
+use Rattle.scan_line.specs.Steps.{stepBy, standing, runBy, takenBy}
+use Rattle.scan_line.proofs.Walks.{run-on, run-stops, stays-few, stays-dead, taken-run}
 
 module _ (m w : List ℕ) where
   abbrev On : Progress → Progress → Type 0

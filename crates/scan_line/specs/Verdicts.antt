@@ -3,8 +3,8 @@ use Prim.Native.Nat.{ℕ}
 use mathlib.Core.List.{List}
 use lib.ListN.{length}
 use Rattle.rules.specs.Lines.{Judged}
-use Rattle.shape.specs.declared.Verdict.{Verdict}
-use Rattle.shape.specs.declared.Verdict.the-variants.{Fine, Short, Stray}
+use Rattle.scan_line.specs.declared.Verdict.{Verdict}
+use Rattle.scan_line.specs.declared.Verdict.the-variants.{Fine, Short, Stray}
 
 abbrev pub numberOf : Verdict → ℕ
 numberOf Fine = 0

@@ -1,14 +1,14 @@
--- `shape::scan` meets its contract: the scan by the machine's bytes is what the rules say. Assumes nothing.
-use Rattle.shape.proofs.Scans.{by-machine}
-use Rattle.shape.specs.Verdicts.{JudgedBy}
-use Rattle.shape.specs.Steps.{scannedBy}
+-- `scan_line::scan` meets its contract: the scan by the machine's bytes is what the rules say. Assumes nothing.
+use Rattle.scan_line.proofs.Scans.{by-machine}
+use Rattle.scan_line.specs.Verdicts.{JudgedBy}
+use Rattle.scan_line.specs.Steps.{scannedBy}
 use mathlib.Core.Path.{sym, ap, _∙_, subst}
 use mathlib.Core.List.{List}
 use Prim.Native.Nat.{ℕ}
 use native.Mathlib.Omega.{arith}
 use borrow.Author.Needs.{needs}
-use Rattle.shape.proofs.scan.Statement.{statement}
-use Rattle.shape.proofs.scan.Tie as tie
+use Rattle.scan_line.proofs.scan.Statement.{statement}
+use Rattle.scan_line.proofs.scan.Tie as tie
 
 machine-requires : tie.Need-machine-requires
 machine-requires c κs = search needs

@@ -4,9 +4,9 @@ use mathlib.Core.List.{List}
 use Prim.Native.Nat.{ℕ}
 use native.Mathlib.Omega.{arith}
 use Rattle.rules.proofs.OneShape.{judged-one}
-use Rattle.shape.specs.declared.Verdict.{Verdict}
-use Rattle.shape.specs.declared.Verdict.the-variants.{Fine, Short, Stray}
-use Rattle.shape.specs.Verdicts.{JudgedBy}
+use Rattle.scan_line.specs.declared.Verdict.{Verdict}
+use Rattle.scan_line.specs.declared.Verdict.the-variants.{Fine, Short, Stray}
+use Rattle.scan_line.specs.Verdicts.{JudgedBy}
 
 -- a verdict is fixed by its number and its place
 pub judged-by-one : (line : List ℕ) (v w : Verdict) → JudgedBy line v → JudgedBy line w → v ≡ w

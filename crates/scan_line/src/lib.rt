@@ -1,0 +1,138 @@
+// The shape of a line, decided by one walk of a table machine. Document 01, "Numbers of refusal", 2 and 3.
+// The machine is made once, by `machine`, and lent to whatever scans by it: a constant would be made anew by each function that names it.
+ghost use mathlib.Core.Path.{_≡_};
+ghost use Prim.Native.Nat.{_<_, _≤_};
+ghost use lib.ListN.{length};
+ghost use Rattle.shape.specs.Tables.{states, size};
+ghost use Rattle.scan_line.specs.Steps.{machineBytes, stepBy, endsBy, standing, takenBy, verdictBy, scannedBy};
+ghost use Rattle.scan_line.specs.Verdicts.{JudgedBy};
+
+mod tables;
+
+use crate::tables::ENDS_AT;
+use crate::tables::KINDS;
+use crate::tables::PACKED;
+use crate::tables::ROWS_AT;
+use crate::tables::SIZE;
+use crate::tables::STATES;
+use put_bytes::put_words;
+
+// What the shape of a line is.
+pub enum Verdict {
+    // The line has a shape.
+    Fine,
+    // The line begins a shape and is none.
+    Short,
+    // The first so many bytes begin a shape, and one byte more does not.
+    Stray(usize),
+}
+
+// The bytes of the machine: the class of each byte, a row for each state, a mark for each state in which a line may end.
+pub fn machine() -> [u8; SIZE]
+    ensures { λ r. ⌜ r ≡ machineBytes ⌝ }
+{
+    let words = PACKED;
+    let mut bytes = [0u8; SIZE];
+    put_words(&mut bytes, 0, &words);
+    bytes
+}
+
+// The state after a byte; at least 230 where no shape goes on with it.
+fn next(machine: &[u8], q: usize, b: u8) -> usize
+    requires { ⌜ (size ≤ length (now machine)) × (q < states) ⌝ }
+    ensures { λ r. ⌜ r ≡ stepBy (now (machine .entry)) q b ⌝ }
+{
+    let c = machine[b as usize] as usize;
+    machine[ROWS_AT + q * KINDS + c] as usize
+}
+
+// Whether a line may end in a state.
+fn ends(machine: &[u8], q: usize) -> bool
+    requires { ⌜ (size ≤ length (now machine)) × (q < states) ⌝ }
+    ensures { λ r. ⌜ r ≡ endsBy (now (machine .entry)) q ⌝ }
+{
+    machine[ENDS_AT + q] == 1
+}
+
+// How far a scan has come, after some bytes of a line, which may come in parts: the machine's state, and how many bytes begin a shape.
+pub struct Progress {
+    pub state: usize,
+    pub at: usize,
+}
+
+impl Progress {
+    // Before the first byte of a line.
+    pub fn begin() -> Progress
+        ensures { λ r. ⌜ r ≡ standing 0 0 ⌝ }
+    {
+        Progress { state: 0, at: 0 }
+    }
+
+    // After a further part of the line.
+    pub fn over(self, machine: &[u8], part: &[u8]) -> Progress
+        ensures { λ r. ⌜ r ≡ takenBy (now (machine .entry)) self (now (part .entry)) ⌝ }
+    {
+        let start = self.at;
+        let mut q = self.state;
+        // With a state and a class below 256 every index is inside so many bytes.
+        if machine.len() < SIZE {
+            return self;
+        }
+        if q >= STATES {
+            return self;
+        }
+        // A place past the last usize could not be told.
+        if usize::MAX - start < part.len() {
+            return self;
+        }
+        let mut i: usize = 0;
+        while i < part.len() {
+            q = next(machine, q, part[i]);
+            if q >= STATES {
+                return Progress {
+                    state: STATES,
+                    at: start + i,
+                };
+            }
+            i += 1;
+        }
+        Progress {
+            state: q,
+            at: start + i,
+        }
+    }
+
+    // The verdict, where the line ends here.
+    pub fn verdict(self, machine: &[u8]) -> Verdict
+        ensures { λ r. ⌜ r ≡ verdictBy (now (machine .entry)) self ⌝ }
+    {
+        if machine.len() < SIZE {
+            return Verdict::Stray(0);
+        }
+        let q = self.state;
+        if q >= STATES {
+            return Verdict::Stray(self.at);
+        }
+        if ends(machine, q) {
+            return Verdict::Fine;
+        }
+        Verdict::Short
+    }
+}
+
+// The verdict of a machine on a line, in one part.
+pub fn scan_by(machine: &[u8], line: &[u8]) -> Verdict
+    ensures { λ r. ⌜ r ≡ scannedBy (now (machine .entry)) (now (line .entry)) ⌝ }
+{
+    let begun = Progress::begin();
+    let whole = begun.over(machine, line);
+    whole.verdict(machine)
+}
+
+// The shape of a line of any bytes and any length. Whoever has many lines makes the machine once, and calls `scan_by`.
+pub fn scan(line: &[u8]) -> Verdict
+    ensures { λ r. ⌜ JudgedBy (now (line .entry)) r ⌝ }
+{
+    let made = machine();
+    scan_by(&made, line)
+}
