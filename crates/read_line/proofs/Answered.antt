@@ -6,8 +6,8 @@ use lib.ListN.{length, replicate}
 use borrow.Author.Tests.{ne-eqb, lt-ltb, le-ltb}
 use Rattle.rules.specs.Limits.{maxLine}
 use Rattle.faults.specs.declared.Fault.{Fault}
+use Rattle.counts.specs.declared.Counts.{Counts}
 use Rattle.store_sections.specs.declared.Cursors.{Cursors}
-use Rattle.store_sections.specs.declared.Counts.{Counts}
 use Rattle.store_sections.specs.Pages.{run}
 use Rattle.store_sections.specs.Headers.{endAt, Headed}
 use Rattle.read_annotation.specs.declared.Parts.{Parts}

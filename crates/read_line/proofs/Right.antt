@@ -24,7 +24,7 @@ use Rattle.rules.proofs.OneShape.{judged-shape, judged-misshapen}
 use Rattle.put_bytes.specs.Puts.{maxPlace}
 use Rattle.faults.specs.declared.Fault.{Fault}
 use Rattle.faults.specs.Faults.{fault}
-use Rattle.store_sections.specs.declared.Counts.{Counts}
+use Rattle.counts.specs.declared.Counts.{Counts}
 use Rattle.store_sections.specs.Pages.{Ran, ends}
 use Rattle.store_sections.specs.Headers.{startsOf, endAt, headerBytes, Headed, countsOf}
 use Rattle.store_sections.specs.Fills.{Fills}

@@ -9,7 +9,7 @@ use lib.Seq.{sets}
 use Rattle.rules.specs.Limits.{maxLine}
 use Rattle.rules.specs.Answers as rules
 use Rattle.rules.specs.Answers.{refuses}
-use Rattle.store_sections.specs.declared.Counts.{Counts}
+use Rattle.counts.specs.declared.Counts.{Counts}
 use Rattle.store_sections.specs.Pages.{run}
 use Rattle.store_sections.specs.Headers.{startsOf, endAt, headerBytes}
 use Rattle.shape.specs.declared.Verdict.{Verdict}
