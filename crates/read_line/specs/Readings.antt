@@ -21,10 +21,6 @@ use Rattle.measure_line.specs.Totals.{totalsOf}
 use Rattle.measure_line.specs.Refusals.{firstOf}
 use Rattle.read_line.specs.Stores.{lineEvents}
 
-abbrev pub countsIn : Totals → Counts
-countsIn t =
-    record { annotations = t .annotations; losses = t .losses; isotopes = t .isotopes; items = t .items; units = t .units; text = t .text }
-
 -- a refusal, over an output d that stays as it is
 abbrev pub refusedOver : List ℕ → ℕ → ℕ → rules.Answer
 refusedOver d number place = record { number = number; place = place; size = 0; out = d }
@@ -41,7 +37,7 @@ storedOver d line n =
 
 abbrev pub countedOver : List ℕ → List ℕ → Totals → rules.Answer
 countedOver d line t =
-    let f = firstOf t in cond (eqb (f .number) 0) (storedOver d line (countsIn t)) (refusedOver d (f .number) (f .place))
+    let f = firstOf t in cond (eqb (f .number) 0) (storedOver d line (t .counts)) (refusedOver d (f .number) (f .place))
 
 -- of a line with a shape, into an output d
 unfoldable pub spelledOver : List ℕ → List ℕ → rules.Answer
