@@ -59,9 +59,10 @@ record Plain (n : Counts) : Type 0 where
 
 -- none in all, none in either part
 plain-parts : (n m : Counts) → Plain (plus n m) → Plain n × Plain m
-plain-parts n m p =
-    (record { losses = left (p .losses); isotopes = left (p .isotopes); items = left (p .items); units = left (p .units) },
-    record { losses = right (p .losses); isotopes = right (p .isotopes); items = right (p .items); units = right (p .units) })
+plain-parts n m p = (
+  record { losses = left (p .losses); isotopes = left (p .isotopes); items = left (p .items); units = left (p .units) },
+  record { losses = right (p .losses); isotopes = right (p .isotopes); items = right (p .items); units = right (p .units) },
+)
   where
     left : {x y : ℕ} → sum x y ≡ 0 → x ≡ 0
     left e = omega arith
