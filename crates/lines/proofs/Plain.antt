@@ -58,17 +58,18 @@ record Plain (n : Counts) : Type 0 where
   units : n .units ≡ 0
 
 -- none in all, none in either part
-plain-parts : (n m : Counts) → Plain (plus n m) → Plain n × Plain m
-plain-parts n m p = (
-  record { losses = left (p .losses); isotopes = left (p .isotopes); items = left (p .items); units = left (p .units) },
-  record { losses = right (p .losses); isotopes = right (p .isotopes); items = right (p .items); units = right (p .units) },
-)
-  where
-    left : {x y : ℕ} → sum x y ≡ 0 → x ≡ 0
-    left e = omega arith
+none-of : (x y : ℕ) → sum x y ≡ 0 → (x ≡ 0) × (y ≡ 0)
+none-of x y e = (omega arith, omega arith)
 
-    right : {x y : ℕ} → sum x y ≡ 0 → y ≡ 0
-    right e = omega arith
+plain-parts : (n m : Counts) → Plain (plus n m) → Plain n × Plain m
+plain-parts n m p =
+    let losses = none-of (n .losses) (m .losses) (p .losses) in
+    let isotopes = none-of (n .isotopes) (m .isotopes) (p .isotopes) in
+    let items = none-of (n .items) (m .items) (p .items) in
+    let units = none-of (n .units) (m .units) (p .units) in (
+      record { losses = losses .0; isotopes = isotopes .0; items = items .0; units = units .0 },
+      record { losses = losses .1; isotopes = isotopes .1; items = items .1; units = units .1 },
+    )
 
 ion-plain : (a : Annotation Written) → countsIn a .units ≡ 0 → length (ionFields (ionMap filled (a .ion)) .units) ≡ 0
 ion-plain a e =
