@@ -10,7 +10,6 @@ use lib.Seq.{drop-append-seam, drop-drop}
 use Rattle.lang.specs.Parts.{flat, optText, wordOf}
 use Rattle.lang.specs.Mark.{Mark, Kept}
 use Rattle.rules.specs.Formulas.{Written}
-use Rattle.rules.specs.Isotopes.{isotopesMap}
 use Rattle.rules.specs.Annotations.{Annotation, annotationText, annotationMap}
 use Rattle.rules.specs.Numbers.{numberText}
 use Rattle.rules.specs.Texts.{bracedText}
@@ -19,9 +18,7 @@ use Rattle.rules.specs.Lines.{Spelling, nextText, lineText}
 use Rattle.rules.specs.Fields.{filled}
 use Rattle.rules.specs.Limits.{annotationMarks, nextMarks, rowMarks, lineMarks}
 use Rattle.rules.specs.House.{one}
-use Rattle.rules.specs.Stored.{isotopeRecords, annotationUnits, annotationTexts}
 use Rattle.rules.proofs.Keeps.{kept-left, kept-right}
-use Rattle.rules.proofs.Totals.{total}
 use Rattle.rules.proofs.Digits.{digits-some}
 use Rattle.put_bytes.specs.Puts.{maxPlace}
 use Rattle.counts.specs.declared.Counts.{Counts}

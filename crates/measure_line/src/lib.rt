@@ -15,7 +15,7 @@ use slices::begins_with;
 use slices::minus_or_zero;
 use slices::rest;
 
-// What was counted of the annotations up to `at`: what they have of each kind, the sum of confidences in billionths, the first broken limit,
+// What was counted of the annotations up to `at`: how many of each kind, the sum of confidences in billionths, the first broken limit,
 // the first annotation that breaks a rule, the first that takes the sum past 1.
 pub struct Totals {
     pub counts: Counts,
