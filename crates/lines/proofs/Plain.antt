@@ -1,6 +1,6 @@
 -- A line without losses, isotopes, adduct items and units is the preferred one of what it spells. Assumes nothing.
-use Prim.Native.Nat.{_≤_}
-use mathlib.Core.Path.{_≡_, refl, ap, ap₂, _∙_}
+use Prim.Native.Nat.{ℕ, _≤_}
+use mathlib.Core.Path.{_≡_, refl, ap, ap₂, _∙_, subst}
 use mathlib.Core.Bool.{true}
 use mathlib.Core.List.{List, [], _∷_, _++_, map}
 use native.Mathlib.Omega.{arith}
@@ -22,18 +22,19 @@ use Rattle.rules.specs.Lines.{Spelling, lineText}
 use Rattle.rules.specs.Fields.{Table, filled, Says}
 use Rattle.rules.specs.Preferred.{shortened, preferredSpelling, preferred}
 use Rattle.rules.specs.Stored.{ionFields, lostUnits, addedUnits, isotopeRecords}
-use Rattle.rules.proofs.Totals.{perm-length, total}
+use Rattle.rules.proofs.Totals.{perm-length}
 use Rattle.put_bytes.specs.Puts.{maxPlace}
+use Rattle.counts.specs.declared.Counts.{Counts}
+use Rattle.counts.specs.Sums.{sum, noCounts, plus}
 use Rattle.respell_annotation.proofs.Kept.{ion-filled}
-use Rattle.measure_line.specs.declared.Totals.{Totals}
-use Rattle.measure_line.specs.Totals.{nothing, totalsOf}
-use Rattle.measure_line.proofs.Through.{lossesIn, isotopesIn, itemsIn, unitsIn, Counts, totals-read}
+use Rattle.measure_line.specs.Totals.{totalsOf}
+use Rattle.measure_line.proofs.Through.{countsIn, spelledCounts, totals-read}
 use Rattle.lines.specs.Plain.{isPlain}
 
 -- ---- the parts of an annotation, as a table has them
 
 -- of none in any order, none
-none-said : {A B : Type 0} (f : A → B) (g : B → A) (l : List A) (m : List B) → Perm (map f l) m → length l ≡ 0 → l ≡ map g m
+none-said : {A B : Type 0} (f : A → B) (g : B → A) (l : List A) (m : List B) → Perm (map f l) m → length (map f l) ≡ 0 → l ≡ map g m
 none-said f g [] [] p e = refl
 none-said f g [] (y ∷ m) p e = let q = perm-length p in absurd (omega arith)
 none-said f g (x ∷ l) m p e = absurd (omega arith)
@@ -49,26 +50,40 @@ isotopes-filled (specific-isotopes xs) e = absurd (omega arith)
 
 -- ---- annotations and lines
 
--- none of the four in a spelling, or in a part of one
-record Plain (s : Spelling) : Type 0 where
-  losses : total lossesIn s ≡ 0
-  isotopes : total isotopesIn s ≡ 0
-  items : total itemsIn s ≡ 0
-  units : total unitsIn s ≡ 0
+-- none of the four
+record Plain (n : Counts) : Type 0 where
+  losses : n .losses ≡ 0
+  isotopes : n .isotopes ≡ 0
+  items : n .items ≡ 0
+  units : n .units ≡ 0
 
-ion-plain : (a : Annotation Written) → unitsIn a ≡ 0 → length (ionFields (ionMap filled (a .ion)) .units) ≡ 0
+-- none in all, none in either part
+none-of : (x y : ℕ) → sum x y ≡ 0 → (x ≡ 0) × (y ≡ 0)
+none-of x y e = (omega arith, omega arith)
+
+plain-parts : (n m : Counts) → Plain (plus n m) → Plain n × Plain m
+plain-parts n m p =
+    let losses = none-of (n .losses) (m .losses) (p .losses) in
+    let isotopes = none-of (n .isotopes) (m .isotopes) (p .isotopes) in
+    let items = none-of (n .items) (m .items) (p .items) in
+    let units = none-of (n .units) (m .units) (p .units) in (
+      record { losses = losses .0; isotopes = isotopes .0; items = items .0; units = units .0 },
+      record { losses = losses .1; isotopes = isotopes .1; items = items .1; units = units .1 },
+    )
+
+ion-plain : (a : Annotation Written) → countsIn a .units ≡ 0 → length (ionFields (ionMap filled (a .ion)) .units) ≡ 0
 ion-plain a e =
     let b = annotationMap filled a in
     let others = flat (λ l. lostUnits (l .what)) (b .losses) ++ flat (λ x. addedUnits (x .what)) (b .adduct) in
     omega (arith, e, length-append (ionFields (b .ion) .units) others)
 
-first-said : (a : Annotation Written) (more : Spelling) (b : Annotation Number) → Says a b → Plain (a ∷ more) → a ≡ annotationMap shortened b
-first-said a more b s p =
+first-said : (a : Annotation Written) (b : Annotation Number) → Says a b → Plain (countsIn a) → a ≡ annotationMap shortened b
+first-said a b s p =
     let e = s .fields in
-    let ion = ion-said (a .ion) (b .ion) (e .ion) (ion-plain a (omega (arith, p .units))) in
-    let losses = none-said (lossMap filled) (lossMap shortened) (a .losses) (b .losses) (e .losses) (omega (arith, p .losses)) in
-    let isotopes = isotopes-filled (a .isotopes) (omega (arith, p .isotopes)) ∙ ap (isotopesMap shortened) (e .isotopes) in
-    let adduct = none-said (itemMap filled) (itemMap shortened) (a .adduct) (b .adduct) (e .adduct) (omega (arith, p .items)) in
+    let ion = ion-said (a .ion) (b .ion) (e .ion) (ion-plain a (p .units)) in
+    let losses = none-said (lossMap filled) (lossMap shortened) (a .losses) (b .losses) (e .losses) (p .losses) in
+    let isotopes = isotopes-filled (a .isotopes) (p .isotopes) ∙ ap (isotopesMap shortened) (e .isotopes) in
+    let adduct = none-said (itemMap filled) (itemMap shortened) (a .adduct) (b .adduct) (e .adduct) (p .items) in
     λ i. record {
       marked = e .marked i;
       analyte = e .analyte i;
@@ -81,37 +96,31 @@ first-said a more b s p =
       confidence = e .confidence i;
     }
 
-others-plain : (a : Annotation Written) (more : Spelling) → Plain (a ∷ more) → Plain more
-others-plain a more p =
-    record {
-      losses = omega (arith, p .losses);
-      isotopes = omega (arith, p .isotopes);
-      items = omega (arith, p .items);
-      units = omega (arith, p .units);
-    }
-
 -- a plain spelling is the preferred one
-plain-one : {s : Spelling} {t : Table} → Each Says s t → Plain s → s ≡ preferredSpelling t
+plain-one : {s : Spelling} {t : Table} → Each Says s t → Plain (spelledCounts s) → s ≡ preferredSpelling t
 plain-one none p = refl
-plain-one (next {a = a} {b = b} {l = more} x e) p = ap₂ _∷_ (first-said a more b x p) (plain-one e (others-plain a more p))
+plain-one (next {a = a} {b = b} {l = more} x e) p =
+    let q = plain-parts (countsIn a) (spelledCounts more) p in ap₂ _∷_ (first-said a b x (q .0)) (plain-one e (q .1))
 
 -- ---- by what was counted
 
-counted-plain : (s : Spelling) (t : Totals) → Counts s nothing t → isPlain t ≡ true → Plain s
+tested-plain : (n : Counts) → isPlain n ≡ true → Plain n
 unfolding isPlain
-counted-plain s t c e =
-    let losses = eqb (t .losses) 0 in
-    let isotopes = eqb (t .isotopes) 0 in
-    let items = eqb (t .items) 0 in
-    let units = eqb (t .units) 0 in
+tested-plain n e =
+    let losses = eqb (n .losses) 0 in
+    let isotopes = eqb (n .isotopes) 0 in
+    let items = eqb (n .items) 0 in
+    let units = eqb (n .units) 0 in
     let h = is-t e in
     record {
-      losses = omega (arith, c .losses, eqb-true (t .losses) 0 (t-is losses (and-0 losses _ h)));
-      isotopes = omega (arith, c .isotopes, eqb-true (t .isotopes) 0 (t-is isotopes (and-0 isotopes _ (and-1 losses _ h))));
-      items = omega (arith, c .items, eqb-true (t .items) 0 (t-is items (and-0 items units (and-1 isotopes _ (and-1 losses _ h)))));
-      units = omega (arith, c .units, eqb-true (t .units) 0 (t-is units (and-1 items units (and-1 isotopes _ (and-1 losses _ h)))));
+      losses = eqb-true (n .losses) 0 (t-is losses (and-0 losses _ h));
+      isotopes = eqb-true (n .isotopes) 0 (t-is isotopes (and-0 isotopes _ (and-1 losses _ h)));
+      items = eqb-true (n .items) 0 (t-is items (and-0 items units (and-1 isotopes _ (and-1 losses _ h))));
+      units = eqb-true (n .units) 0 (t-is units (and-1 items units (and-1 isotopes _ (and-1 losses _ h))));
     }
 
-pub plain-preferred : (s : Spelling) {t : Table} → length (lineText s) ≤ maxPlace → Each Says s t → isPlain (totalsOf (lineText s)) ≡ true
+pub plain-preferred : (s : Spelling) {t : Table} → length (lineText s) ≤ maxPlace → Each Says s t → isPlain (totalsOf (lineText s) .counts) ≡ true
     → lineText s ≡ preferred t
-plain-preferred s h says e = ap lineText (plain-one says (counted-plain s (totalsOf (lineText s)) (totals-read s h .counts) e))
+plain-preferred s h says e =
+    let p = subst Plain (totals-read s h .counts) (tested-plain (totalsOf (lineText s) .counts) e) in
+    ap lineText (plain-one says (plain-parts noCounts (spelledCounts s) p .1))

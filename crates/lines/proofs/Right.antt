@@ -32,7 +32,7 @@ use Rattle.store_sections.specs.Headers.{endAt}
 use Rattle.measure_line.specs.declared.Totals.{Totals}
 use Rattle.measure_line.specs.Totals.{partsAt, totalsOf}
 use Rattle.measure_line.specs.Refusals.{firstOf}
-use Rattle.read_line.specs.Readings.{countsIn, tableOver, spelledOver, anyOver, readOf}
+use Rattle.read_line.specs.Readings.{tableOver, spelledOver, anyOver, readOf}
 use Rattle.measure_line.proofs.EachGives.{Gives, line-given}
 use Rattle.measure_line.proofs.RespelledLine.{line-worded}
 use Rattle.read_line.proofs.Right.{read-right}
@@ -91,9 +91,9 @@ anew-preferred s t small says kept =
 spelling-preferred : (s : Spelling) (t : Table) → length (lineText s) ≤ maxPlace → Each Says s t → Kept (lineMarks s)
     → spellingOf (lineText s) (totalsOf (lineText s)) (partsAt (lineText s) 0) ≡ preferred t
 unfolding spellingOf
-spelling-preferred s t small says kept = by (isPlain (totalsOf (lineText s))) refl
+spelling-preferred s t small says kept = by (isPlain (totalsOf (lineText s) .counts)) refl
   where
-    by : (b : Bool) → isPlain (totalsOf (lineText s)) ≡ b → cond b (lineText s) (lineSpelled (lineText s) (partsAt (lineText s) 0)) ≡ preferred t
+    by : (b : Bool) → isPlain (totalsOf (lineText s) .counts) ≡ b → cond b (lineText s) (lineSpelled (lineText s) (partsAt (lineText s) 0)) ≡ preferred t
     by true e = plain-preferred s small says e
     by false e = anew-preferred s t small says kept
 
@@ -119,18 +119,18 @@ module _ (line : List ℕ) (room : ℕ) where
 
   over-is : (spelledOver zeros line .number ≡ 8 → ⊥) → relabelledOver line room ≡ answerBy line room (spelledOver zeros line)
   unfolding relabelledOver spelledOver
-  over-is h = by (eqb (firstOf t .number) 0) refl (ltb (length zeros) (endAt (countsIn t))) refl h
+  over-is h = by (eqb (firstOf t .number) 0) refl (ltb (length zeros) (endAt (t .counts))) refl h
     where
       w : Answer
       w = lineOver (spellingOf line t (partsAt line 0)) room
 
       stored-by : Bool → Answer
-      stored-by c = cond c (record { number = 8; place = endAt (countsIn t); size = 0; out = zeros }) (record { number = 0; place = 0; size = endAt (countsIn t); out = tableOver zeros line (countsIn t) })
+      stored-by c = cond c (record { number = 8; place = endAt (t .counts); size = 0; out = zeros }) (record { number = 0; place = 0; size = endAt (t .counts); out = tableOver zeros line (t .counts) })
 
       read-by : Bool → Bool → Answer
       read-by b c = cond b (stored-by c) (record { number = firstOf t .number; place = firstOf t .place; size = 0; out = zeros })
 
-      by : (b : Bool) → eqb (firstOf t .number) 0 ≡ b → (c : Bool) → ltb (length zeros) (endAt (countsIn t)) ≡ c → (read-by b c .number ≡ 8 → ⊥)
+      by : (b : Bool) → eqb (firstOf t .number) 0 ≡ b → (c : Bool) → ltb (length zeros) (endAt (t .counts)) ≡ c → (read-by b c .number ≡ 8 → ⊥)
           → cond b w (refuses room (firstOf t .number) (firstOf t .place)) ≡ answerBy line room (read-by b c)
       by true e true f n = absurd (n refl)
       by true e false f n = refl

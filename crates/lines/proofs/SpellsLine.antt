@@ -6,32 +6,33 @@ use mathlib.Core.List.{List}
 use lib.Dec.{eqb}
 use borrow.Author.Tests.{eq-eqb, ne-eqb}
 use Rattle.put_bytes.specs.Puts.{Put}
+use Rattle.counts.specs.declared.Counts.{Counts}
 use Rattle.read_annotation.specs.declared.Parts.{Parts}
 use Rattle.measure_line.specs.declared.Totals.{Totals}
 use Rattle.lines.specs.Plain.{isPlain, lineSpelled, spellingOf}
 
 -- ---- the four tests, one after the other
 
-module _ (t : Totals) where
-  pub with-losses : (t .losses ≡ 0 → ⊥) → false ≡ isPlain t
+module _ (n : Counts) where
+  pub with-losses : (n .losses ≡ 0 → ⊥) → false ≡ isPlain n
   unfolding isPlain
-  with-losses l = rw (ne-eqb (t .losses) 0 l)
+  with-losses l = rw (ne-eqb (n .losses) 0 l)
 
-  pub with-isotopes : t .losses ≡ 0 → (t .isotopes ≡ 0 → ⊥) → false ≡ isPlain t
+  pub with-isotopes : n .losses ≡ 0 → (n .isotopes ≡ 0 → ⊥) → false ≡ isPlain n
   unfolding isPlain
-  with-isotopes l i = rw (eq-eqb (t .losses) 0 l, ne-eqb (t .isotopes) 0 i)
+  with-isotopes l i = rw (eq-eqb (n .losses) 0 l, ne-eqb (n .isotopes) 0 i)
 
-  pub with-items : t .losses ≡ 0 → t .isotopes ≡ 0 → (t .items ≡ 0 → ⊥) → false ≡ isPlain t
+  pub with-items : n .losses ≡ 0 → n .isotopes ≡ 0 → (n .items ≡ 0 → ⊥) → false ≡ isPlain n
   unfolding isPlain
-  with-items l i x = rw (eq-eqb (t .losses) 0 l, eq-eqb (t .isotopes) 0 i, ne-eqb (t .items) 0 x)
+  with-items l i x = rw (eq-eqb (n .losses) 0 l, eq-eqb (n .isotopes) 0 i, ne-eqb (n .items) 0 x)
 
-  pub by-units : t .losses ≡ 0 → t .isotopes ≡ 0 → t .items ≡ 0 → eqb (t .units) 0 ≡ isPlain t
+  pub by-units : n .losses ≡ 0 → n .isotopes ≡ 0 → n .items ≡ 0 → eqb (n .units) 0 ≡ isPlain n
   unfolding isPlain
-  by-units l i x = rw (eq-eqb (t .losses) 0 l, eq-eqb (t .isotopes) 0 i, eq-eqb (t .items) 0 x)
+  by-units l i x = rw (eq-eqb (n .losses) 0 l, eq-eqb (n .isotopes) 0 i, eq-eqb (n .items) 0 x)
 
 -- ---- the line
 
-module _ (line : List ℕ) (t : Totals) (p : Parts) {b : Bool} (told : b ≡ isPlain t) where
+module _ (line : List ℕ) (t : Totals) (p : Parts) {b : Bool} (told : b ≡ isPlain (t .counts)) where
   spelling-is : (v : Bool) → b ≡ v → cond v line (lineSpelled line p) ≡ spellingOf line t p
   unfolding spellingOf
   spelling-is v h = ap (λ (x : Bool). cond x line (lineSpelled line p)) (sym h ∙ told)

@@ -4,14 +4,15 @@ use mathlib.Core.Bool.{Bool, _&&_, cond}
 use mathlib.Core.List.{List, _++_}
 use lib.Dec.{eqb}
 use Rattle.rules.specs.Bytes.{bytes}
+use Rattle.counts.specs.declared.Counts.{Counts}
 use Rattle.read_annotation.specs.declared.Parts.{Parts}
 use Rattle.respell_annotation.specs.Annotations.{annotationSpelled}
 use Rattle.measure_line.specs.declared.Totals.{Totals}
 use Rattle.measure_line.specs.Walks.{lineGivenBy}
 
 -- no losses, no isotopes, no adduct items, and no units
-unfoldable pub isPlain : Totals → Bool
-isPlain t = eqb (t .losses) 0 && (eqb (t .isotopes) 0 && (eqb (t .items) 0 && eqb (t .units) 0))
+unfoldable pub isPlain : Counts → Bool
+isPlain n = eqb (n .losses) 0 && (eqb (n .isotopes) 0 && (eqb (n .items) 0 && eqb (n .units) 0))
 
 -- an annotation behind a comma
 abbrev pub nextSpelled : List ℕ → Parts → List ℕ
@@ -23,4 +24,4 @@ lineSpelled line p = lineGivenBy annotationSpelled nextSpelled line p
 
 -- the line itself, or spelled anew, where t was counted of it and p read of its first annotation
 unfoldable pub spellingOf : List ℕ → Totals → Parts → List ℕ
-spellingOf line t p = cond (isPlain t) line (lineSpelled line p)
+spellingOf line t p = cond (isPlain (t .counts)) line (lineSpelled line p)

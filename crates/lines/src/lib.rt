@@ -11,6 +11,7 @@ use answers::Answer;
 use answers::MAX_LINE;
 use answers::clear_from;
 use answers::refuse;
+use counts::Counts;
 use measure_line::Totals;
 use measure_line::first_refusal;
 use measure_line::read_at;
@@ -49,19 +50,19 @@ pub fn write(table: &[u8], out: &mut [u8]) -> Answer
 
 // Whether no losses, isotopes, adduct items and units were counted: nothing else may be written in two ways, so such a line is the
 // preferred one.
-fn is_plain(t: Totals) -> bool
-    ensures { λ r. ⌜ r ≡ isPlain t ⌝ }
+fn is_plain(n: Counts) -> bool
+    ensures { λ r. ⌜ r ≡ isPlain n ⌝ }
 {
-    if t.losses != 0 {
+    if n.losses != 0 {
         return false;
     }
-    if t.isotopes != 0 {
+    if n.isotopes != 0 {
         return false;
     }
-    if t.items != 0 {
+    if n.items != 0 {
         return false;
     }
-    t.units == 0
+    n.units == 0
 }
 
 // All annotations of a line, of which the first was read; the place behind them.
@@ -89,7 +90,8 @@ fn spell_line(out: &mut [u8], line: &[u8], first: Parts) -> usize
 fn put_spelling(out: &mut [u8], line: &[u8], t: Totals, first: Parts) -> usize
     ensures { λ r. ⌜ Put (now (out .entry)) 0 (spellingOf (now (line .entry)) t first) (now (out .exit)) r ⌝ }
 {
-    if is_plain(t) {
+    let n = t.counts;
+    if is_plain(n) {
         return put_run(out, 0, line);
     }
     spell_line(out, line, first)

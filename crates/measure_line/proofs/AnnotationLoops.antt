@@ -10,53 +10,42 @@ use lib.ListN.{length, drop}
 use Rattle.rules.specs.Bytes.{bytes}
 use Rattle.rules.specs.Texts.{startsWith}
 use Rattle.rules.specs.House.{one}
-use Rattle.put_bytes.specs.Puts.{maxPlace}
+use Rattle.counts.specs.Sums.{noCounts, plus}
+use Rattle.counts.proofs.Sums.{none-plus}
 use Rattle.numbers.specs.Shares.{largest}
 use Rattle.faults.specs.declared.Fault.{Fault}
 use Rattle.faults.specs.Faults.{fault}
 use Rattle.read_annotation.specs.declared.Parts.{Parts}
 use Rattle.read_annotation.specs.declared.Measured.{Measured}
-use Rattle.read_annotation.specs.Groups.{plus}
-use Rattle.read_annotation.specs.Measured.{partsOf, measuredOf}
+use Rattle.read_annotation.specs.Measured.{ownCounts, partsOf, measuredOf}
 use Rattle.measure_line.specs.declared.Totals.{Totals}
 use Rattle.measure_line.specs.Totals.{nothing, noted, summed, goesOn, behindComma, addedBy, addOf, addNext, totalsFrom, totalsBy}
 use Rattle.measure_line.proofs.Loops.{loop-on, loop-ends}
 use Rattle.measure_line.proofs.Steps.{add-falls}
 
--- the first annotation, of which m was measured: a sum with nothing is the number itself, where it is one that fits
+-- a sum that was taken fits
+measured-fits : (s : List ℕ) (p : Parts) {m : Measured} → m ≡ measuredOf s p → plus noCounts (m .counts) ≡ m .counts
+unfolding measuredOf
+measured-fits s p e =
+    let q = ap (λ (m : Measured). m .counts) e in ap (plus noCounts) q ∙ none-plus (ownCounts (p .front .ion)) (p .middle .counts) ∙ sym q
+
+-- the first annotation, of which m was measured: a sum with nothing is what was measured
 pub first-added : (line : List ℕ) (p : Parts) {m : Measured} {breach excess : Fault} {at : ℕ} → m ≡ measuredOf line p
-    → m .losses ≤ maxPlace → m .isotopes ≤ maxPlace → m .items ≤ maxPlace → m .units ≤ maxPlace → m .text ≤ maxPlace → m .share ≤ largest
+    → m .share ≤ largest
     → breach ≡ noted (fault 0 0) 6 0 (m .kept) → excess ≡ noted (fault 0 0) 7 0 (leb (m .share) one) → at ≡ min (0 + m .len) (length line)
-    → record {
-      annotations = 1;
-      losses = m .losses;
-      isotopes = m .isotopes;
-      items = m .items;
-      units = m .units;
-      text = m .text;
-      sum = m .share;
-      limit = m .fault;
-      breach = breach;
-      excess = excess;
-      at = at;
-    }
-    ≡ addedBy line nothing 0 p
-first-added line p {m} pm hl hi ht hu hx hs pb pe pa =
+    → record { counts = m .counts; sum = m .share; limit = m .fault; breach = breach; excess = excess; at = at } ≡ addedBy line nothing 0 p
+first-added line p {m} pm hs pb pe pa =
     let z : length line - length line ≡ 0 = omega arith in
-    let l : plus 0 (m .losses) ≡ m .losses = omega arith in
-    let i : plus 0 (m .isotopes) ≡ m .isotopes = omega arith in
-    let t : plus 0 (m .items) ≡ m .items = omega arith in
-    let u : plus 0 (m .units) ≡ m .units = omega arith in
-    let x : plus 0 (m .text) ≡ m .text = omega arith in
+    let c : plus noCounts (m .counts) ≡ m .counts = measured-fits line p pm in
     let s : summed 0 (m .share) ≡ m .share = omega arith in
-    rw (pb, pe, pa, ← pm, z, l, i, t, u, x, s)
+    rw (pb, pe, pa, ← pm, z, c, s)
 
 -- one annotation more, behind a comma
 pub next-added : (line : List ℕ) (t : Totals) {u : Totals} {from : ℕ} {r : List ℕ} {p : Parts} → from ≡ behindComma line (t .at) → r ≡ drop from line
-    → p ≡ partsOf (t .annotations) (length line) r (t .limit) → u ≡ addedBy line t from p → u ≡ addNext line t
+    → p ≡ partsOf (t .counts .annotations) (length line) r (t .limit) → u ≡ addedBy line t from p → u ≡ addNext line t
 unfolding addOf
 next-added line t {from = from} pf pr pp pu =
-    pu ∙ ap (addedBy line t from) (pp ∙ ap (λ (r : List ℕ). partsOf (t .annotations) (length line) r (t .limit)) pr) ∙ ap (addOf line t) pf
+    pu ∙ ap (addedBy line t from) (pp ∙ ap (λ (r : List ℕ). partsOf (t .counts .annotations) (length line) r (t .limit)) pr) ∙ ap (addOf line t) pf
 
 -- an empty line
 pub empty-totals : (line : List ℕ) (p : Parts) {n : Totals} → length line < 1 → n ≡ nothing → n ≡ totalsBy line p

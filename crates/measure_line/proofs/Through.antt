@@ -10,7 +10,6 @@ use lib.Seq.{drop-append-seam, drop-drop}
 use Rattle.lang.specs.Parts.{flat, optText, wordOf}
 use Rattle.lang.specs.Mark.{Mark, Kept}
 use Rattle.rules.specs.Formulas.{Written}
-use Rattle.rules.specs.Isotopes.{isotopesMap}
 use Rattle.rules.specs.Annotations.{Annotation, annotationText, annotationMap}
 use Rattle.rules.specs.Numbers.{numberText}
 use Rattle.rules.specs.Texts.{bracedText}
@@ -19,16 +18,17 @@ use Rattle.rules.specs.Lines.{Spelling, nextText, lineText}
 use Rattle.rules.specs.Fields.{filled}
 use Rattle.rules.specs.Limits.{annotationMarks, nextMarks, rowMarks, lineMarks}
 use Rattle.rules.specs.House.{one}
-use Rattle.rules.specs.Stored.{isotopeRecords, annotationUnits, annotationTexts}
 use Rattle.rules.proofs.Keeps.{kept-left, kept-right}
-use Rattle.rules.proofs.Totals.{total}
 use Rattle.rules.proofs.Digits.{digits-some}
 use Rattle.put_bytes.specs.Puts.{maxPlace}
+use Rattle.counts.specs.declared.Counts.{Counts}
+use Rattle.counts.specs.Sums.{noCounts, plus}
+use Rattle.counts.proofs.Sums.{plus-assoc, plus-none, plus-capped}
+use Rattle.counts.proofs.Annotations.{annotationCounts}
 use Rattle.faults.specs.declared.Fault.{Fault}
 use Rattle.faults.specs.Faults.{after}
 use Rattle.faults.proofs.Marks.{after-append}
 use Rattle.read_annotation.specs.declared.Measured.{Measured}
-use Rattle.read_annotation.specs.Groups.{plus}
 use Rattle.read_annotation.specs.Measured.{measureOf}
 use Rattle.read_annotation.proofs.SpelledAnnotation.{EndsAnnotation, at-end, at-comma, Measures, measure-read}
 use Rattle.measure_line.specs.declared.Totals.{Totals}
@@ -37,70 +37,20 @@ use Rattle.measure_line.proofs.Loops.{loop-on, loop-ends}
 use Rattle.measure_line.proofs.Steps.{add-falls}
 use Rattle.measure_line.proofs.Folds.{behind, shareIn, foldBreach, foldExcess}
 
--- ---- how many of each kind an annotation has
+-- ---- how many of each kind an annotation has, and all of a spelling
 
-abbrev pub lossesIn : Annotation Written → ℕ
-lossesIn a = length (a .losses)
+abbrev pub countsIn : Annotation Written → Counts
+countsIn a = annotationCounts (annotationMap filled a)
 
-abbrev pub isotopesIn : Annotation Written → ℕ
-isotopesIn a = length (isotopeRecords (isotopesMap filled (a .isotopes)))
-
-abbrev pub itemsIn : Annotation Written → ℕ
-itemsIn a = length (a .adduct)
-
-abbrev pub unitsIn : Annotation Written → ℕ
-unitsIn a = length (annotationUnits (annotationMap filled a))
-
-abbrev pub textIn : Annotation Written → ℕ
-textIn a = length (annotationTexts (annotationMap filled a))
-
--- what was counted is more by the annotations s, the first of which is number i
-pub record Counts (s : Spelling) (t u : Totals) : Type 0 where
-  pub annotations : u .annotations ≡ plus (t .annotations) (length s)
-  pub losses : u .losses ≡ plus (t .losses) (total lossesIn s)
-  pub isotopes : u .isotopes ≡ plus (t .isotopes) (total isotopesIn s)
-  pub items : u .items ≡ plus (t .items) (total itemsIn s)
-  pub units : u .units ≡ plus (t .units) (total unitsIn s)
-  pub text : u .text ≡ plus (t .text) (total textIn s)
+abbrev pub spelledCounts : Spelling → Counts
+spelledCounts [] = noCounts
+spelledCounts (a ∷ s) = plus (countsIn a) (spelledCounts s)
 
 -- faults, where the limits ms are those of the annotations s, the first of which begins at a place
 pub record Finds (ms : List Mark) (s : Spelling) (from : ℕ) (t u : Totals) : Type 0 where
   pub limit : u .limit ≡ after (t .limit) ms
   pub breach : Kept ms → u .breach ≡ foldBreach (t .breach) from s
   pub excess : Kept ms → u .excess ≡ foldExcess (t .excess) (t .sum) from s
-
-pub record Small (t : Totals) : Type 0 where
-  pub annotations : t .annotations ≤ maxPlace
-  pub losses : t .losses ≤ maxPlace
-  pub isotopes : t .isotopes ≤ maxPlace
-  pub items : t .items ≤ maxPlace
-  pub units : t .units ≤ maxPlace
-  pub text : t .text ≤ maxPlace
-
-counts-none : (t : Totals) → Small t → Counts [] t t
-counts-none t h =
-    record {
-      annotations = omega (arith, h .annotations);
-      losses = omega (arith, h .losses);
-      isotopes = omega (arith, h .isotopes);
-      items = omega (arith, h .items);
-      units = omega (arith, h .units);
-      text = omega (arith, h .text);
-    }
-
-one-more : (n m : ℕ) {k : ℕ} → k ≡ m → plus n k ≡ plus n (m + 0)
-one-more n m e = omega arith
-
-counts-more : {a : Annotation Written} {s : Spelling} {t u v : Totals} → Counts (a ∷ []) t u → Counts s u v → Counts (a ∷ s) t v
-counts-more {a} {s} {t} {u} {v} p q =
-    record {
-      annotations = (let x = p .annotations in let y = q .annotations in omega arith);
-      losses = (let x = p .losses in let y = q .losses in omega arith);
-      isotopes = (let x = p .isotopes in let y = q .isotopes in omega arith);
-      items = (let x = p .items in let y = q .items in omega arith);
-      units = (let x = p .units in let y = q .units in omega arith);
-      text = (let x = p .text in let y = q .text in omega arith);
-    }
 
 -- ---- no annotation is empty
 
@@ -129,25 +79,20 @@ rest-ends (a ∷ more) = at-comma (annotationText a ++ flat nextText more)
 module _ (line : List ℕ) (small : length line ≤ maxPlace) where
   -- the annotation that begins at `from`, of which m was measured
   module _ (a : Annotation Written) (t : Totals) (from : ℕ) (m : Measured) (g : from + length (annotationText a) ≤ length line)
-      (h : Measures (t .annotations) a from (t .limit) m) where
-    one-counts : Counts (a ∷ []) t (addedWith line t from m)
-    one-counts =
-        record {
-          annotations = refl;
-          losses = one-more (t .losses) (lossesIn a) (h .losses);
-          isotopes = one-more (t .isotopes) (isotopesIn a) (h .isotopes);
-          items = one-more (t .items) (itemsIn a) (h .items);
-          units = one-more (t .units) (unitsIn a) (h .units);
-          text = one-more (t .text) (textIn a) (h .text);
-        }
+      (h : Measures (t .counts .annotations) a from (t .limit) m) where
+    one-counts : addedWith line t from m .counts ≡ plus (t .counts) (countsIn a)
+    one-counts = ap (plus (t .counts)) (h .counts) ∙ plus-capped (t .counts) (countsIn a)
+
+    one-annotation : m .counts .annotations ≡ 1
+    one-annotation = ap (λ (n : Counts). n .annotations) (h .counts)
 
     place-is : length line - length (drop from line) ≡ from
     place-is = omega (arith, length-drop from line)
 
-    one-sum : Kept (annotationMarks (t .annotations) a from) → addedWith line t from m .sum ≡ summed (t .sum) (shareIn a)
+    one-sum : Kept (annotationMarks (t .counts .annotations) a from) → addedWith line t from m .sum ≡ summed (t .sum) (shareIn a)
     one-sum k = ap (summed (t .sum)) (h .share k)
 
-    one-finds : Finds (annotationMarks (t .annotations) a from) (a ∷ []) from t (addedWith line t from m)
+    one-finds : Finds (annotationMarks (t .counts .annotations) a from) (a ∷ []) from t (addedWith line t from m)
     one-finds =
         record {
           limit = h .fault;
@@ -161,7 +106,7 @@ module _ (line : List ℕ) (small : length line ≤ maxPlace) where
   record AddedRead (a : Annotation Written) (t : Totals) (from : ℕ) : Type 0 where
     m : Measured
     is : addOf line t from ≡ addedWith line t from m
-    measures : Measures (t .annotations) a from (t .limit) m
+    measures : Measures (t .counts .annotations) a from (t .limit) m
     inside : from + length (annotationText a) ≤ length line
 
   added-read : (a : Annotation Written) (k : List ℕ) (t : Totals) (from : ℕ) → from ≤ length line → drop from line ≡ annotationText a ++ k → EndsAnnotation k
@@ -170,12 +115,12 @@ module _ (line : List ℕ) (small : length line ≤ maxPlace) where
   added-read a k t from h e ends =
       let l : length (annotationText a ++ k) ≡ length line - from = sym (ap length e) ∙ length-drop from line in
       let p : length line - length (annotationText a ++ k) ≡ from = omega arith in
-      let m = measureOf (t .annotations) (length line) (annotationText a ++ k) (t .limit) in
-      let r = measure-read a k (t .annotations) (length line) (t .limit) ends (omega arith) small in
+      let m = measureOf (t .counts .annotations) (length line) (annotationText a ++ k) (t .limit) in
+      let r = measure-read a k (t .counts .annotations) (length line) (t .limit) ends (omega arith) in
       record {
         m = m;
-        is = ap (λ (z : List ℕ). addedWith line t from (measureOf (t .annotations) (length line) z (t .limit))) e;
-        measures = subst (λ (z : ℕ). Measures (t .annotations) a z (t .limit) m) p r;
+        is = ap (λ (z : List ℕ). addedWith line t from (measureOf (t .counts .annotations) (length line) z (t .limit))) e;
+        measures = subst (λ (z : ℕ). Measures (t .counts .annotations) a z (t .limit) m) p r;
         inside = omega (arith, length-append (annotationText a) k);
       }
 
@@ -183,23 +128,23 @@ module _ (line : List ℕ) (small : length line ≤ maxPlace) where
 
   -- what was counted from t to u, where the annotations `more` stand behind t, each behind its comma
   record Through (more : Spelling) (t u : Totals) : Type 0 where
-    counts : Counts more t u
-    finds : Finds (rowMarks nextText nextMarks (t .annotations) more (t .at)) more (t .at + 1) t u
+    counts : u .counts ≡ plus (t .counts) (spelledCounts more)
+    finds : Finds (rowMarks nextText nextMarks (t .counts .annotations) more (t .at)) more (t .at + 1) t u
 
   -- the first of them begins at `from`
-  module _ (a : Annotation Written) (more : Spelling) (t : Totals) (from : ℕ) (m : Measured) (room : t .annotations + 1 ≤ maxPlace)
-      (g : from + length (annotationText a) ≤ length line) (h : Measures (t .annotations) a from (t .limit) m) where
+  module _ (a : Annotation Written) (more : Spelling) (t : Totals) (from : ℕ) (m : Measured) (room : t .counts .annotations + 1 ≤ maxPlace)
+      (g : from + length (annotationText a) ≤ length line) (h : Measures (t .counts .annotations) a from (t .limit) m) where
     abbrev next : Totals
     next = addedWith line t from m
 
     abbrev marks : List Mark
-    marks = annotationMarks (t .annotations) a from
+    marks = annotationMarks (t .counts .annotations) a from
 
     abbrev others : List Mark
-    others = rowMarks nextText nextMarks (t .annotations + 1) more (from + length (annotationText a))
+    others = rowMarks nextText nextMarks (t .counts .annotations + 1) more (from + length (annotationText a))
 
-    others-are : rowMarks nextText nextMarks (next .annotations) more (next .at) ≡ others
-    others-are = ap₂ (λ (i at : ℕ). rowMarks nextText nextMarks i more at) (omega arith) (one-at a t from m g h)
+    others-are : rowMarks nextText nextMarks (next .counts .annotations) more (next .at) ≡ others
+    others-are = ap₂ (λ (i at : ℕ). rowMarks nextText nextMarks i more at) (omega (arith, one-annotation a t from m g h)) (one-at a t from m g h)
 
     begins-are : next .at + 1 ≡ behind from a
     begins-are = ap (λ (n : ℕ). n + 1) (one-at a t from m g h)
@@ -219,18 +164,17 @@ module _ (line : List ℕ) (small : length line ≤ maxPlace) where
               ∙ ap (λ (n : ℕ). foldExcess (noted (t .excess) 7 from (leb (summed (t .sum) (shareIn a)) one)) (summed (t .sum) (shareIn a)) n more) begins-are;
         }
 
-    counted-more : {u : Totals} → Through more next u → Counts (a ∷ more) t u
-    counted-more r = counts-more (one-counts a t from m g h) (r .counts)
+    counted-more : {u : Totals} → Through more next u → u .counts ≡ plus (t .counts) (spelledCounts (a ∷ more))
+    counted-more r =
+        r .counts ∙ ap (λ (n : Counts). plus n (spelledCounts more)) (one-counts a t from m g h)
+        ∙ plus-assoc (t .counts) (countsIn a) (spelledCounts more)
 
-  small-added : (t : Totals) (from : ℕ) (m : Measured) → Small (addedWith line t from m)
-  small-added t from m =
-      record { annotations = omega arith; losses = omega arith; isotopes = omega arith; items = omega arith; units = omega arith; text = omega arith }
-
-  through : (more : Spelling) (n : ℕ) (t : Totals) → Small t → length line - t .at ≤ n → t .at ≤ length line → drop (t .at) line ≡ flat nextText more
-      → t .annotations + length (flat nextText more) ≤ maxPlace → Through more t (totalsFrom line n t)
+  -- t is a sum already
+  through : (more : Spelling) (n : ℕ) (t : Totals) → t .counts ≡ plus (t .counts) noCounts → length line - t .at ≤ n → t .at ≤ length line → drop (t .at) line ≡ flat nextText more
+      → t .counts .annotations + length (flat nextText more) ≤ maxPlace → Through more t (totalsFrom line n t)
   through [] n t s l i e r =
       let q = loop-ends (λ (t : Totals). goesOn line (t .at)) (addNext line) n t (rw e) in
-      subst (λ (u : Totals). Through [] t u) (sym q) (record { counts = counts-none t s; finds = record { limit = refl; breach = λ k. refl; excess = λ k. refl } })
+      subst (λ (u : Totals). Through [] t u) (sym q) (record { counts = s; finds = record { limit = refl; breach = λ k. refl; excess = λ k. refl } })
   through (a ∷ more) n t s l i e r =
       let w = annotationText a ++ flat nextText more in
       let d : length line - t .at ≡ suc (length w) = sym (length-drop (t .at) line) ∙ ap length e in
@@ -246,12 +190,13 @@ module _ (line : List ℕ) (small : length line ≤ maxPlace) where
       let p : drop (u .at) line ≡ flat nextText more =
       ap (λ (n : ℕ). drop n line) o ∙ sym (drop-drop (length (annotationText a)) (t .at + 1) line) ∙ ap (drop (length (annotationText a))) f
       ∙ drop-append-seam (annotationText a) (flat nextText more) in
-      let y = through more n u (small-added t (t .at + 1) m) (omega arith) (omega arith) p (omega arith) in
+      let b₁ = one-annotation a t (t .at + 1) m (x .inside) (x .measures) in
+      let y = through more n u (sym (plus-none (t .counts) (m .counts))) (omega arith) (omega arith) p (omega arith) in
       subst (λ (v : Totals). Through (a ∷ more) t v) (sym (on ∙ ap (totalsFrom line n) is))
       (record {
         counts = counted-more a more t (t .at + 1) m (omega arith) (x .inside) (x .measures) y;
         finds =
-            subst (λ (at : ℕ). Finds (nextMarks (t .annotations) a (t .at) ++ rowMarks nextText nextMarks (t .annotations + 1) more at) (a ∷ more) (t .at + 1) t (totalsFrom line n u))
+            subst (λ (at : ℕ). Finds (nextMarks (t .counts .annotations) a (t .at) ++ rowMarks nextText nextMarks (t .counts .annotations + 1) more at) (a ∷ more) (t .at + 1) t (totalsFrom line n u))
             (omega arith) (finds-more a more t (t .at + 1) m (omega arith) (x .inside) (x .measures) y);
       })
 
@@ -259,7 +204,7 @@ module _ (line : List ℕ) (small : length line ≤ maxPlace) where
 
   -- an empty line has no annotations; of another, the first begins at 0
   first-through : (a : Annotation Written) (more : Spelling) → line ≡ lineText (a ∷ more)
-      → Counts (a ∷ more) nothing (totalsFrom line (length line) (addOf line nothing 0))
+      → (totalsFrom line (length line) (addOf line nothing 0) .counts ≡ plus noCounts (spelledCounts (a ∷ more)))
       × Finds (lineMarks (a ∷ more)) (a ∷ more) 0 nothing (totalsFrom line (length line) (addOf line nothing 0))
   first-through a more e =
       let c : length line ≡ length (annotationText a) + length (flat nextText more) = ap length e ∙ length-append (annotationText a) (flat nextText more) in
@@ -271,8 +216,9 @@ module _ (line : List ℕ) (small : length line ≤ maxPlace) where
       let z : 0 + length (annotationText a) ≡ length (annotationText a) = omega arith in
       let p : drop (u .at) line ≡ flat nextText more =
       ap (λ (n : ℕ). drop n line) o ∙ ap (drop (length (annotationText a))) e ∙ drop-append-seam (annotationText a) (flat nextText more) in
-      let y = through more (length line) u (small-added nothing 0 m) (omega arith) (omega arith) p (omega arith) in
-      subst (λ (v : Totals). Counts (a ∷ more) nothing v × Finds (lineMarks (a ∷ more)) (a ∷ more) 0 nothing v)
+      let b₁ = one-annotation a nothing 0 m (x .inside) (x .measures) in
+      let y = through more (length line) u (sym (plus-none noCounts (m .counts))) (omega arith) (omega arith) p (omega arith) in
+      subst (λ (v : Totals). (v .counts ≡ plus noCounts (spelledCounts (a ∷ more))) × Finds (lineMarks (a ∷ more)) (a ∷ more) 0 nothing v)
       (sym (ap (totalsFrom line (length line)) (x .is))) (
         counted-more a more nothing 0 m (omega arith) (x .inside) (x .measures) y,
         subst (λ (at : ℕ). Finds (annotationMarks 0 a 0 ++ rowMarks nextText nextMarks 1 more at) (a ∷ more) 0 nothing (totalsFrom line (length line) u))
@@ -283,16 +229,13 @@ module _ (line : List ℕ) (small : length line ≤ maxPlace) where
 
 -- what is counted of a spelled line
 pub record TotalsRead (s : Spelling) (u : Totals) : Type 0 where
-  pub counts : Counts s nothing u
+  pub counts : u .counts ≡ plus noCounts (spelledCounts s)
   pub finds : Finds (lineMarks s) s 0 nothing u
 
 pub totals-read : (s : Spelling) → length (lineText s) ≤ maxPlace → TotalsRead s (totalsOf (lineText s))
 unfolding totalsBy addOf
 totals-read [] h =
-    record {
-      counts = counts-none nothing (record { annotations = omega arith; losses = omega arith; isotopes = omega arith; items = omega arith; units = omega arith; text = omega arith });
-      finds = record { limit = refl; breach = λ k. refl; excess = λ k. refl };
-    }
+    record { counts = refl; finds = record { limit = refl; breach = λ k. refl; excess = λ k. refl } }
 totals-read (a ∷ more) h =
     let line = lineText (a ∷ more) in
     let b = annotation-some a in

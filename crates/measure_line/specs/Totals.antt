@@ -8,11 +8,11 @@ use Rattle.rules.specs.Bytes.{bytes}
 use Rattle.rules.specs.Texts.{startsWith}
 use Rattle.rules.specs.House.{one}
 use Rattle.numbers.specs.Shares.{largest}
+use Rattle.counts.specs.Sums.{noCounts, plus}
 use Rattle.faults.specs.declared.Fault.{Fault}
 use Rattle.faults.specs.Faults.{fault, join}
 use Rattle.read_annotation.specs.declared.Parts.{Parts}
 use Rattle.read_annotation.specs.declared.Measured.{Measured}
-use Rattle.read_annotation.specs.Groups.{plus}
 use Rattle.read_annotation.specs.Measured.{partsOf, measuredOf}
 use Rattle.measure_line.specs.declared.Totals.{Totals}
 use Rattle.measure_line.specs.Loops.{loop}
@@ -20,12 +20,7 @@ use Rattle.measure_line.specs.Loops.{loop}
 abbrev pub nothing : Totals
 nothing =
     record {
-      annotations = 0;
-      losses = 0;
-      isotopes = 0;
-      items = 0;
-      units = 0;
-      text = 0;
+      counts = noCounts;
       sum = 0;
       limit = fault 0 0;
       breach = fault 0 0;
@@ -47,12 +42,7 @@ addedWith line t from m =
     let place = length line - length (drop from line) in
     let sum = summed (t .sum) (m .share) in
     record {
-      annotations = plus (t .annotations) 1;
-      losses = plus (t .losses) (m .losses);
-      isotopes = plus (t .isotopes) (m .isotopes);
-      items = plus (t .items) (m .items);
-      units = plus (t .units) (m .units);
-      text = plus (t .text) (m .text);
+      counts = plus (t .counts) (m .counts);
       sum = sum;
       limit = m .fault;
       breach = noted (t .breach) 6 place (m .kept);
@@ -65,7 +55,7 @@ abbrev pub addedBy : List ℕ → Totals → ℕ → Parts → Totals
 addedBy line t from p = addedWith line t from (measuredOf (drop from line) p)
 
 unfoldable pub addOf : List ℕ → Totals → ℕ → Totals
-addOf line t from = addedBy line t from (partsOf (t .annotations) (length line) (drop from line) (t .limit))
+addOf line t from = addedBy line t from (partsOf (t .counts .annotations) (length line) (drop from line) (t .limit))
 
 -- a comma: one annotation more, behind it
 abbrev pub goesOn : List ℕ → ℕ → Bool

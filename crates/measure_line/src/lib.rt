@@ -3,6 +3,8 @@
 ghost use mathlib.Core.Path.{_≡_};
 ghost use Rattle.measure_line.specs.Totals.{nothing, noted, summed, partsAt, addedBy, addNext, totalsBy};
 ghost use Rattle.measure_line.specs.Refusals.{firstOf};
+use counts::Counts;
+use counts::plus;
 use faults::Fault;
 use read_annotation::ONE;
 use read_annotation::Parts;
@@ -16,12 +18,7 @@ use slices::rest;
 // What was counted of the annotations up to `at`: how many of each kind, the sum of confidences in billionths, the first broken limit,
 // the first annotation that breaks a rule, the first that takes the sum past 1.
 pub struct Totals {
-    pub annotations: usize,
-    pub losses: usize,
-    pub isotopes: usize,
-    pub items: usize,
-    pub units: usize,
-    pub text: usize,
+    pub counts: Counts,
     pub sum: u64,
     pub limit: Fault,
     pub breach: Fault,
@@ -37,12 +34,7 @@ fn before_all() -> Totals
         place: 0,
     };
     Totals {
-        annotations: 0,
-        losses: 0,
-        isotopes: 0,
-        items: 0,
-        units: 0,
-        text: 0,
+        counts: counts::none(),
         sum: 0,
         limit: none,
         breach: none,
@@ -91,18 +83,15 @@ fn add(t: Totals, line: &[u8], from: usize, p: Parts) -> Totals
 {
     let s = rest(line, from);
     let place = minus_or_zero(line.len(), s.len());
+    let so_far = t.counts;
     let breach = t.breach;
     let excess = t.excess;
     let m = measure(s, p);
+    let own = m.counts;
     let fault = m.fault;
     let sum = sum_of(t.sum, m.share);
     Totals {
-        annotations: advance(t.annotations, 1, usize::MAX),
-        losses: advance(t.losses, m.losses, usize::MAX),
-        isotopes: advance(t.isotopes, m.isotopes, usize::MAX),
-        items: advance(t.items, m.items, usize::MAX),
-        units: advance(t.units, m.units, usize::MAX),
-        text: advance(t.text, m.text, usize::MAX),
+        counts: plus(so_far, own),
         sum,
         limit: fault,
         breach: note(breach, 6, place, m.kept),
@@ -115,9 +104,10 @@ fn add(t: Totals, line: &[u8], from: usize, p: Parts) -> Totals
 fn add_next(t: Totals, line: &[u8]) -> Totals
     ensures { λ r. ⌜ r ≡ addNext (now (line .entry)) t ⌝ }
 {
+    let so_far = t.counts;
     let limit = t.limit;
     let from = advance(t.at, 1, line.len());
-    let p = read_parts(t.annotations, rest(line, from), line.len(), limit);
+    let p = read_parts(so_far.annotations, rest(line, from), line.len(), limit);
     add(t, line, from, p)
 }
 
@@ -130,14 +120,10 @@ fn add_first(line: &[u8], p: Parts) -> Totals
         place: 0,
     };
     let m = measure(line, p);
+    let own = m.counts;
     let fault = m.fault;
     Totals {
-        annotations: 1,
-        losses: m.losses,
-        isotopes: m.isotopes,
-        items: m.items,
-        units: m.units,
-        text: m.text,
+        counts: own,
         sum: m.share,
         limit: fault,
         breach: note(none, 6, 0, m.kept),

@@ -15,7 +15,7 @@ use Rattle.rules.specs.Answers.{Sound}
 use Rattle.rules.specs.Stored.{stored}
 use Rattle.rules.proofs.Bounds.{Bounded, table-few, table-bounded}
 use Rattle.rules.proofs.FitAnnotations.{InRange, table-in-range}
-use Rattle.store_sections.specs.declared.Counts.{Counts}
+use Rattle.counts.specs.declared.Counts.{Counts}
 use Rattle.store_sections.specs.Headers.{startsOf}
 use Rattle.print_table.specs.Parts.{StoredParts, storedPartsAt}
 use Rattle.print_table.specs.Annotations.{annotationPrinted, partsBehind}

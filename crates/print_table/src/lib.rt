@@ -5,6 +5,7 @@ ghost use Rattle.put_bytes.specs.Puts.{Put};
 ghost use Rattle.print_table.specs.Parts.{countsAt};
 ghost use Rattle.print_table.specs.Annotations.{rowOf, PrintsAdduct, PrintsAnnotation};
 ghost use Rattle.print_table.specs.Tables.{commaPrinted, printedTable};
+use counts::Counts;
 use print_ion::ion_bytes;
 use print_ion::ion_units;
 use print_ion::print_front;
@@ -19,7 +20,6 @@ use slices::advance;
 use slices::byte_of;
 use slices::rest;
 use slices::u16_at;
-use store_sections::Counts;
 use store_sections::Cursors;
 use store_sections::starts;
 

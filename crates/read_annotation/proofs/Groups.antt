@@ -1,5 +1,5 @@
 -- What a part begins with, and the groups of parts, from what the readers of each tell. Assumes nothing.
-use Prim.Native.Nat.{ℕ, _-_, min, _+_}
+use Prim.Native.Nat.{ℕ, _-_}
 use mathlib.Core.Path.{_≡_, refl, sym}
 use mathlib.Core.Bool.{Bool, true, false, _&&_}
 use mathlib.Core.List.{List, [], _∷_}
@@ -9,7 +9,8 @@ use Rattle.lang.proofs.Tests.{not-t}
 use Rattle.rules.specs.Bytes.{bytes}
 use Rattle.rules.specs.Texts.{startsWith}
 use Rattle.rules.specs.Limits.{maxLosses, maxAnnotations, manyMark}
-use Rattle.put_bytes.specs.Puts.{maxPlace}
+use Rattle.counts.specs.declared.Counts.{Counts}
+use Rattle.counts.specs.Sums.{sum, plus}
 use Rattle.faults.specs.declared.Fault.{Fault}
 use Rattle.faults.specs.Faults.{join}
 use Rattle.read_ion.specs.declared.IonRead.{IonRead}
@@ -30,7 +31,7 @@ use Rattle.read_annotation.specs.declared.Parts.{Parts}
 use Rattle.read_annotation.specs.Parts.{prefixOf, adductOf}
 use Rattle.read_annotation.specs.Groups.{frontOf, middleOf, tailOf}
 use Rattle.read_annotation.specs.House.{rulesOf, shareOf}
-use Rattle.read_annotation.specs.Measured.{partsOf, measuredOf}
+use Rattle.read_annotation.specs.Measured.{ownCounts, partsOf, measuredOf}
 
 -- ---- `[M`
 
@@ -60,8 +61,8 @@ module _ (end : ℕ) (s : List ℕ) (f : Fault) {t v : List ℕ} {q : ℕ} where
 
 module _ (end : ℕ) (s : List ℕ) (f : Fault) {t u v : List ℕ} {q : ℕ} where
   pub middle-is : {l a : Row} {y : IsotopesRead} {n : ℕ} → l ≡ changesOf maxLosses end s f → t ≡ drop (l .len) s → y ≡ isotopesOf end t (l .fault) → u ≡ drop (y .len) t
-      → a ≡ adductOf end u (y .fault) → n ≡ min (l .units + a .units) maxPlace → v ≡ drop (a .len) u → q ≡ length s - length v
-      → record { losses = l .n; isotopes = y .n; items = a .n; units = n; text = l .text; len = q; fault = a .fault } ≡ middleOf end s f
+      → a ≡ adductOf end u (y .fault) → n ≡ sum (l .units) (a .units) → v ≡ drop (a .len) u → q ≡ length s - length v
+      → record { counts = record { annotations = 0; losses = l .n; isotopes = y .n; items = a .n; units = n; text = l .text }; len = q; fault = a .fault } ≡ middleOf end s f
   unfolding middleOf
   middle-is pl pt py pu pa pn pv pq = rw (← pl, ← pt, ← py, ← pu, ← pa, ← pn, ← pv, ← pq)
 
@@ -80,20 +81,9 @@ module _ (end : ℕ) (s : List ℕ) (f : Fault) {t u : List ℕ} where
 
 -- ---- what was read, measured
 
-pub measure-is : (s : List ℕ) (p : Parts) {t u v : List ℕ} {n w share q : ℕ} {kept : Bool} → share ≡ shareOf (p .tail .confidence) → t ≡ drop (p .front .len) s → u ≡ drop (p .middle .len) t
-    → n ≡ min (p .front .ion .units + p .middle .units) maxPlace → w ≡ min (p .front .ion .text + p .middle .text) maxPlace
-    → kept ≡ rulesOf (p .front .ion) (p .middle .items) (p .tail .deviation) share → v ≡ drop (p .tail .len) u → q ≡ length s - length v
-    → record {
-      losses = p .middle .losses;
-      isotopes = p .middle .isotopes;
-      items = p .middle .items;
-      units = n;
-      text = w;
-      share = share;
-      kept = kept;
-      len = q;
-      fault = p .tail .confidence .fault;
-    }
-    ≡ measuredOf s p
+pub measure-is : (s : List ℕ) (p : Parts) {t u v : List ℕ} {o n : Counts} {share q : ℕ} {kept : Bool} → share ≡ shareOf (p .tail .confidence)
+    → t ≡ drop (p .front .len) s → u ≡ drop (p .middle .len) t → o ≡ ownCounts (p .front .ion) → n ≡ plus o (p .middle .counts)
+    → kept ≡ rulesOf (p .front .ion) (p .middle .counts .items) (p .tail .deviation) share → v ≡ drop (p .tail .len) u → q ≡ length s - length v
+    → record { counts = n; share = share; kept = kept; len = q; fault = p .tail .confidence .fault } ≡ measuredOf s p
 unfolding measuredOf
-measure-is s p ps pt pu pn pw pk pv pq = rw (← ps, ← pt, ← pu, ← pn, ← pw, ← pk, ← pv, ← pq)
+measure-is s p ps pt pu po pn pk pv pq = rw (pn, po, ← ps, ← pt, ← pu, ← pk, ← pv, ← pq)

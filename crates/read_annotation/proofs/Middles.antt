@@ -15,6 +15,7 @@ use Rattle.rules.specs.Adducts.{Item, adductText, itemMap}
 use Rattle.rules.specs.Fields.{filled}
 use Rattle.rules.specs.Limits.{rowMarks, lossMarks, isotopesMarks, adductMarks}
 use Rattle.rules.specs.Stored.{lostUnits, lostName, addedUnits, isotopeRecords}
+use Rattle.counts.specs.Sums.{sum}
 use Rattle.faults.specs.declared.Fault.{Fault}
 use Rattle.faults.specs.Faults.{after}
 use Rattle.read_formula.proofs.Ends.{EndsFormula, ends-apart, ends-adduct}
@@ -23,7 +24,7 @@ use Rattle.read_changes.proofs.SpelledChanges.{EndsChanges, losses-read}
 use Rattle.read_isotopes.proofs.Ends.{EndsIsotopes, ends-sign}
 use Rattle.read_isotopes.proofs.SpelledIsotopes.{isotopes-begin, isotopes-read}
 use Rattle.read_annotation.specs.declared.Middle.{Middle}
-use Rattle.read_annotation.specs.Groups.{plus as sum, middleOf}
+use Rattle.read_annotation.specs.Groups.{middleOf}
 use Rattle.read_annotation.proofs.Groups.{middle-is}
 use Rattle.read_annotation.proofs.Ends.{isotopes-keep, adduct-keep}
 use Rattle.read_annotation.proofs.Chains.{drop-is, inside}
@@ -73,11 +74,15 @@ module _ (ls : List (Loss Written)) (y : Isotopes Written) (xs : List (Item Writ
     abbrev pub middleRead : Middle
     middleRead =
         record {
-          losses = length ls;
-          isotopes = length (isotopeRecords (isotopesMap filled y));
-          items = length xs;
-          units = sum (length (flat (λ l. lostUnits (l .what)) (map (lossMap filled) ls))) (length (flat (λ x. addedUnits (x .what)) (map (itemMap filled) xs)));
-          text = length (flat (λ l. lostName (l .what)) (map (lossMap filled) ls));
+          counts =
+              record {
+                annotations = 0;
+                losses = length ls;
+                isotopes = length (isotopeRecords (isotopesMap filled y));
+                items = length xs;
+                units = sum (length (flat (λ l. lostUnits (l .what)) (map (lossMap filled) ls))) (length (flat (λ x. addedUnits (x .what)) (map (itemMap filled) xs)));
+                text = length (flat (λ l. lostName (l .what)) (map (lossMap filled) ls));
+              };
           len = length (flat lossText ls) + length (isotopesText y) + length (adductText xs);
           fault = adductFault;
         }

@@ -1,6 +1,6 @@
 -- Where neither a sign nor a bracket stands, there are no losses, no isotopes and no adduct. Assumes nothing.
 use Prim.Native.Nat.{ℕ}
-use mathlib.Core.Path.{_≡_, refl, sym}
+use mathlib.Core.Path.{_≡_, refl, sym, ap, _∙_}
 use mathlib.Core.Bool.{Bool, true, false, _||_}
 use mathlib.Core.List.{List}
 use native.Mathlib.Omega.{arith}
@@ -8,6 +8,8 @@ use Rattle.lang.proofs.Tests.{not-t}
 use Rattle.rules.specs.Bytes.{bytes}
 use Rattle.rules.specs.Texts.{startsWith}
 use Rattle.rules.specs.Limits.{maxLosses}
+use Rattle.counts.specs.declared.Counts.{Counts}
+use Rattle.counts.specs.Sums.{noCounts}
 use Rattle.faults.specs.declared.Fault.{Fault}
 use Rattle.read_opening.specs.Heads.{beginsSign}
 use Rattle.read_opening.proofs.SpelledOpenings.{no-sign}
@@ -26,9 +28,10 @@ module _ (end : ℕ) (s : List ℕ) (f : Fault) where
   unfolding adductOf
   adduct-none e = rw (sym (adduct-apart s e))
 
-  pub middle-none : beginsMiddle s ≡ false → record { losses = 0; isotopes = 0; items = 0; units = 0; text = 0; len = 0; fault = f } ≡ middleOf end s f
-  middle-none e =
+  pub middle-none : {n : Counts} → beginsMiddle s ≡ false → n ≡ noCounts → record { counts = n; len = 0; fault = f } ≡ middleOf end s f
+  middle-none e pn =
       let n = neither (beginsSign s) (startsWith (bytes "[") s) e in
       let g = no-sign s (n .0) in
       let l = changes-end (no-changes {bound = maxLosses}) refl (g .0) in
-      middle-is end s f l refl (counted-all end no-isotopes refl (g .1)) refl (adduct-none (n .1)) refl refl (omega arith)
+      ap (λ (n : Counts). record { counts = n; len = 0; fault = f }) pn
+      ∙ middle-is end s f l refl (counted-all end no-isotopes refl (g .1)) refl (adduct-none (n .1)) refl refl (omega arith)

@@ -13,17 +13,16 @@ use Rattle.rules.specs.Numbers.{numberText}
 use Rattle.rules.specs.Formulas.{Written, FormulaUnit, unitText, unitMap, Formula, formulaText, formulaMap}
 use Rattle.rules.specs.Ions.{Ion, series, internal, immonium, precursor, reference, named, composed, smiles, unknown, ionText, ionMap}
 use Rattle.rules.specs.Losses.{Loss, lossText, lossMap}
-use Rattle.rules.specs.Adducts.{Item, itemText, itemMap, adductText}
 use Rattle.rules.specs.Fields.{filled}
-use Rattle.rules.specs.Limits.{maxLosses, maxItems}
-use Rattle.rules.specs.Stored.{bytesOf, ionFields, lostUnits, lostName, addedUnits}
+use Rattle.rules.specs.Limits.{maxLosses}
+use Rattle.rules.specs.Stored.{bytesOf, ionFields, lostUnits, lostName}
 use Rattle.faults.specs.Faults.{fault}
 use Rattle.read_formula.specs.Units.{beginsUnit}
 use Rattle.read_formula.proofs.Spelled.{begins-unit}
 use Rattle.read_formula.proofs.Ends.{ends-apart}
 use Rattle.read_opening.proofs.SpelledOpenings.{no-sign}
 use Rattle.read_changes.specs.declared.Row.{Row}
-use Rattle.read_changes.proofs.SpelledChanges.{EndsChanges, losses-read, items-read, changes-units}
+use Rattle.read_changes.proofs.SpelledChanges.{EndsChanges, losses-read, changes-units}
 
 -- ---- formulas
 
@@ -72,7 +71,7 @@ ion-long (composed f) = record { units = omega (arith, formula-long f, length-ap
 ion-long (smiles t) = record { units = omega arith; text = omega (arith, length-append (t .bytes) (bytes "}")) }
 ion-long (unknown n) = record { units = omega arith; text = omega arith }
 
--- ---- losses and adduct items
+-- ---- losses
 
 pub losses-long : (ls : List (Loss Written))
     → length (flat (λ l. lostUnits (l .what)) (map (lossMap filled) ls)) + length (flat (λ l. lostName (l .what)) (map (lossMap filled) ls)) ≤ length (flat lossText ls)
@@ -80,13 +79,3 @@ losses-long ls =
     let s = flat lossText ls ++ [] in
     let e : EndsChanges [] = record { formula = ends-apart [] refl; none = no-sign [] refl .0 } in
     subst (λ (r : Row). r .units + r .text ≤ r .len) (losses-read ls [] (length s) (fault 0 0) e (omega arith)) (changes-units maxLosses (length s) s (fault 0 0))
-
-pub items-long : (xs : List (Item Written)) → length (flat (λ x. addedUnits (x .what)) (map (itemMap filled) xs)) + 0 ≤ length (flat itemText xs)
-items-long xs =
-    let s = flat itemText xs ++ [] in
-    let e : EndsChanges [] = record { formula = ends-apart [] refl; none = no-sign [] refl .0 } in
-    subst (λ (r : Row). r .units + r .text ≤ r .len) (items-read xs [] (length s) (fault 0 0) e (omega arith)) (changes-units maxItems (length s) s (fault 0 0))
-
-pub adduct-long : (xs : List (Item Written)) → length (flat (λ x. addedUnits (x .what)) (map (itemMap filled) xs)) ≤ length (adductText xs)
-adduct-long [] = omega arith
-adduct-long (x ∷ xs) = omega (arith, items-long (x ∷ xs), length-append (flat itemText (x ∷ xs)) (bytes "]"))

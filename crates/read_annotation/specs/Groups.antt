@@ -1,12 +1,12 @@
 -- The parts of an annotation in three groups, each read behind the one before it. Assumes nothing.
-use Prim.Native.Nat.{ℕ, _+_, _-_, min}
+use Prim.Native.Nat.{ℕ, _-_}
 use mathlib.Core.Bool.{Bool, _||_}
 use mathlib.Core.List.{List}
 use lib.ListN.{length, drop}
 use Rattle.rules.specs.Bytes.{bytes}
 use Rattle.rules.specs.Texts.{startsWith}
 use Rattle.rules.specs.Limits.{maxLosses}
-use Rattle.put_bytes.specs.Puts.{maxPlace}
+use Rattle.counts.specs.Sums.{sum}
 use Rattle.faults.specs.declared.Fault.{Fault}
 use Rattle.read_opening.specs.Heads.{beginsSign}
 use Rattle.read_ion.specs.declared.IonRead.{IonRead}
@@ -28,10 +28,6 @@ use Rattle.read_annotation.specs.Parts.{prefixOf, adductOf}
 -- how many bytes of s stand before what is left
 abbrev pub before : List ℕ → List ℕ → ℕ
 before s left = length s - length left
-
--- a sum that a usize holds
-abbrev pub plus : ℕ → ℕ → ℕ
-plus a b = min (a + b) maxPlace
 
 -- ---- prefix and ion
 
@@ -55,11 +51,7 @@ beginsMiddle s = beginsSign s || startsWith (bytes "[") s
 abbrev pub middleWith : List ℕ → List ℕ → Row → IsotopesRead → Row → Middle
 middleWith s u l y a =
     record {
-      losses = l .n;
-      isotopes = y .n;
-      items = a .n;
-      units = plus (l .units) (a .units);
-      text = l .text;
+      counts = record { annotations = 0; losses = l .n; isotopes = y .n; items = a .n; units = sum (l .units) (a .units); text = l .text };
       len = before s (drop (a .len) u);
       fault = a .fault;
     }

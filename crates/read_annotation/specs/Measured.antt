@@ -3,14 +3,17 @@ use Prim.Native.Nat.{ℕ, _-_}
 use mathlib.Core.List.{List}
 use lib.ListN.{length, drop}
 use Rattle.rules.specs.Limits.{maxAnnotations, manyMark}
+use Rattle.counts.specs.declared.Counts.{Counts}
+use Rattle.counts.specs.Sums.{plus}
 use Rattle.faults.specs.declared.Fault.{Fault}
 use Rattle.faults.specs.Faults.{join}
+use Rattle.read_ion.specs.declared.IonRead.{IonRead}
 use Rattle.read_annotation.specs.declared.Front.{Front}
 use Rattle.read_annotation.specs.declared.Middle.{Middle}
 use Rattle.read_annotation.specs.declared.Tail.{Tail}
 use Rattle.read_annotation.specs.declared.Parts.{Parts}
 use Rattle.read_annotation.specs.declared.Measured.{Measured}
-use Rattle.read_annotation.specs.Groups.{before, plus, frontOf, middleOf, tailOf}
+use Rattle.read_annotation.specs.Groups.{before, frontOf, middleOf, tailOf}
 use Rattle.read_annotation.specs.House.{rulesOf, shareOf}
 
 -- ---- read
@@ -27,17 +30,17 @@ partsOf i end s f = partsIn end s (frontOf end s (join f (manyMark maxAnnotation
 
 -- ---- measured
 
+-- the annotation itself, with the units and the text of its ion
+abbrev pub ownCounts : IonRead → Counts
+ownCounts x = record { annotations = 1; losses = 0; isotopes = 0; items = 0; units = x .units; text = x .text }
+
 -- u is left behind the adduct
 abbrev pub measuredWith : List ℕ → List ℕ → Front → Middle → Tail → Measured
 measuredWith s u a m b =
     record {
-      losses = m .losses;
-      isotopes = m .isotopes;
-      items = m .items;
-      units = plus (a .ion .units) (m .units);
-      text = plus (a .ion .text) (m .text);
+      counts = plus (ownCounts (a .ion)) (m .counts);
       share = shareOf (b .confidence);
-      kept = rulesOf (a .ion) (m .items) (b .deviation) (shareOf (b .confidence));
+      kept = rulesOf (a .ion) (m .counts .items) (b .deviation) (shareOf (b .confidence));
       len = before s (drop (b .len) u);
       fault = b .confidence .fault;
     }

@@ -5,7 +5,10 @@ ghost use Rattle.rules.specs.Texts.{startsWith};
 ghost use Rattle.read_annotation.specs.Parts.{flagOf, prefixOf, adductLen, adductOf};
 ghost use Rattle.read_annotation.specs.Groups.{frontOf, beginsMiddle, middleOf, tailOf};
 ghost use Rattle.read_annotation.specs.House.{ionRuleOf, deviationRuleOf, rulesOf, shareOf};
-ghost use Rattle.read_annotation.specs.Measured.{partsOf, measuredOf};
+ghost use Rattle.read_annotation.specs.Measured.{ownCounts, partsOf, measuredOf};
+use counts::Counts;
+use counts::plus;
+use counts::sum;
 use faults::Fault;
 use faults::check_count;
 use faults::check_number;
@@ -57,11 +60,7 @@ pub struct Front {
 
 // Losses, isotopes and adduct: how many there are, and how many units and name bytes they have.
 pub struct Middle {
-    pub losses: usize,
-    pub isotopes: usize,
-    pub items: usize,
-    pub units: usize,
-    pub text: usize,
+    pub counts: Counts,
     pub len: usize,
     pub fault: Fault,
 }
@@ -81,14 +80,10 @@ pub struct Parts {
     pub tail: Tail,
 }
 
-// One annotation: how many losses, isotopes, adduct items, units and text bytes; its confidence in billionths; whether the rules for one
-// annotation are kept; how many bytes; and the first broken limit.
+// One annotation: what it has of each kind; its confidence in billionths; whether the rules for one annotation are kept; how many bytes;
+// and the first broken limit.
 pub struct Measured {
-    pub losses: usize,
-    pub isotopes: usize,
-    pub items: usize,
-    pub units: usize,
-    pub text: usize,
+    pub counts: Counts,
     pub share: u64,
     pub kept: bool,
     pub len: usize,
@@ -209,11 +204,7 @@ fn read_middle(s: &[u8], end: usize, f: Fault) -> Middle
     // Most annotations have none of the three.
     if !begins_middle(s) {
         return Middle {
-            losses: 0,
-            isotopes: 0,
-            items: 0,
-            units: 0,
-            text: 0,
+            counts: counts::none(),
             len: 0,
             fault: f,
         };
@@ -227,11 +218,14 @@ fn read_middle(s: &[u8], end: usize, f: Fault) -> Middle
     let a = read_adduct(u, end, h);
     let fault = a.fault;
     Middle {
-        losses: l.n,
-        isotopes: y.n,
-        items: a.n,
-        units: advance(l.units, a.units, usize::MAX),
-        text: l.text,
+        counts: Counts {
+            annotations: 0,
+            losses: l.n,
+            isotopes: y.n,
+            items: a.n,
+            units: sum(l.units, a.units),
+            text: l.text,
+        },
         len: minus_or_zero(s.len(), rest(u, a.len).len()),
         fault,
     }
@@ -327,6 +321,20 @@ pub fn read_parts(i: usize, s: &[u8], end: usize, f: Fault) -> Parts
     }
 }
 
+// The annotation itself, with the units and the text of its ion.
+fn own_counts(x: IonRead) -> Counts
+    ensures { λ r. ⌜ r ≡ ownCounts x ⌝ }
+{
+    Counts {
+        annotations: 1,
+        losses: 0,
+        isotopes: 0,
+        items: 0,
+        units: x.units,
+        text: x.text,
+    }
+}
+
 // What was read of the annotation that a part begins with, measured.
 pub fn measure(s: &[u8], p: Parts) -> Measured
     ensures { λ r. ⌜ r ≡ measuredOf (now (s .entry)) p ⌝ }
@@ -334,6 +342,7 @@ pub fn measure(s: &[u8], p: Parts) -> Measured
     let a = p.front;
     let x = a.ion;
     let m = p.middle;
+    let n = m.counts;
     let b = p.tail;
     let d = b.deviation;
     let c = b.confidence;
@@ -341,13 +350,9 @@ pub fn measure(s: &[u8], p: Parts) -> Measured
     let share = share_of(c);
     let u = rest(rest(s, a.len), m.len);
     Measured {
-        losses: m.losses,
-        isotopes: m.isotopes,
-        items: m.items,
-        units: advance(x.units, m.units, usize::MAX),
-        text: advance(x.text, m.text, usize::MAX),
+        counts: plus(own_counts(x), n),
         share,
-        kept: keeps_rules(x, m.items, d, share),
+        kept: keeps_rules(x, n.items, d, share),
         len: minus_or_zero(s.len(), rest(u, b.len).len()),
         fault,
     }

@@ -6,8 +6,8 @@ use lib.ListN.{length, replicate}
 use borrow.Author.Tests.{ne-eqb, lt-ltb, le-ltb}
 use Rattle.rules.specs.Limits.{maxLine}
 use Rattle.faults.specs.declared.Fault.{Fault}
+use Rattle.counts.specs.declared.Counts.{Counts}
 use Rattle.store_sections.specs.declared.Cursors.{Cursors}
-use Rattle.store_sections.specs.declared.Counts.{Counts}
 use Rattle.store_sections.specs.Pages.{run}
 use Rattle.store_sections.specs.Headers.{endAt, Headed}
 use Rattle.read_annotation.specs.declared.Parts.{Parts}
@@ -18,12 +18,12 @@ use Rattle.measure_line.specs.declared.Totals.{Totals}
 use Rattle.measure_line.specs.Totals.{partsAt, totalsBy}
 use Rattle.read_line.specs.Stores.{lineEventsBy, lineEvents, StoresLine}
 use Rattle.measure_line.specs.Refusals.{firstOf}
-use Rattle.read_line.specs.Readings.{countsIn, tableOver, storedOver, countedOver, spelledOver, ReadsSpelled, anyOver, readOf}
+use Rattle.read_line.specs.Readings.{tableOver, storedOver, countedOver, spelledOver, ReadsSpelled, anyOver, readOf}
 use Rattle.answers.specs.Delivered.{answered, refusedOf}
 
 -- ---- a line with a shape
 
-counted-none : (d line : List ℕ) (t : Totals) → firstOf t .number ≡ 0 → countedOver d line t ≡ storedOver d line (countsIn t)
+counted-none : (d line : List ℕ) (t : Totals) → firstOf t .number ≡ 0 → countedOver d line t ≡ storedOver d line (t .counts)
 counted-none d line t e = rw e
 
 counted-some : (d line : List ℕ) (t : Totals) → (firstOf t .number ≡ 0 → ⊥)
@@ -51,27 +51,27 @@ module _ (line : List ℕ) {p : Parts} {t : Totals} {f : Fault} (pp : p ≡ part
             ∙ sym (counted-is d ∙ counted-some d line t z);
       }
 
-  module _ (none : f .number ≡ 0) {n : Counts} (pn : n ≡ countsIn t) {size : ℕ} (ps : size ≡ endAt n) where
-    stored-is : (d : List ℕ) → spelledOver d line ≡ storedOver d line n
-    stored-is d = counted-is d ∙ counted-none d line t (ap (λ (g : Fault). g .number) (sym pf) ∙ none) ∙ ap (storedOver d line) (sym pn)
+  module _ (none : f .number ≡ 0) {size : ℕ} (ps : size ≡ endAt (t .counts)) where
+    stored-is : (d : List ℕ) → spelledOver d line ≡ storedOver d line (t .counts)
+    stored-is d = counted-is d ∙ counted-none d line t (ap (λ (g : Fault). g .number) (sym pf) ∙ none)
 
     pub spelled-no-room : {d : List ℕ} {r : Answer} → length d < size → r ≡ refusedOf 8 size → ReadsSpelled line d d r
     spelled-no-room {d} {r} h e =
         record {
           is =
               ap (λ (r : Answer). answered r d) e ∙ ap (λ (k : ℕ). record { number = 8; place = k; size = 0; out = d }) ps
-              ∙ sym (stored-is d ∙ no-room-over d line n (subst (λ (k : ℕ). length d < k) ps h));
+              ∙ sym (stored-is d ∙ no-room-over d line (t .counts) (subst (λ (k : ℕ). length d < k) ps h));
         }
 
-    pub spelled-stored : {d e g : List ℕ} {c : Cursors} → size ≤ length d → Headed d n e c → StoresLine line p e c g
+    pub spelled-stored : {d e g : List ℕ} {c : Cursors} → size ≤ length d → Headed d (t .counts) e c → StoresLine line p e c g
         → ReadsSpelled line d g (record { number = 0; place = 0; len = size })
     spelled-stored {d} {e} {g} {c} h o q =
-        let w : g ≡ tableOver d line n =
+        let w : g ≡ tableOver d line (t .counts) =
         q .ran .made ∙ ap (λ (p : Parts). run e c (lineEventsBy line p)) pp ∙ ap₂ (λ (x : List ℕ) (k : Cursors). run x k (lineEvents line)) (o .put .made) (o .starts) in
         record {
           is =
               ap₂ (λ (k : ℕ) (o : List ℕ). record { number = 0; place = 0; size = k; out = o }) ps w
-              ∙ sym (stored-is d ∙ room-over d line n (subst (λ (k : ℕ). k ≤ length d) ps h));
+              ∙ sym (stored-is d ∙ room-over d line (t .counts) (subst (λ (k : ℕ). k ≤ length d) ps h));
         }
 
 -- ---- any line

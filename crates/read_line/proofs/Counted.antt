@@ -1,46 +1,32 @@
 -- What is counted of a spelled line is what its table has. Assumes nothing.
-use Prim.Native.Nat.{ℕ, _+_, _≤_}
-use mathlib.Core.Path.{_≡_, refl, sym, ap, _∙_}
-use mathlib.Core.List.{List, _++_}
+use Prim.Native.Nat.{ℕ, _+_}
+use mathlib.Core.Path.{_≡_, refl, ap, ap₂, _∙_}
+use mathlib.Core.List.{List, _∷_, _++_}
 use native.Mathlib.Omega.{arith}
-use lib.ListN.{length, length-append, length-map}
+use lib.ListN.{length, length-append}
 use Rattle.lang.specs.Parts.{flat}
 use Rattle.lang.specs.Order.{Each, none, next}
 use Rattle.rules.specs.Numbers.{Number}
 use Rattle.rules.specs.Formulas.{Written}
-use Rattle.rules.specs.Losses.{lossMap}
-use Rattle.rules.specs.Isotopes.{Isotopes}
-use Rattle.rules.specs.Adducts.{itemMap}
 use Rattle.rules.specs.Ions.{Ion}
 use Rattle.rules.specs.Annotations.{Annotation, annotationMap}
 use Rattle.rules.specs.Lines.{Spelling}
 use Rattle.rules.specs.Fields.{Table, filled, Says}
 use Rattle.rules.specs.Stored.{ionFields, lostUnits, lostName, addedUnits, isotopeRecords, annotationUnits, annotationTexts, stored}
 use Rattle.rules.specs.Answers.{Sound}
-use Rattle.rules.proofs.Totals.{total, length-flat, perm-length, perm-flat}
+use Rattle.rules.proofs.Totals.{perm-length, perm-flat}
 use Rattle.rules.proofs.Lengths.{stored-length}
 use Rattle.rules.proofs.Sizes.{sizes-fit}
-use Rattle.rules.proofs.Bounds.{each-length}
-use Rattle.put_bytes.specs.Puts.{maxPlace}
+use Rattle.counts.specs.declared.Counts.{Counts}
+use Rattle.counts.specs.Sums.{sum, noCounts, plus}
+use Rattle.counts.proofs.Sums.{Fits, plus-capped, fits-exact}
+use Rattle.counts.proofs.Annotations.{annotationCounts}
 use Rattle.store_sections.specs.Headers.{endAt, countsOf}
-use Rattle.read_annotation.specs.Groups.{plus}
-use Rattle.measure_line.specs.declared.Totals.{Totals}
-use Rattle.measure_line.specs.Totals.{nothing}
-use Rattle.read_line.specs.Readings.{countsIn}
-use Rattle.measure_line.proofs.Through.{Counts, lossesIn, isotopesIn, itemsIn, unitsIn, textIn}
+use Rattle.measure_line.proofs.Through.{countsIn, spelledCounts}
 
 -- ---- an annotation has as many of each as the table has of it
 
 module _ {a : Annotation Written} {b : Annotation Number} (s : Says a b) where
-  losses-same : lossesIn a ≡ length (b .losses)
-  losses-same = sym (length-map (a .losses) (lossMap filled)) ∙ perm-length (s .fields .losses)
-
-  isotopes-same : isotopesIn a ≡ length (isotopeRecords (b .isotopes))
-  isotopes-same = ap (λ (x : Isotopes Number). length (isotopeRecords x)) (s .fields .isotopes)
-
-  items-same : itemsIn a ≡ length (b .adduct)
-  items-same = sym (length-map (a .adduct) (itemMap filled)) ∙ perm-length (s .fields .adduct)
-
   -- units: the ion's, those of the losses, those of the adduct items
   units-split : (a : Annotation Number)
       → length (annotationUnits a) ≡ length (ionFields (a .ion) .units) + (length (flat (λ l. lostUnits (l .what)) (a .losses)) + length (flat (λ x. addedUnits (x .what)) (a .adduct)))
@@ -48,7 +34,7 @@ module _ {a : Annotation Written} {b : Annotation Number} (s : Says a b) where
       length-append (ionFields (a .ion) .units) (flat (λ l. lostUnits (l .what)) (a .losses) ++ flat (λ x. addedUnits (x .what)) (a .adduct))
       ∙ ap (λ (n : ℕ). length (ionFields (a .ion) .units) + n) (length-append (flat (λ l. lostUnits (l .what)) (a .losses)) (flat (λ x. addedUnits (x .what)) (a .adduct)))
 
-  units-same : unitsIn a ≡ length (annotationUnits b)
+  units-same : countsIn a .units ≡ length (annotationUnits b)
   units-same =
       omega (
         arith,
@@ -62,7 +48,7 @@ module _ {a : Annotation Written} {b : Annotation Number} (s : Says a b) where
   text-split : (a : Annotation Number) → length (annotationTexts a) ≡ length (ionFields (a .ion) .text) + length (flat (λ l. lostName (l .what)) (a .losses))
   text-split a = length-append (ionFields (a .ion) .text) (flat (λ l. lostName (l .what)) (a .losses))
 
-  text-same : textIn a ≡ length (annotationTexts b)
+  text-same : countsIn a .text ≡ length (annotationTexts b)
   text-same =
       omega (
         arith,
@@ -72,29 +58,49 @@ module _ {a : Annotation Written} {b : Annotation Number} (s : Says a b) where
         perm-flat (λ l. lostName (l .what)) (s .fields .losses),
       )
 
-each-total : (f : Annotation Written → ℕ) (g : Annotation Number → ℕ) → ((a : Annotation Written) (b : Annotation Number) → Says a b → f a ≡ g b)
-    → {s : Spelling} {t : Table} → Each Says s t → total f s ≡ total g t
-each-total f g h none = refl
-each-total f g h (next {a = a} {b = b} x y) = omega (arith, h a b x, each-total f g h y)
+  counts-same : countsIn a ≡ annotationCounts b
+  counts-same =
+      λ i. record {
+        annotations = 1;
+        losses = perm-length (s .fields .losses) i;
+        isotopes = length (isotopeRecords (s .fields .isotopes i));
+        items = perm-length (s .fields .adduct) i;
+        units = units-same i;
+        text = text-same i;
+      }
 
--- a sum that stands in a table was told as it is
-told-sum : {A : Type 0} (f : Annotation Written → ℕ) (g : Annotation Number → List A) → ((a : Annotation Written) (b : Annotation Number) → Says a b → f a ≡ length (g b))
-    → {s : Spelling} {t : Table} → Each Says s t → (n : ℕ) → n ≡ plus 0 (total f s) → length (flat g t) ≤ maxPlace → n ≡ length (flat g t)
-told-sum f g h {s} {t} e n q r = omega (arith, each-total f (λ b. length (g b)) h e, length-flat g t)
+-- ---- and so have all of them
+
+appended : {A : Type 0} (xs ys : List A) → sum (length xs) (length ys) ≡ sum 0 (length (xs ++ ys))
+appended xs ys = omega (arith, length-append xs ys)
+
+one-more : (b : Annotation Number) (t : Table) → plus (annotationCounts b) (countsOf t) ≡ plus noCounts (countsOf (b ∷ t))
+one-more b t =
+    let n : sum 1 (length t) ≡ sum 0 (length (b ∷ t)) = omega arith in
+    λ i. record {
+      annotations = n i;
+      losses = appended (b .losses) (flat (λ a. a .losses) t) i;
+      isotopes = appended (isotopeRecords (b .isotopes)) (flat (λ a. isotopeRecords (a .isotopes)) t) i;
+      items = appended (b .adduct) (flat (λ a. a .adduct) t) i;
+      units = appended (annotationUnits b) (flat annotationUnits t) i;
+      text = appended (annotationTexts b) (flat annotationTexts t) i;
+    }
+
+all-same : {s : Spelling} {t : Table} → Each Says s t → spelledCounts s ≡ plus noCounts (countsOf t)
+all-same none = refl
+all-same (next {b = b} {m = t} x e) = ap₂ plus (counts-same x) (all-same e) ∙ plus-capped (annotationCounts b) (countsOf t) ∙ one-more b t
 
 -- ---- for callers
 
-pub counts-are : {s : Spelling} {t : Table} {u : Totals} → Each Says s t → Sound t → Counts s nothing u → countsIn u ≡ countsOf t
-counts-are {s} {t} {u} e w c =
+-- a sound table has no more of anything than fits
+counts-fit : (t : Table) → Sound t → Fits (countsOf t)
+counts-fit t w =
     let l = stored-length t in
     let m = sizes-fit t w in
-    let n : u .annotations ≡ length t = omega (arith, c .annotations, each-length e) in
-    let losses = told-sum lossesIn (λ b. b .losses) (λ a b x. losses-same x) e (u .losses) (c .losses) (omega arith) in
-    let isotopes = told-sum isotopesIn (λ b. isotopeRecords (b .isotopes)) (λ a b x. isotopes-same x) e (u .isotopes) (c .isotopes) (omega arith) in
-    let items = told-sum itemsIn (λ b. b .adduct) (λ a b x. items-same x) e (u .items) (c .items) (omega arith) in
-    let units = told-sum unitsIn annotationUnits (λ a b x. units-same x) e (u .units) (c .units) (omega arith) in
-    let text = told-sum textIn annotationTexts (λ a b x. text-same x) e (u .text) (c .text) (omega arith) in
-    λ i. record { annotations = n i; losses = losses i; isotopes = isotopes i; items = items i; units = units i; text = text i }
+    record { annotations = omega arith; losses = omega arith; isotopes = omega arith; items = omega arith; units = omega arith; text = omega arith }
+
+pub counts-are : {s : Spelling} {t : Table} {n : Counts} → Each Says s t → Sound t → n ≡ plus noCounts (spelledCounts s) → n ≡ countsOf t
+counts-are {t = t} e w c = c ∙ ap (plus noCounts) (all-same e) ∙ plus-capped noCounts (countsOf t) ∙ fits-exact (counts-fit t w)
 
 -- the size that is told is that of the table
 pub end-is : (t : Table) → Sound t → endAt (countsOf t) ≡ length (stored t)

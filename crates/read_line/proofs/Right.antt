@@ -24,7 +24,7 @@ use Rattle.rules.proofs.OneShape.{judged-shape, judged-misshapen}
 use Rattle.put_bytes.specs.Puts.{maxPlace}
 use Rattle.faults.specs.declared.Fault.{Fault}
 use Rattle.faults.specs.Faults.{fault}
-use Rattle.store_sections.specs.declared.Counts.{Counts}
+use Rattle.counts.specs.declared.Counts.{Counts}
 use Rattle.store_sections.specs.Pages.{Ran, ends}
 use Rattle.store_sections.specs.Headers.{startsOf, endAt, headerBytes, Headed, countsOf}
 use Rattle.store_sections.specs.Fills.{Fills}
@@ -36,7 +36,7 @@ use Rattle.measure_line.specs.declared.Totals.{Totals}
 use Rattle.measure_line.specs.Totals.{totalsOf}
 use Rattle.read_line.specs.Stores.{lineEvents}
 use Rattle.measure_line.specs.Refusals.{firstOf}
-use Rattle.read_line.specs.Readings.{countsIn, tableOver, storedOver, countedOver, spelledOver, anyOver, readOf}
+use Rattle.read_line.specs.Readings.{tableOver, storedOver, countedOver, spelledOver, anyOver, readOf}
 use Rattle.measure_line.proofs.Folds as folds
 use Rattle.measure_line.proofs.Folds.{breach-told, excess-told}
 use Rattle.measure_line.proofs.Through.{TotalsRead, totals-read}
@@ -93,7 +93,7 @@ refused : (room : ℕ) (line : List ℕ) (t : Totals) (f : Fault) → firstOf t 
     → refuses room (f .number) (f .place) ≡ countedOver (replicate room 0) line t
 refused room line t f e h = rw (e, ne-eqb (f .number) 0 h)
 
-granted : (room : ℕ) (line : List ℕ) (t : Totals) → firstOf t ≡ fault 0 0 → storedOver (replicate room 0) line (countsIn t) ≡ countedOver (replicate room 0) line t
+granted : (room : ℕ) (line : List ℕ) (t : Totals) → firstOf t ≡ fault 0 0 → storedOver (replicate room 0) line (t .counts) ≡ countedOver (replicate room 0) line t
 granted room line t e = rw e
 
 module _ (room : ℕ) (small : room ≤ maxPlace) (s : Spelling) (fits : length (lineText s) ≤ maxPlace) (u : Totals) (r : TotalsRead s u) where
@@ -127,7 +127,7 @@ module _ (room : ℕ) (small : room ≤ maxPlace) (s : Spelling) (fits : length 
           let c = counts-are (y .says) w (r .counts) in
           let f = first-excess u e q ∙ excess-is silent z in
           let fills = subst (Fills t) (sym (y .are)) (y .fills) in
-          subst (ReadsSum s room) (granted room line u f) (ReadsSum.kept z t (y .says) (delivered room small line s t (y .says) w fills (countsIn u) c))
+          subst (ReadsSum s room) (granted room line u f) (ReadsSum.kept z t (y .says) (delivered room small line s t (y .says) w fills (u .counts) c))
 
     rules-read : (o : Opt ℕ) → firstBreach 0 s ≡ o → ReadsRules s room answer
     rules-read (written p) z =

@@ -9,7 +9,7 @@ use lib.Seq.{sets}
 use Rattle.rules.specs.Limits.{maxLine}
 use Rattle.rules.specs.Answers as rules
 use Rattle.rules.specs.Answers.{refuses}
-use Rattle.store_sections.specs.declared.Counts.{Counts}
+use Rattle.counts.specs.declared.Counts.{Counts}
 use Rattle.store_sections.specs.Pages.{run}
 use Rattle.store_sections.specs.Headers.{startsOf, endAt, headerBytes}
 use Rattle.scan_line.specs.declared.Verdict.{Verdict}
@@ -20,10 +20,6 @@ use Rattle.measure_line.specs.declared.Totals.{Totals}
 use Rattle.measure_line.specs.Totals.{totalsOf}
 use Rattle.measure_line.specs.Refusals.{firstOf}
 use Rattle.read_line.specs.Stores.{lineEvents}
-
-abbrev pub countsIn : Totals → Counts
-countsIn t =
-    record { annotations = t .annotations; losses = t .losses; isotopes = t .isotopes; items = t .items; units = t .units; text = t .text }
 
 -- a refusal, over an output d that stays as it is
 abbrev pub refusedOver : List ℕ → ℕ → ℕ → rules.Answer
@@ -41,7 +37,7 @@ storedOver d line n =
 
 abbrev pub countedOver : List ℕ → List ℕ → Totals → rules.Answer
 countedOver d line t =
-    let f = firstOf t in cond (eqb (f .number) 0) (storedOver d line (countsIn t)) (refusedOver d (f .number) (f .place))
+    let f = firstOf t in cond (eqb (f .number) 0) (storedOver d line (t .counts)) (refusedOver d (f .number) (f .place))
 
 -- of a line with a shape, into an output d
 unfoldable pub spelledOver : List ℕ → List ℕ → rules.Answer

@@ -5,13 +5,12 @@ ghost use lib.ListN.{length};
 ghost use Rattle.answers.specs.Delivered.{answered};
 ghost use Rattle.scan_line.specs.Steps.{scannedBy};
 ghost use Rattle.read_line.specs.Stores.{StoresNext, StoresLine};
-ghost use Rattle.read_line.specs.Readings.{countsIn, ReadsSpelled, anyOver, readOf};
+ghost use Rattle.read_line.specs.Readings.{ReadsSpelled, anyOver, readOf};
 ghost use Rattle.read_line.specs.Same.{sameBytes};
 ghost use Rattle.read_line.specs.Back.{readsTo, few, largest, zeros};
 use answers::Answer;
 use answers::MAX_LINE;
 use answers::refuse;
-use measure_line::Totals;
 use measure_line::first_refusal;
 use measure_line::read_at;
 use measure_line::total;
@@ -24,7 +23,6 @@ use slices::begins_with;
 use slices::first_of;
 use slices::rest;
 use store_annotation::store;
-use store_sections::Counts;
 use store_sections::Cursors;
 use store_sections::put_header;
 use store_sections::size_of;
@@ -74,19 +72,6 @@ fn store_all(out: &mut [u8], c: Cursors, line: &[u8], first: Parts)
 
 // ---- reading
 
-fn counts(t: Totals) -> Counts
-    ensures { λ r. ⌜ r ≡ countsIn t ⌝ }
-{
-    Counts {
-        annotations: t.annotations,
-        losses: t.losses,
-        isotopes: t.isotopes,
-        items: t.items,
-        units: t.units,
-        text: t.text,
-    }
-}
-
 // A line with a shape, into a cleared output.
 fn read_spelled(line: &[u8], out: &mut [u8]) -> Answer
     ensures { λ r. ⌜ ReadsSpelled (now (line .entry)) (now (out .entry)) (now (out .exit)) r ⌝ }
@@ -97,7 +82,7 @@ fn read_spelled(line: &[u8], out: &mut [u8]) -> Answer
     if found.number != 0 {
         return refuse(found.number, found.place);
     }
-    let n = counts(t);
+    let n = t.counts;
     let size = size_of(n);
     if out.len() < size {
         return refuse(8, size);

@@ -23,9 +23,9 @@ use Rattle.rules.specs.Limits.{annotationMarks}
 use Rattle.put_bytes.specs.Puts.{maxPlace}
 use Rattle.faults.specs.declared.Fault.{Fault}
 use Rattle.faults.specs.Faults.{fault}
+use Rattle.counts.specs.declared.Counts.{Counts}
 use Rattle.put_formula.proofs.Chains.{flat-map}
 use Rattle.read_ion.specs.declared.IonRead.{IonRead}
-use Rattle.read_annotation.specs.declared.Middle.{Middle}
 use Rattle.read_annotation.specs.declared.Parts.{Parts}
 use Rattle.read_annotation.specs.Measured.{behindIon, partsOf, annotationSize}
 use Rattle.read_annotation.proofs.Ions.{ion-told}
@@ -40,26 +40,26 @@ use Rattle.respell_annotation.proofs.Rests.{take-is, prefix-is, middle-
 -- ---- as it stands
 
 -- what is known of an annotation that stays as it is
-record Glance (x : IonRead) (m : Middle) (s : List ℕ) : Type 0 where
+record Glance (x : IonRead) (n : Counts) (s : List ℕ) : Type 0 where
   units : x .units ≡ 0
-  losses : m .losses ≤ 1
-  items : m .items ≤ 1
+  losses : n .losses ≤ 1
+  items : n .items ≤ 1
   no-one : hasOne s ≡ false
 
-glance : (x : IonRead) (m : Middle) (s : List ℕ) → isKept x m s ≡ true → Glance x m s
+glance : (x : IonRead) (n : Counts) (s : List ℕ) → isKept x n s ≡ true → Glance x n s
 unfolding isKept
-glance x m s e =
+glance x n s e =
     let u = eqb (x .units) 0 in
-    let l = leb (m .losses) 1 in
-    let d = leb (m .items) 1 in
+    let l = leb (n .losses) 1 in
+    let d = leb (n .items) 1 in
     let o = not (hasOne s) in
     let h : T (u && (l && (d && o))) = is-t e in
     let g = and-1 u (l && (d && o)) h in
     let f = and-1 l (d && o) g in
     record {
       units = eqb-true (x .units) 0 (t-is u (and-0 u (l && (d && o)) h));
-      losses = leb→le (m .losses) 1 (and-0 l (d && o) g);
-      items = leb→le (m .items) 1 (and-0 d o f);
+      losses = leb→le (n .losses) 1 (and-0 l (d && o) g);
+      items = leb→le (n .items) 1 (and-0 d o f);
       no-one = not-true (hasOne s) (t-is o (and-1 d o f));
     }
 
@@ -67,10 +67,10 @@ module _ (a : Annotation Written) (k : List ℕ) (nth end : ℕ) (f : Fault) whe
   abbrev read : Parts
   read = partsRead a k nth end f
 
-  stands : isKept (read .front .ion) (read .middle) (take (read .middle .len) (behindIon (first a k) read)) ≡ true
+  stands : isKept (read .front .ion) (read .middle .counts) (take (read .middle .len) (behindIon (first a k) read)) ≡ true
       → Respelling firstPreferred a (take (annotationSize (first a k) read) (first a k))
   stands h =
-      let g = glance (read .front .ion) (read .middle) (take (read .middle .len) (behindIon (first a k) read)) h in
+      let g = glance (read .front .ion) (read .middle .counts) (take (read .middle .len) (behindIon (first a k) read)) h in
       let t = ap (take (read .middle .len)) (behind-ion a k nth end f) ∙ middle-is a k nth end f in
       let w = ap (take (annotationSize (first a k) read)) (sym (text-is a k)) ∙ take-is (annotationText a) k (size-read a k nth end f) in
       subst (λ (s : List ℕ). Respelling firstPreferred a s) (sym w)
@@ -116,9 +116,9 @@ module _ (a : Annotation Written) (k : List ℕ) (nth end : ℕ) (f : Fault) whe
 
     first-worded : Respelling firstPreferred a (annotationSpelled (first a k) read)
     unfolding annotationSpelled
-    first-worded = by (isKept (read .front .ion) (read .middle) (take (read .middle .len) (behindIon (first a k) read))) refl
+    first-worded = by (isKept (read .front .ion) (read .middle .counts) (take (read .middle .len) (behindIon (first a k) read))) refl
       where
-        by : (t : Bool) → isKept (read .front .ion) (read .middle) (take (read .middle .len) (behindIon (first a k) read)) ≡ t
+        by : (t : Bool) → isKept (read .front .ion) (read .middle .counts) (take (read .middle .len) (behindIon (first a k) read)) ≡ t
             → Respelling firstPreferred a (cond t (take (annotationSize (first a k) read) (first a k)) (partsSpelled (first a k) read))
         by true h = stands h
         by false h = record { table = table; says = table-says; is = anew }

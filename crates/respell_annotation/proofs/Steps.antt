@@ -10,6 +10,7 @@ use Rattle.rules.specs.Texts.{startsWith}
 use Rattle.put_bytes.specs.Puts.{maxPlace, Put}
 use Rattle.put_bytes.proofs.Putting.{put-none, put-then, put-as}
 use Rattle.put_bytes.proofs.PutLoop.{run-more}
+use Rattle.counts.specs.declared.Counts.{Counts}
 use Rattle.print_count.specs.declared.Respelled.{Respelled}
 use Rattle.put_formula.specs.Preferred.{preferredUnits}
 use Rattle.read_ion.specs.declared.IonRead.{IonRead}
@@ -17,7 +18,6 @@ use Rattle.read_isotopes.specs.Spelled.{spelledIsotopes, SpellsIsotopes}
 use Rattle.sort_changes.specs.Gathered.{gathered}
 use Rattle.sort_changes.specs.Events.{noKeys}
 use Rattle.sort_changes.specs.Spelled.{changesSpelled, SpellsChanges}
-use Rattle.read_annotation.specs.declared.Middle.{Middle}
 use Rattle.read_annotation.specs.declared.Parts.{Parts}
 use Rattle.read_annotation.specs.Measured.{behindIon, annotationSize}
 use Rattle.respell_annotation.specs.Kept.{hasOne, isKept}
@@ -40,24 +40,24 @@ module _ (s : List ℕ) (i : ℕ) (w : hasOne s ≡ hasOne (drop i s)) where
 
 -- ---- what is kept
 
-module _ (x : IonRead) (m : Middle) (s : List ℕ) where
-  pub with-formula : (x .units ≡ 0 → ⊥) → false ≡ isKept x m s
+module _ (x : IonRead) (n : Counts) (s : List ℕ) where
+  pub with-formula : (x .units ≡ 0 → ⊥) → false ≡ isKept x n s
   unfolding isKept
   with-formula u = rw (ne-eqb (x .units) 0 u)
 
   module _ (u : x .units ≡ 0) where
-    pub with-losses : 1 < m .losses → false ≡ isKept x m s
+    pub with-losses : 1 < n .losses → false ≡ isKept x n s
     unfolding isKept
-    with-losses l = rw (eq-eqb (x .units) 0 u, lt-leb (m .losses) 1 l)
+    with-losses l = rw (eq-eqb (x .units) 0 u, lt-leb (n .losses) 1 l)
 
-    module _ (l : m .losses ≤ 1) where
-      pub with-items : 1 < m .items → false ≡ isKept x m s
+    module _ (l : n .losses ≤ 1) where
+      pub with-items : 1 < n .items → false ≡ isKept x n s
       unfolding isKept
-      with-items d = rw (eq-eqb (x .units) 0 u, le-leb (m .losses) 1 l, lt-leb (m .items) 1 d)
+      with-items d = rw (eq-eqb (x .units) 0 u, le-leb (n .losses) 1 l, lt-leb (n .items) 1 d)
 
-      pub by-bytes : {t : Bool} → m .items ≤ 1 → t ≡ hasOne s → not t ≡ isKept x m s
+      pub by-bytes : {t : Bool} → n .items ≤ 1 → t ≡ hasOne s → not t ≡ isKept x n s
       unfolding isKept
-      by-bytes d e = rw (eq-eqb (x .units) 0 u, le-leb (m .losses) 1 l, le-leb (m .items) 1 d) (ap not e)
+      by-bytes d e = rw (eq-eqb (x .units) 0 u, le-leb (n .losses) 1 l, le-leb (n .items) 1 d) (ap not e)
 
 -- ---- the ion
 
@@ -103,13 +103,13 @@ module _ (s : List ℕ) (p : Parts) where
       (λ j. q0 j ++ (ionSpelled (qa j) (p .front .ion) ++ (changesSpelled (q1 j) ++ (spelledIsotopes (q2 j) .known ++ (adductSpelled (q3 j) ++ qv j)))))
 
   module _ {t1 u v w : List ℕ} {b : Bool} {len : ℕ} (q1 : t1 ≡ drop (p .front .len) s) (qu : u ≡ drop (p .middle .len) t1) (qv : v ≡ drop (p .tail .len) u)
-      (ql : len ≡ length s - length v) (qw : w ≡ take (p .middle .len) t1) (qb : b ≡ isKept (p .front .ion) (p .middle) w) where
+      (ql : len ≡ length s - length v) (qw : w ≡ take (p .middle .len) t1) (qb : b ≡ isKept (p .front .ion) (p .middle .counts) w) where
     size-is : len ≡ annotationSize s p
     unfolding annotationSize
     size-is = ql ∙ ap (λ (r : List ℕ). length s - length r) (qv ∙ ap (drop (p .tail .len)) (qu ∙ ap (drop (p .middle .len)) q1))
 
-    kept-is : isKept (p .front .ion) (p .middle) (take (p .middle .len) (behindIon s p)) ≡ b
-    kept-is = sym (qb ∙ ap (isKept (p .front .ion) (p .middle)) (qw ∙ ap (take (p .middle .len)) q1))
+    kept-is : isKept (p .front .ion) (p .middle .counts) (take (p .middle .len) (behindIon s p)) ≡ b
+    kept-is = sym (qb ∙ ap (isKept (p .front .ion) (p .middle .counts)) (qw ∙ ap (take (p .middle .len)) q1))
 
     pub put-kept : {d t e : List ℕ} {to r : ℕ} → b ≡ true → t ≡ take len s → Put d to t e r → SpellsAnnotation s p d to e (record { to = r; len = len })
     unfolding annotationSpelled

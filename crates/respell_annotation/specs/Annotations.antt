@@ -47,7 +47,7 @@ partsSpelled s p = spelledWith s (behindIon s p) (behindLosses (behindIon s p)) 
 -- as it stands, or part by part
 unfoldable pub annotationSpelled : List ℕ → Parts → List ℕ
 annotationSpelled s p =
-    cond (isKept (p .front .ion) (p .middle) (take (p .middle .len) (behindIon s p))) (take (annotationSize s p) s) (partsSpelled s p)
+    cond (isKept (p .front .ion) (p .middle .counts) (take (p .middle .len) (behindIon s p))) (take (annotationSize s p) s) (partsSpelled s p)
 
 pub record SpellsAnnotation (s : List ℕ) (p : Parts) (d : List ℕ) (to : ℕ) (e : List ℕ) (r : Respelled) : Type 0 where
   pub len : r .len ≡ annotationSize s p

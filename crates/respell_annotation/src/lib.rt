@@ -4,11 +4,11 @@ ghost use mathlib.Core.Path.{_≡_};
 ghost use Rattle.put_bytes.specs.Puts.{Put};
 ghost use Rattle.respell_annotation.specs.Kept.{hasOne, isKept};
 ghost use Rattle.respell_annotation.specs.Annotations.{ionSpelled, adductSpelled, partsSpelled, SpellsAnnotation};
+use counts::Counts;
 use print_count::Respelled;
 use put_bytes::put_run;
 use put_bytes::put8;
 use put_formula::put_preferred;
-use read_annotation::Middle;
 use read_annotation::Parts;
 use read_annotation::begins_adduct;
 use read_ion::IonRead;
@@ -36,16 +36,16 @@ fn has_one(s: &[u8]) -> bool
 
 // Whether an annotation is spelled as it is preferred, as can be told at a glance: it has no formula, one loss and one adduct item at most,
 // and no `1` in what stands between ion and charge. Most annotations are such.
-fn is_kept(x: IonRead, m: Middle, s: &[u8]) -> bool
-    ensures { λ r. ⌜ r ≡ isKept x m (now (s .entry)) ⌝ }
+fn is_kept(x: IonRead, n: Counts, s: &[u8]) -> bool
+    ensures { λ r. ⌜ r ≡ isKept x n (now (s .entry)) ⌝ }
 {
     if x.units != 0 {
         return false;
     }
-    if 1 < m.losses {
+    if 1 < n.losses {
         return false;
     }
-    if 1 < m.items {
+    if 1 < n.items {
         return false;
     }
     !has_one(s)
@@ -102,10 +102,11 @@ pub fn spell_annotation(out: &mut [u8], to: usize, s: &[u8], p: Parts) -> Respel
     let f = p.front;
     let x = f.ion;
     let m = p.middle;
+    let n = m.counts;
     let b = p.tail;
     let s1 = rest(s, f.len);
     let len = minus_or_zero(s.len(), rest(rest(s1, m.len), b.len).len());
-    if is_kept(x, m, first_of(s1, m.len)) {
+    if is_kept(x, n, first_of(s1, m.len)) {
         let end = put_run(out, to, first_of(s, len));
         return Respelled { to: end, len };
     }

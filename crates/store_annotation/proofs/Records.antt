@@ -1,6 +1,6 @@
 -- The record of an annotation that is spelled, field by field. Assumes nothing.
 use Prim.Native.Nat.{ℕ}
-use mathlib.Core.Path.{_≡_}
+use mathlib.Core.Path.{_≡_, _∙_}
 use mathlib.Core.List.{List, [], _∷_, _++_}
 use lib.ListN.{length}
 use Rattle.lang.specs.Mark.{Kept, here, later, marksOf}
@@ -15,12 +15,12 @@ use Rattle.rules.specs.Fields.{filled}
 use Rattle.rules.specs.Limits.{part, optPart, ionParts, analytePart, chargePart, deviationPart, confidencePart, annotationParts, annotationMarks}
 use Rattle.rules.specs.Stored.{u8, u16, u32, stores, isotopeRecords, annotationRecord}
 use Rattle.rules.proofs.Keeps.{kept-tail, kept-part}
+use Rattle.counts.specs.declared.Counts.{Counts}
 use Rattle.faults.specs.declared.Fault.{Fault}
 use Rattle.read_annotation.specs.declared.Parts.{Parts}
 use Rattle.read_annotation.proofs.SaysWhat.{tableOf}
 use Rattle.read_annotation.proofs.Ions.{ion-told}
 use Rattle.read_annotation.proofs.SpelledAnnotation.{deviationFault, confidenceFault, fault0, fault1, fault2, partsRead}
-use Rattle.store_annotation.specs.declared.Rows.{Rows}
 use Rattle.store_annotation.specs.Records.{frontBytes, tailBytes, countBytes, recordBytes}
 use Rattle.store_annotation.proofs.Numbers.{analyte-told, charge-told, deviation-told, confidence-told}
 use Rattle.store_annotation.proofs.Ions.{ion-stored}
@@ -37,11 +37,12 @@ module _ (a : Annotation Written) (k : List ℕ) (nth end : ℕ) (f : Fault) whe
   abbrev adductSeen : Fault
   adductSeen = fault2 a k end (fault0 a k nth end f)
 
-  pub record-stored : (i at : ℕ) → Kept (annotationMarks i a at) → (n : Rows) (ls : List (Loss Number)) (xs : List (Item Number)) → n .losses ≡ length ls
+  pub record-stored : (i at : ℕ) → Kept (annotationMarks i a at) → (n : Counts) (ls : List (Loss Number)) (xs : List (Item Number)) → n .losses ≡ length ls
       → n .isotopes ≡ length (isotopeRecords (isotopesMap filled (a .isotopes))) → n .items ≡ length xs
+      → n .units ≡ seen .front .ion .units → n .text ≡ seen .front .ion .text
       → recordBytes (seen .front) (seen .tail) n ≡ stores (annotationRecord (tableOf a ls xs))
   unfolding frontBytes tailBytes countBytes
-  record-stored i at kept n ls xs nl ni nx =
+  record-stored i at kept n ls xs nl ni nx nu nt =
       let keep = kept-part at (annotationParts a) (kept-tail kept) in
       let pa = keep (optPart analytePart (a .analyte)) (later here) in
       let pi = keep (part (ionText (a .ion)) (λ at. marksOf at (ionParts (a .ion)))) (later (later here)) in
@@ -54,8 +55,10 @@ module _ (a : Annotation Written) (k : List ℕ) (nth end : ℕ) (f : Fault) whe
       let ch = charge-told (a .charge) (pc .0) (pc .1) in
       let de = deviation-told (a .deviation) (pd .0) (deviationFault (a .charge) (a .deviation) (a .confidence) k end adductSeen) (pd .1) in
       let co = confidence-told (a .confidence) (pe .0) (confidenceFault (a .charge) (a .deviation) (a .confidence) k end adductSeen) (pe .1) in
+      let units = nu ∙ it .units in
+      let text = nt ∙ it .text in
       λ j. stores (
       u8 (io .kind j) ∷ u8 (seen .front .marked) ∷ u8 (seen .front .present) ∷ u8 (io .letter j) ∷ u16 (an j) ∷ u16 (io .position j) ∷ u16 (io .end j)
       ∷ u8 (ch j) ∷ u8 (de .kind j) ∷ u8 (de .places j) ∷ u8 (co .kind j) ∷ u8 (co .places j) ∷ u8 0 ∷ [])
       ++ (de .value j
-      ++ stores (u32 (co .value j) ∷ u16 (it .text j) ∷ u16 (it .units j) ∷ u8 (nl j) ∷ u8 (ni j) ∷ u8 (nx j) ∷ u8 0 ∷ []))
+      ++ stores (u32 (co .value j) ∷ u16 (text j) ∷ u16 (units j) ∷ u8 (nl j) ∷ u8 (ni j) ∷ u8 (nx j) ∷ u8 0 ∷ []))

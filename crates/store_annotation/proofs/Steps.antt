@@ -9,6 +9,7 @@ use borrow.Author.Tests.{eq-eqb, ne-eqb}
 use Rattle.rules.specs.Bytes.{bytes}
 use Rattle.rules.specs.Texts.{startsWith}
 use Rattle.put_bytes.specs.Puts.{maxPlace, Put}
+use Rattle.counts.specs.declared.Counts.{Counts}
 use Rattle.put_formula.specs.Records.{recordsOf}
 use Rattle.store_sections.specs.declared.Cursors.{Cursors}
 use Rattle.store_sections.specs.Pages.{at, moved, Ran}
@@ -24,7 +25,6 @@ use Rattle.read_annotation.specs.declared.Front.{Front}
 use Rattle.read_annotation.specs.declared.Tail.{Tail}
 use Rattle.read_annotation.specs.declared.Parts.{Parts}
 use Rattle.store_annotation.specs.declared.Added.{Added}
-use Rattle.store_annotation.specs.declared.Rows.{Rows}
 use Rattle.store_annotation.specs.Records.{signedOf, frontBytes, tailBytes, countBytes, recordBytes}
 use Rattle.read_annotation.specs.Measured.{behindIon, annotationSize}
 use Rattle.store_annotation.specs.Events.{ionEvents, adductCount, adductEvents, StoresAdduct, behindLosses, behindIsotopes, annotationEvents, StoresAnnotation}
@@ -46,7 +46,7 @@ module _ {minus : Bool} {v : ℕ} where
 
 -- ---- the record
 
-pub record-long : (a : Front) (b : Tail) (n : Rows) → length (recordBytes a b n) ≡ 36
+pub record-long : (a : Front) (b : Tail) (n : Counts) → length (recordBytes a b n) ≡ 36
 unfolding frontBytes tailBytes countBytes
 record-long a b n = refl
 
@@ -80,7 +80,7 @@ module _ {s d : List ℕ} {p : Parts} {c : Cursors} {l : Arranged} {y : Isotopes
   pub annotation-stored : ta ≡ drop (p .front .at) s → Ran d c (ionEvents ta (p .front .ion)) d1 c1 → t1 ≡ drop (p .front .len) s → StoresChanges t1 1 d1 c1 d2 l
       → t2 ≡ drop (l .len) t1 → n ≡ at 2 (l .cursors) → StoresIsotopes t2 d2 n d3 y → c3 ≡ moved 2 (y .next) (l .cursors) → t3 ≡ drop (y .len) t2
       → StoresAdduct t3 d3 c3 d4 i → to ≡ at 0 (i .cursors)
-      → Put d4 to (recordBytes (p .front) (p .tail) (record { losses = l .n; isotopes = y .n; items = i .n })) e next → k ≡ moved 0 next (i .cursors)
+      → Put d4 to (recordBytes (p .front) (p .tail) (record { annotations = 1; losses = l .n; isotopes = y .n; items = i .n; units = p .front .ion .units; text = p .front .ion .text })) e next → k ≡ moved 0 next (i .cursors)
       → u ≡ drop (p .middle .len) t1 → r ≡ drop (p .tail .len) u → len ≡ length s - length r → StoresAnnotation s p d c e (record { len = len; cursors = k })
   unfolding annotationEvents annotationSize
   annotation-stored eta ion q1 losses e2 en isotopes e3 f3 adduct eo put ek eu er el =
@@ -97,5 +97,5 @@ module _ {s d : List ℕ} {p : Parts} {c : Cursors} {l : Arranged} {y : Isotopes
         ran =
             ran-as (ran-then ion (ran-then (losses .ran) (ran-then (ran-at 2 en (isotopes .put) e3) (ran-then (adduct .ran) (ran-at 0 eo put ek)))))
             (λ j. ionEvents (eta j) (p .front .ion) ++ (changeEvents 1 (q1 j) ++ ((2, filedIsotopes (q2 j) .known .bytes)
-            ∷ (adductEvents (q3 j) ++ ((0, recordBytes (p .front) (p .tail) (record { losses = pl j; isotopes = py j; items = pi j })) ∷ [])))));
+            ∷ (adductEvents (q3 j) ++ ((0, recordBytes (p .front) (p .tail) (record { annotations = 1; losses = pl j; isotopes = py j; items = pi j; units = p .front .ion .units; text = p .front .ion .text })) ∷ [])))));
       }

@@ -18,21 +18,20 @@ use Rattle.rules.specs.Limits.{part, ionParts, annotationParts, annotationMarks
 use Rattle.rules.specs.Stored.{stores, unitRecord, lossRecord, itemRecord, lostUnits, lostName, addedUnits, ionFields, isotopeRecords, annotationRecord, annotationUnits, annotationTexts}
 use Rattle.rules.proofs.Keeps.{kept-tail, kept-part}
 use Rattle.rules.proofs.Totals.{perm-length}
+use Rattle.counts.specs.declared.Counts.{Counts}
 use Rattle.faults.specs.declared.Fault.{Fault}
 use Rattle.store_sections.specs.Pages.{Event, bytesFor, bytesOf}
 use Rattle.store_sections.specs.Fills.{Fills}
 use Rattle.store_sections.proofs.Events.{flat-append}
 use Rattle.store_sections.proofs.Fills.{fills-one}
 use Rattle.read_isotopes.specs.Records.{Filed, filedIsotopes}
-use Rattle.sort_changes.specs.Gathered.{gathered}
-use Rattle.sort_changes.specs.Events.{noKeys, changeEvents}
+use Rattle.sort_changes.specs.Events.{changeEvents}
 use Rattle.read_annotation.specs.declared.Parts.{Parts}
 use Rattle.read_annotation.specs.Measured.{partsOf}
 use Rattle.read_annotation.proofs.SaysWhat.{tableOf, said-so}
 use Rattle.read_annotation.proofs.SpelledAnnotation.{EndsAnnotation, first, second, text-is, parts-read}
-use Rattle.store_annotation.specs.declared.Rows.{Rows}
 use Rattle.store_annotation.specs.Records.{recordBytes}
-use Rattle.store_annotation.specs.Events.{ionEvents, adductCount, adductEvents, annotationEvents}
+use Rattle.store_annotation.specs.Events.{ionEvents, adductEvents, storedCounts, annotationEvents}
 use Rattle.store_annotation.proofs.Ions.{ion-units, ion-name}
 use Rattle.store_annotation.proofs.Records.{seen, ionSeen, record-stored}
 use Rattle.store_annotation.proofs.Rests.{isotopesOn, adductOn, ion-at, losses-are, isotopes-are, adduct-is}
@@ -77,11 +76,11 @@ module _ (a : Annotation Written) (k : List ℕ) (nth end : ℕ) (f : Fault) (e 
   abbrev adduct : List Event
   adduct = adductEvents (adductOn a k)
 
-  abbrev rows : Rows
-  rows = record { losses = length (gathered noKeys (second a k) .slots); isotopes = filedIsotopes (isotopesOn a k) .known .n; items = adductCount (adductOn a k) }
+  abbrev counts : Counts
+  counts = storedCounts (second a k) (isotopesOn a k) (adductOn a k) (read .front .ion)
 
   abbrev own : List ℕ
-  own = recordBytes (read .front) (read .tail) rows
+  own = recordBytes (read .front) (read .tail) counts
 
   -- by what each part gives to section j
   section : (j : ℕ) {x l y d : List ℕ} → bytesOf j ion ≡ x → bytesOf j losses ≡ l → bytesFor j (2, isotopes) ≡ y → bytesOf j adduct ≡ d
@@ -101,8 +100,8 @@ module _ (a : Annotation Written) (k : List ℕ) (nth end : ℕ) (f : Fault) (e 
       let n = l .n ∙ perm-length (l .same) in
       let m = x .n ∙ perm-length (x .same) in
       section 0 refl (l .others 0 refl refl refl) refl (x .others 0 refl refl refl) ∙ append-nil own
-      ∙ record-stored a k nth end f i at kept rows lost added n
-      (ap (λ (w : Walked Filed). w .known .n) (isotopes-are a k e i at kept)) m
+      ∙ record-stored a k nth end f i at kept counts lost added n
+      (ap (λ (w : Walked Filed). w .known .n) (isotopes-are a k e i at kept)) m refl refl
 
   losses-section : bytesOf 1 (annotationEvents (first a k) read) ≡ flat (λ l. stores (lossRecord l)) lost
   unfolding ionEvents

@@ -6,6 +6,7 @@ use mathlib.Core.List.{List, [], _∷_, _++_}
 use lib.ListN.{length, take, drop}
 use Rattle.rules.specs.Bytes.{bytes}
 use Rattle.rules.specs.Texts.{startsWith}
+use Rattle.counts.specs.declared.Counts.{Counts}
 use Rattle.put_formula.specs.Records.{recordsOf}
 use Rattle.store_sections.specs.declared.Cursors.{Cursors}
 use Rattle.store_sections.specs.Pages.{Event, Ran}
@@ -17,7 +18,6 @@ use Rattle.read_annotation.specs.declared.Front.{Front}
 use Rattle.read_annotation.specs.declared.Tail.{Tail}
 use Rattle.read_annotation.specs.declared.Parts.{Parts}
 use Rattle.read_annotation.specs.Measured.{behindIon, annotationSize}
-use Rattle.store_annotation.specs.declared.Rows.{Rows}
 use Rattle.store_annotation.specs.declared.Added.{Added}
 use Rattle.store_annotation.specs.declared.Stored.{Stored}
 use Rattle.store_annotation.specs.Records.{recordBytes}
@@ -46,12 +46,23 @@ behindLosses s = drop (gathered noKeys s .at) s
 abbrev pub behindIsotopes : List ℕ → List ℕ
 behindIsotopes s = drop (length s - length (filedIsotopes s .rest)) s
 
+-- what the record of an annotation counts: units and text are those of its ion alone
+abbrev pub storedCounts : List ℕ → List ℕ → List ℕ → IonRead → Counts
+storedCounts s1 s2 s3 x =
+    record {
+      annotations = 1;
+      losses = length (gathered noKeys s1 .slots);
+      isotopes = filedIsotopes s2 .known .n;
+      items = adductCount s3;
+      units = x .units;
+      text = x .text;
+    }
+
 -- s1 is left behind the ion, s2 behind the losses, s3 behind the isotopes
 abbrev pub eventsWith : List ℕ → List ℕ → List ℕ → List ℕ → Front → Tail → List Event
 eventsWith s s1 s2 s3 a b =
-    let n : Rows = record { losses = length (gathered noKeys s1 .slots); isotopes = filedIsotopes s2 .known .n; items = adductCount s3 } in
     ionEvents (drop (a .at) s) (a .ion)
-    ++ (changeEvents 1 s1 ++ ((2, filedIsotopes s2 .known .bytes) ∷ (adductEvents s3 ++ ((0, recordBytes a b n) ∷ []))))
+    ++ (changeEvents 1 s1 ++ ((2, filedIsotopes s2 .known .bytes) ∷ (adductEvents s3 ++ ((0, recordBytes a b (storedCounts s1 s2 s3 (a .ion))) ∷ []))))
 
 unfoldable pub annotationEvents : List ℕ → Parts → List Event
 annotationEvents s p = eventsWith s (behindIon s p) (behindLosses (behindIon s p)) (behindIsotopes (behindLosses (behindIon s p))) (p .front) (p .tail)

@@ -4,11 +4,10 @@ use mathlib.Core.Bool.{Bool, cond, _&&_, not}
 use mathlib.Core.List.{List, [], _∷_, _++_}
 use lib.Dec.{eqb}
 use Rattle.rules.specs.Stored.{Field, u8, u16, u32, u64, stores}
+use Rattle.counts.specs.declared.Counts.{Counts}
 use Rattle.read_tail.specs.declared.DecimalPart.{DecimalPart}
-use Rattle.read_ion.specs.declared.IonRead.{IonRead}
 use Rattle.read_annotation.specs.declared.Front.{Front}
 use Rattle.read_annotation.specs.declared.Tail.{Tail}
-use Rattle.store_annotation.specs.declared.Rows.{Rows}
 
 -- an i64 in two's complement
 unfoldable pub signedOf : Bool → ℕ → ℕ
@@ -38,12 +37,12 @@ tailFields b =
 unfoldable pub tailBytes : Tail → List ℕ
 tailBytes b = stores (tailFields b)
 
--- bytes 28 to 35: text length, units, losses, isotopes, adduct items, 0
-abbrev pub countFields : IonRead → Rows → List Field
-countFields x n = u16 (x .text) ∷ u16 (x .units) ∷ u8 (n .losses) ∷ u8 (n .isotopes) ∷ u8 (n .items) ∷ u8 0 ∷ []
+-- bytes 28 to 35: the ion's text length and units, losses, isotopes, adduct items, 0
+abbrev pub countFields : Counts → List Field
+countFields n = u16 (n .text) ∷ u16 (n .units) ∷ u8 (n .losses) ∷ u8 (n .isotopes) ∷ u8 (n .items) ∷ u8 0 ∷ []
 
-unfoldable pub countBytes : IonRead → Rows → List ℕ
-countBytes x n = stores (countFields x n)
+unfoldable pub countBytes : Counts → List ℕ
+countBytes n = stores (countFields n)
 
-abbrev pub recordBytes : Front → Tail → Rows → List ℕ
-recordBytes a b n = frontBytes a ++ (tailBytes b ++ countBytes (a .ion) n)
+abbrev pub recordBytes : Front → Tail → Counts → List ℕ
+recordBytes a b n = frontBytes a ++ (tailBytes b ++ countBytes n)

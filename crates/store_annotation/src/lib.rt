@@ -4,6 +4,7 @@ ghost use Rattle.put_bytes.specs.Puts.{Put};
 ghost use Rattle.store_sections.specs.Pages.{Ran};
 ghost use Rattle.store_annotation.specs.Records.{signedOf, frontBytes, kindBytes, tailBytes, countBytes, recordBytes};
 ghost use Rattle.store_annotation.specs.Events.{ionEvents, StoresAdduct, StoresAnnotation};
+use counts::Counts;
 use put_bytes::put_le;
 use put_bytes::put_run;
 use put_bytes::put8;
@@ -22,13 +23,6 @@ use sort_changes::store_changes;
 use store_sections::Cursors;
 use store_sections::cursor;
 use store_sections::with_cursor;
-
-// How many losses, isotopes and adduct items an annotation has.
-pub struct Rows {
-    pub losses: usize,
-    pub isotopes: usize,
-    pub items: usize,
-}
 
 // The adduct items that were stored, and the cursors behind them.
 pub struct Added {
@@ -95,11 +89,11 @@ fn put_tail(out: &mut [u8], to: usize, b: Tail) -> usize
 }
 
 // Bytes 28 to 35: the ion's text bytes and units, then losses, isotopes, adduct items, 0.
-fn put_counts(out: &mut [u8], to: usize, x: IonRead, n: Rows) -> usize
-    ensures { λ r. ⌜ Put (now (out .entry)) to (countBytes x n) (now (out .exit)) r ⌝ }
+fn put_counts(out: &mut [u8], to: usize, n: Counts) -> usize
+    ensures { λ r. ⌜ Put (now (out .entry)) to (countBytes n) (now (out .exit)) r ⌝ }
 {
-    let p = put_le(out, to, x.text as u64, 2);
-    let q = put_le(out, p, x.units as u64, 2);
+    let p = put_le(out, to, n.text as u64, 2);
+    let q = put_le(out, p, n.units as u64, 2);
     let r = put_le(out, q, n.losses as u64, 1);
     let s = put_le(out, r, n.isotopes as u64, 1);
     let t = put_le(out, s, n.items as u64, 1);
@@ -107,17 +101,16 @@ fn put_counts(out: &mut [u8], to: usize, x: IonRead, n: Rows) -> usize
 }
 
 // The fields of an annotation's record.
-fn put_fields(out: &mut [u8], to: usize, a: Front, b: Tail, n: Rows) -> usize
+fn put_fields(out: &mut [u8], to: usize, a: Front, b: Tail, n: Counts) -> usize
     ensures { λ r. ⌜ Put (now (out .entry)) to (recordBytes a b n) (now (out .exit)) r ⌝ }
 {
-    let x = a.ion;
     let p = put_front(out, to, a);
     let q = put_tail(out, p, b);
-    put_counts(out, q, x, n)
+    put_counts(out, q, n)
 }
 
 // The record of an annotation, put in one piece: whether it fits is asked once, and not for each field.
-fn put_annotation(out: &mut [u8], to: usize, a: Front, b: Tail, n: Rows) -> usize
+fn put_annotation(out: &mut [u8], to: usize, a: Front, b: Tail, n: Counts) -> usize
     ensures { λ r. ⌜ Put (now (out .entry)) to (recordBytes a b n) (now (out .exit)) r ⌝ }
 {
     let mut record = [0u8; 36];
@@ -165,10 +158,13 @@ pub fn store(out: &mut [u8], c: Cursors, s: &[u8], p: Parts) -> Stored
     let c3 = with_cursor(c2, 2, y.next);
     let i = store_adduct(out, c3, rest(s2, y.len));
     let c4 = i.cursors;
-    let n = Rows {
+    let n = Counts {
+        annotations: 1,
         losses: l.n,
         isotopes: y.n,
         items: i.n,
+        units: x.units,
+        text: x.text,
     };
     let next = put_annotation(out, cursor(c4, 0), a, b, n);
     Stored {

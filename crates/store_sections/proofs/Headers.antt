@@ -5,8 +5,8 @@ use mathlib.Core.List.{List}
 use lib.Seq.{sets}
 use Rattle.rules.specs.Stored.{stores}
 use Rattle.put_bytes.specs.Puts.{Put}
+use Rattle.counts.specs.declared.Counts.{Counts}
 use Rattle.store_sections.specs.declared.Cursors.{Cursors}
-use Rattle.store_sections.specs.declared.Counts.{Counts}
 use Rattle.store_sections.specs.Headers.{behind, startsOf, endAt, headerFields, Headed}
 
 pub headed : {d e : List ℕ} {n : Counts} {c : Cursors} {end r : ℕ} → c ≡ startsOf n → end ≡ behind (c .text) (n .text) 1

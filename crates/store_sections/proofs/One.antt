@@ -3,8 +3,8 @@ use Prim.Native.Nat.{ℕ}
 use mathlib.Core.Path.{_≡_, sym, _∙_}
 use mathlib.Core.List.{List}
 use Rattle.put_bytes.proofs.One.{put-one}
+use Rattle.counts.specs.declared.Counts.{Counts}
 use Rattle.store_sections.specs.declared.Cursors.{Cursors}
-use Rattle.store_sections.specs.declared.Counts.{Counts}
 use Rattle.store_sections.specs.Pages.{Event, Ran}
 use Rattle.store_sections.specs.Headers.{Headed}
 

@@ -12,8 +12,8 @@ use Rattle.rules.proofs.Lengths.{lossesOf, isotopesOf, itemsOf, unitsOf, textsO
 use Rattle.rules.proofs.Lengths.{annotations-length, losses-length, isotopes-length, items-length, units-length}
 use Rattle.put_bytes.specs.Puts.{maxPlace, Put}
 use Rattle.put_bytes.proofs.Putting.{put-then, put-as, over-zeros}
+use Rattle.counts.specs.declared.Counts.{Counts}
 use Rattle.store_sections.specs.declared.Cursors.{Cursors}
-use Rattle.store_sections.specs.declared.Counts.{Counts}
 use Rattle.store_sections.specs.Pages.{places, placed, Event, Ran, joined, begins, Laid}
 use Rattle.store_sections.specs.Headers.{behind, endAt, startsOf, headerFields, headerBytes, Headed, countsOf}
 use Rattle.store_sections.specs.Fills.{bytesIn, Fills}

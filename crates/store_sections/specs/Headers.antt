@@ -7,8 +7,8 @@ use Rattle.lang.specs.Parts.{flat}
 use Rattle.rules.specs.Fields.{Table}
 use Rattle.rules.specs.Stored.{Field, u16, stores, isotopeRecords, annotationUnits, annotationTexts, edition, headerSize}
 use Rattle.put_bytes.specs.Puts.{maxPlace, Put}
+use Rattle.counts.specs.declared.Counts.{Counts}
 use Rattle.store_sections.specs.declared.Cursors.{Cursors}
-use Rattle.store_sections.specs.declared.Counts.{Counts}
 
 -- the place behind n things of a size, or the largest
 abbrev pub behind : ℕ → ℕ → ℕ → ℕ

@@ -3,19 +3,10 @@ ghost use mathlib.Core.Path.{_≡_};
 ghost use Rattle.put_bytes.specs.Puts.{Put};
 ghost use Rattle.store_sections.specs.Pages.{at, moved};
 ghost use Rattle.store_sections.specs.Headers.{behind, startsOf, endAt, pair, Headed};
+use counts::Counts;
 
 // Where the next byte of each section goes.
 pub struct Cursors {
-    pub annotations: usize,
-    pub losses: usize,
-    pub isotopes: usize,
-    pub items: usize,
-    pub units: usize,
-    pub text: usize,
-}
-
-// How many there are in each section.
-pub struct Counts {
     pub annotations: usize,
     pub losses: usize,
     pub isotopes: usize,

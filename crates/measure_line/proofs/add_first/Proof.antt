@@ -18,8 +18,8 @@ advance-requires c κs = search needs
 
 returns : tie.Need-returns
 returns c =
-    first-added _ _ (c .before .before .before .before .before .measure .ensures)
-    (omega arith) (omega arith) (omega arith) (omega arith) (omega arith) (omega arith)
+    first-added _ _ (c .before .before .before .before .before .before .measure .ensures)
+    (omega arith)
     (c .before .before .before .note .ensures) (c .before .note2 .ensures) (c .advance .ensures)
 
 pub add-first-spec : {M : Type 1} → statement M

@@ -17,7 +17,7 @@ add-requires c κs = search needs
 
 returns : tie.Need-returns
 returns c =
-    let at-args = c .before .before .before .before .before .before in
+    let at-args = c .before .before .before .before .before .before .before in
     next-added (at-args .args .line .now) (at-args .args .t) (c .before .before .before .advance .ensures) (c .before .before .rest .ensures) (c .before .read-parts .ensures) (c .add .ensures)
 
 pub add-next-spec : {M : Type 1} → statement M

@@ -12,11 +12,11 @@ rest-requires c κs = search needs
 rest-requires-2 : tie.Need-rest-requires-2
 rest-requires-2 c κs = search needs
 
-advance-requires : tie.Need-advance-requires
-advance-requires c κs = search needs
+own-counts-requires : tie.Need-own-counts-requires
+own-counts-requires c κs = search needs
 
-advance-requires-2 : tie.Need-advance-requires-2
-advance-requires-2 c κs = search needs
+plus-requires : tie.Need-plus-requires
+plus-requires c κs = search needs
 
 keeps-rules-requires : tie.Need-keeps-rules-requires
 keeps-rules-requires c κs = search needs
@@ -29,12 +29,12 @@ minus-or-zero-requires c κs = search needs
 
 returns : tie.Need-returns
 returns c =
-    let at-advance = c .before .before .before .before in
-    let at-rest2 = at-advance .before in
+    let at-own-counts = c .before .before .before .before in
+    let at-rest2 = at-own-counts .before in
     let at-rest = at-rest2 .before in
     let at-share-of = at-rest .before in
-    let at-args = at-share-of .before .before .before .before .before .before .before .before .before in
-    measure-is (at-args .args .s .now) (at-args .args .p) (at-share-of .share-of .ensures) (at-rest .rest .ensures) (at-rest2 .rest2 .ensures) (at-advance .advance .ensures) (c .before .before .before .advance2 .ensures) (c .before .before .keeps-rules .ensures) (c .before .rest3 .ensures) (c .minus-or-zero .ensures)
+    let at-args = at-share-of .before .before .before .before .before .before .before .before .before .before in
+    measure-is (at-args .args .s .now) (at-args .args .p) (at-share-of .share-of .ensures) (at-rest .rest .ensures) (at-rest2 .rest2 .ensures) (at-own-counts .own-counts .ensures) (c .before .before .before .plus .ensures) (c .before .before .keeps-rules .ensures) (c .before .rest3 .ensures) (c .minus-or-zero .ensures)
 
 pub measure-spec : {M : Type 1} → statement M
 measure-spec =
@@ -43,8 +43,8 @@ measure-spec =
     share-of-requires
     rest-requires
     rest-requires-2
-    advance-requires
-    advance-requires-2
+    own-counts-requires
+    plus-requires
     keeps-rules-requires
     rest-requires-3
     minus-or-zero-requires

@@ -23,9 +23,6 @@ returns c =
     let at-read-at = at-total .before in
     spelled-refused _ (at-read-at .read-at .ensures) (at-total .total .ensures) (c .before .before .before .first-refusal .ensures) (c .before .if1 .taken) (c .refuse .ensures)
 
-counts-requires : tie.Need-counts-requires
-counts-requires c κs = search needs
-
 size-of-requires : tie.Need-size-of-requires
 size-of-requires c κs = search needs
 
@@ -38,7 +35,7 @@ returns-2 c =
     let at-first-refusal = at-if1 .before .before in
     let at-total = at-first-refusal .before in
     let at-read-at = at-total .before in
-    spelled-no-room _ (at-read-at .read-at .ensures) (at-total .total .ensures) (at-first-refusal .first-refusal .ensures) (at-if1 .if1 .left) (c .before .before .before .counts .ensures) (c .before .before .size-of .ensures) (omega (arith, c .before .if2 .taken)) (c .refuse2 .ensures)
+    spelled-no-room _ (at-read-at .read-at .ensures) (at-total .total .ensures) (at-first-refusal .first-refusal .ensures) (at-if1 .if1 .left) (c .before .before .size-of .ensures) (omega (arith, c .before .if2 .taken)) (c .refuse2 .ensures)
 
 put-header-requires : tie.Need-put-header-requires
 put-header-requires c κs = search needs
@@ -55,12 +52,11 @@ returns-3 c =
     let at-put-header = at-store-all .before .before .before .before in
     let at-if2 = at-put-header .before .before in
     let at-size-of = at-if2 .before in
-    let at-counts = at-size-of .before in
-    let at-if1 = at-counts .before in
+    let at-if1 = at-size-of .before .before in
     let at-first-refusal = at-if1 .before .before in
     let at-total = at-first-refusal .before in
     let at-read-at = at-total .before in
-    spelled-stored _ (at-read-at .read-at .ensures) (at-total .total .ensures) (at-first-refusal .first-refusal .ensures) (at-if1 .if1 .left) (at-counts .counts .ensures) (at-size-of .size-of .ensures) (omega (arith, at-if2 .if2 .left)) (at-put-header .put-header .ensures) (at-store-all .store-all .ensures)
+    spelled-stored _ (at-read-at .read-at .ensures) (at-total .total .ensures) (at-first-refusal .first-refusal .ensures) (at-if1 .if1 .left) (at-size-of .size-of .ensures) (omega (arith, at-if2 .if2 .left)) (at-put-header .put-header .ensures) (at-store-all .store-all .ensures)
 
 pub read-spelled-spec : {M : Type 1} → statement M
 read-spelled-spec =
@@ -71,7 +67,6 @@ read-spelled-spec =
     first-refusal-requires
     refuse-requires
     returns
-    counts-requires
     size-of-requires
     refuse-requires-2
     returns-2
