@@ -1,29 +1,16 @@
 -- A line put over an output and zeros behind it, and the answers that a line gets. Assumes nothing.
-use Prim.Native.Nat.{ℕ, suc, _+_, _-_, _<_, _≤_}
-use mathlib.Core.Path.{_≡_, sym, ap, ap₂, _∙_}
-use mathlib.Core.List.{List, _++_, append-nil}
+use Prim.Native.Nat.{ℕ, _+_, _-_, _<_, _≤_}
+use mathlib.Core.Path.{_≡_, ap, ap₂, _∙_}
+use mathlib.Core.List.{List, _++_}
 use native.Mathlib.Omega.{arith}
-use native.Mathlib.Numerals.{add-one}
-use lib.ListN.{length, take, drop, set, replicate, length-set}
-use lib.Seq.{take-all, take-suc-set, append-snoc, take-append-seam, sets-eq, sets}
+use lib.ListN.{length, take, drop, replicate}
+use lib.Seq.{take-append-seam, sets-eq, sets}
 use borrow.Author.Tests.{lt-ltb, le-ltb}
 use Rattle.rules.specs.Limits.{maxLine}
-use Rattle.put_bytes.specs.Puts.{Put}
+use Rattle.put_bytes.specs.Puts.{Put, cleared}
 use Rattle.put_bytes.proofs.Putting.{put-length}
 use Rattle.answers.specs.declared.Answer.{Answer}
-use Rattle.answers.specs.Delivered.{answered, refusedOf, cleared, lineOver}
-
--- ---- zeros from a place on
-
--- one byte cleared, and all behind it
-pub clear-more : (d : List ℕ) (i : ℕ) → i < length d → cleared (set d i 0) (i + 1) ≡ cleared d i
-clear-more d i h =
-    let n : length d - i ≡ suc (length d - suc i) = omega arith in
-    rw (add-one i, length-set d i 0, take-suc-set d i 0 h, n) (append-snoc (take i d) 0 (replicate (length d - suc i) 0))
-
--- none is left to clear
-pub clear-none : (d : List ℕ) (i : ℕ) → length d ≤ i → d ≡ cleared d i
-clear-none d i h = let n : length d - i ≡ 0 = omega arith in sym (rw (take-all i d h, n) (append-nil d))
+use Rattle.answers.specs.Delivered.{answered, refusedOf, lineOver}
 
 -- ---- a line with zeros behind it
 

@@ -1,9 +1,9 @@
 -- What a call answers, with the bytes of the output, and what a line that is to be written is answered by. Assumes nothing.
-use Prim.Native.Nat.{ℕ, _-_}
+use Prim.Native.Nat.{ℕ}
 use mathlib.Core.Bool.{cond}
-use mathlib.Core.List.{List, _++_}
+use mathlib.Core.List.{List}
 use lib.Dec.{ltb}
-use lib.ListN.{length, take, replicate}
+use lib.ListN.{length}
 use Rattle.rules.specs.Limits.{maxLine}
 use Rattle.rules.specs.Answers as rules
 use Rattle.rules.specs.Answers.{refuses, gives}
@@ -15,10 +15,6 @@ answered r out = record { number = r .number; place = r .place; size = r .len; o
 
 abbrev pub refusedOf : ℕ → ℕ → Answer
 refusedOf number place = record { number = number; place = place; len = 0 }
-
--- zeros from a place on
-abbrev pub cleared : List ℕ → ℕ → List ℕ
-cleared d from = take from d ++ replicate (length d - from) 0
 
 -- a line that is a table's: 1, 8, or done
 unfoldable pub lineOver : List ℕ → ℕ → rules.Answer

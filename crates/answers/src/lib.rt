@@ -2,8 +2,9 @@
 // an output holds the result and zeros behind it, or zeros.
 ghost use mathlib.Core.Path.{_≡_};
 ghost use lib.ListN.{length};
-ghost use Rattle.answers.specs.Delivered.{answered, refusedOf, cleared, lineOver};
+ghost use Rattle.answers.specs.Delivered.{answered, refusedOf, lineOver};
 use put_bytes::clear;
+use put_bytes::clear_from;
 use put_bytes::put_run;
 
 // How many bytes a line may have.
@@ -23,17 +24,6 @@ pub fn refuse(number: usize, place: usize) -> Answer
         number,
         place,
         len: 0,
-    }
-}
-
-// Zeros from a place on.
-pub fn clear_from(out: &mut [u8], from: usize)
-    ensures { λ _. ⌜ now (out .exit) ≡ cleared (now (out .entry)) from ⌝ }
-{
-    let mut i = from;
-    while i < out.len() {
-        out[i] = 0;
-        i += 1;
     }
 }
 

@@ -1,13 +1,13 @@
--- `answers::clear_from` meets its contract: clearing from the place that is reached makes the whole. Assumes nothing.
-use Rattle.answers.proofs.Lines.{clear-more, clear-none}
-use Rattle.answers.specs.Delivered.{cleared}
+-- `put_bytes::clear_from` meets its contract: clearing from the place that is reached makes the whole. Assumes nothing.
+use Rattle.put_bytes.proofs.Clearing.{clear-more, clear-none}
+use Rattle.put_bytes.specs.Puts.{cleared}
 use lib.ListN.{length, length-set}
 use mathlib.Core.Path.{_≡_, refl, _∙_}
 use Prim.Native.Nat.{_-_}
 use borrow.Author.Needs.{needs}
 use native.Mathlib.Omega.{arith}
-use Rattle.answers.proofs.clear_from.Statement.{statement}
-use Rattle.answers.proofs.clear_from.Tie as tie
+use Rattle.put_bytes.proofs.clear_from.Statement.{statement}
+use Rattle.put_bytes.proofs.clear_from.Tie as tie
 
 abbrev Inv-loop : tie.InvT-loop
 Inv-loop out₀ from i₀ out i = (length out ≡ length out₀) × (cleared out i ≡ cleared out₀ from)
