@@ -1,7 +1,7 @@
 -- Zeros from a place on, byte by byte. Assumes nothing.
 use Prim.Native.Nat.{ℕ, suc, _+_, _-_, _<_, _≤_}
 use mathlib.Core.Path.{_≡_, sym}
-use mathlib.Core.List.{List, _++_, append-nil}
+use mathlib.Core.List.{List, append-nil}
 use native.Mathlib.Omega.{arith}
 use native.Mathlib.Numerals.{add-one}
 use native.Mathlib.Nat.{sub-zero}

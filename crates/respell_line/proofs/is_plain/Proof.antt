@@ -1,7 +1,7 @@
--- `lines::is_plain` meets its contract. Assumes nothing.
-use Rattle.lines.proofs.SpellsLine.{with-losses, with-isotopes, with-items, by-units}
-use Rattle.lines.proofs.is_plain.Statement.{statement}
-use Rattle.lines.proofs.is_plain.Tie as tie
+-- `respell_line::is_plain` meets its contract. Assumes nothing.
+use Rattle.respell_line.proofs.SpellsLine.{with-losses, with-isotopes, with-items, by-units}
+use Rattle.respell_line.proofs.is_plain.Statement.{statement}
+use Rattle.respell_line.proofs.is_plain.Tie as tie
 
 returns : tie.Need-returns
 returns c = with-losses _ (c .if1 .taken)

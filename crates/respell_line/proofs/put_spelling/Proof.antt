@@ -1,8 +1,8 @@
--- `lines::put_spelling` meets its contract. Assumes nothing.
-use Rattle.lines.proofs.SpellsLine.{copied, anew}
+-- `respell_line::put_spelling` meets its contract. Assumes nothing.
+use Rattle.respell_line.proofs.SpellsLine.{copied, anew}
 use borrow.Author.Needs.{needs}
-use Rattle.lines.proofs.put_spelling.Statement.{statement}
-use Rattle.lines.proofs.put_spelling.Tie as tie
+use Rattle.respell_line.proofs.put_spelling.Statement.{statement}
+use Rattle.respell_line.proofs.put_spelling.Tie as tie
 
 is-plain-requires : tie.Need-is-plain-requires
 is-plain-requires c κs = search needs

@@ -1,13 +1,13 @@
--- `lines::spell_line` meets its contract. Assumes nothing.
+-- `respell_line::spell_line` meets its contract. Assumes nothing.
 use borrow.Author.Needs.{needs}
-use Rattle.lines.proofs.Spelling.{Spelling, spelling-begins, spelling-length, spelling-falls, spelling-turns, spelling-ends, empty-spelled}
+use Rattle.respell_line.proofs.Spelling.{Spelling, spelling-begins, spelling-length, spelling-falls, spelling-turns, spelling-ends, empty-spelled}
 use Rattle.put_bytes.proofs.Putting.{put-length}
 use lib.ListN.{length}
 use native.Mathlib.Omega.{arith}
 use mathlib.Core.Path.{refl, sym, _∙_}
 use Prim.Native.Nat.{_-_}
-use Rattle.lines.proofs.spell_line.Statement.{statement}
-use Rattle.lines.proofs.spell_line.Tie as tie
+use Rattle.respell_line.proofs.spell_line.Statement.{statement}
+use Rattle.respell_line.proofs.spell_line.Tie as tie
 
 abbrev Inv-loop : tie.InvT-loop
 Inv-loop out₀ line to₀ at₀ out to at = Spelling line out₀ to₀ at₀ out to at

@@ -8,7 +8,7 @@ use borrow.Author.Tests.{eq-eqb, ne-eqb}
 use Rattle.put_bytes.specs.Puts.{Put}
 use Rattle.read_annotation.specs.declared.Parts.{Parts}
 use Rattle.measure_line.specs.declared.Totals.{Totals}
-use Rattle.lines.specs.Plain.{isPlain, lineSpelled, spellingOf}
+use Rattle.respell_line.specs.Plain.{isPlain, lineSpelled, spellingOf}
 
 -- ---- the four tests, one after the other
 

@@ -16,7 +16,7 @@ use Rattle.respell_annotation.specs.Annotations.{annotationSpelled, SpellsAnnot
 use Rattle.measure_line.specs.Totals.{partsAt}
 use Rattle.measure_line.specs.Walks.{behindBy}
 use Rattle.measure_line.proofs.Walking.{walked-none, Walking, walking-begins, walking-turns, walking-falls, walking-ends}
-use Rattle.lines.specs.Plain.{nextSpelled, lineSpelled}
+use Rattle.respell_line.specs.Plain.{nextSpelled, lineSpelled}
 
 -- from output d and places to₀ and at₀ of output and line on, the annotations up to `at` are spelled
 pub record Spelling (line d : List ℕ) (to₀ at₀ : ℕ) (e : List ℕ) (to at : ℕ) : Type 0 where

@@ -28,7 +28,7 @@ use Rattle.respell_annotation.proofs.Kept.{ion-filled}
 use Rattle.measure_line.specs.declared.Totals.{Totals}
 use Rattle.measure_line.specs.Totals.{nothing, totalsOf}
 use Rattle.measure_line.proofs.Through.{lossesIn, isotopesIn, itemsIn, unitsIn, Counts, totals-read}
-use Rattle.lines.specs.Plain.{isPlain}
+use Rattle.respell_line.specs.Plain.{isPlain}
 
 -- ---- the parts of an annotation, as a table has them
 
