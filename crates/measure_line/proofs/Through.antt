@@ -7,14 +7,11 @@ use lib.Dec.{leb}
 use borrow.Author.Tests.{ne-eqb}
 use lib.ListN.{length, drop, length-append, length-drop}
 use lib.Seq.{drop-append-seam, drop-drop}
-use Rattle.lang.specs.Parts.{flat, optText, wordOf}
+use Rattle.lang.specs.Parts.{flat}
 use Rattle.lang.specs.Mark.{Mark, Kept}
 use Rattle.rules.specs.Formulas.{Written}
 use Rattle.rules.specs.Isotopes.{isotopesMap}
 use Rattle.rules.specs.Annotations.{Annotation, annotationText, annotationMap}
-use Rattle.rules.specs.Numbers.{numberText}
-use Rattle.rules.specs.Texts.{bracedText}
-use Rattle.rules.specs.Ions.{Ion, series, internal, immonium, precursor, reference, named, composed, smiles, unknown, ionText}
 use Rattle.rules.specs.Lines.{Spelling, nextText, lineText}
 use Rattle.rules.specs.Fields.{filled}
 use Rattle.rules.specs.Limits.{annotationMarks, nextMarks, rowMarks, lineMarks}
@@ -22,7 +19,7 @@ use Rattle.rules.specs.House.{one}
 use Rattle.rules.specs.Stored.{isotopeRecords, annotationUnits, annotationTexts}
 use Rattle.rules.proofs.Keeps.{kept-left, kept-right}
 use Rattle.rules.proofs.Totals.{total}
-use Rattle.rules.proofs.Digits.{digits-some}
+use Rattle.rules.proofs.RisesParts.{ion-some}
 use Rattle.put_bytes.specs.Puts.{maxPlace}
 use Rattle.faults.specs.declared.Fault.{Fault}
 use Rattle.faults.specs.Faults.{after}
@@ -103,18 +100,6 @@ counts-more {a} {s} {t} {u} {v} p q =
     }
 
 -- ---- no annotation is empty
-
-ion-some : (x : Ion Written) → 1 ≤ length (ionText x)
-ion-some (series s n t) =
-    omega (arith, length-append (wordOf s) (numberText n ++ optText bracedText t), length-append (numberText n) (optText bracedText t), digits-some (n .value))
-ion-some (internal m n t) = omega arith
-ion-some (immonium a m) = omega arith
-ion-some precursor = omega arith
-ion-some (reference n) = omega arith
-ion-some (named t) = omega arith
-ion-some (composed f) = omega arith
-ion-some (smiles t) = omega arith
-ion-some (unknown n) = omega arith
 
 pub annotation-some : (a : Annotation Written) → 1 ≤ length (annotationText a)
 annotation-some a = simp length-append (omega (arith, ion-some (a .ion)))
