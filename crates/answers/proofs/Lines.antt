@@ -1,54 +1,56 @@
 -- A line put over an output and zeros behind it, and the answers that a line gets. Assumes nothing.
-use Prim.Native.Nat.{ℕ, suc, _+_, _-_, _<_, _≤_}
-use mathlib.Core.Path.{_≡_, sym, ap, ap₂, _∙_}
-use mathlib.Core.List.{List, _++_, append-nil}
+use Prim.Native.Nat.{ℕ, _+_, _<_, _≤_}
+use mathlib.Core.Path.{_≡_, ap, _∙_}
+use mathlib.Core.List.{List}
 use native.Mathlib.Omega.{arith}
-use native.Mathlib.Numerals.{add-one}
-use lib.ListN.{length, take, drop, set, replicate, length-set}
-use lib.Seq.{take-all, take-suc-set, append-snoc, take-append-seam, sets-eq, sets}
+use native.Mathlib.Decide.{decLe}
+use lib.ListN.{length, take, drop, replicate}
+use lib.Seq.{take-append-seam, sets-eq}
 use borrow.Author.Tests.{lt-ltb, le-ltb}
 use Rattle.rules.specs.Limits.{maxLine}
-use Rattle.put_bytes.specs.Puts.{Put}
+use Rattle.put_bytes.specs.Puts.{Put, cleared}
 use Rattle.put_bytes.proofs.Putting.{put-length}
 use Rattle.answers.specs.declared.Answer.{Answer}
-use Rattle.answers.specs.Delivered.{answered, refusedOf, cleared, lineOver}
+use Rattle.answers.specs.Delivered.{answered, refusedOf, lineOver, closedOver}
 
--- ---- zeros from a place on
+-- ---- the code's answers are those of the model
 
--- one byte cleared, and all behind it
-pub clear-more : (d : List ℕ) (i : ℕ) → i < length d → cleared (set d i 0) (i + 1) ≡ cleared d i
-clear-more d i h =
-    let n : length d - i ≡ suc (length d - suc i) = omega arith in
-    rw (add-one i, length-set d i 0, take-suc-set d i 0 h, n) (append-snoc (take i d) 0 (replicate (length d - suc i) 0))
+module _ (e : List ℕ) (n : ℕ) where
+  pub line-long : {out : List ℕ} {r : Answer} → maxLine < n → out ≡ replicate (length e) 0 → r ≡ refusedOf 1 maxLine → answered r out ≡ closedOver e n
+  unfolding closedOver
+  line-long h z q = rw (lt-ltb maxLine n h, q, z)
 
--- none is left to clear
-pub clear-none : (d : List ℕ) (i : ℕ) → length d ≤ i → d ≡ cleared d i
-clear-none d i h = let n : length d - i ≡ 0 = omega arith in sym (rw (take-all i d h, n) (append-nil d))
+  module _ (short : n ≤ maxLine) where
+    pub line-no-room : {out : List ℕ} {r : Answer} → length e < n → out ≡ replicate (length e) 0 → r ≡ refusedOf 8 n → answered r out ≡ closedOver e n
+    unfolding closedOver
+    line-no-room h z q = rw (le-ltb maxLine n short, lt-ltb (length e) n h, q, z)
 
--- ---- a line with zeros behind it
+    pub line-fits : {out : List ℕ} → n ≤ length e → out ≡ cleared e n → answered (record { number = 0; place = 0; len = n }) out ≡ closedOver e n
+    unfolding closedOver
+    line-fits h z = rw (le-ltb maxLine n short, le-ltb (length e) n h, z)
 
-over-first : (d line : List ℕ) → length line ≤ length d → take (length line) (sets d 0 line) ≡ line
-over-first d line h = ap (take (length line)) (sets-eq line d 0 (omega arith)) ∙ take-append-seam line (drop (0 + length line) d)
+-- ---- a line that was put
 
-pub line-cleared : {d line e f : List ℕ} {r : ℕ} → Put d 0 line e r → length line ≤ length d → f ≡ cleared e (length line)
-    → f ≡ line ++ replicate (length d - length line) 0
-line-cleared {d} {line} {e} {f} {r} p h q =
-    q ∙ ap₂ (λ (x : List ℕ) (k : ℕ). x ++ replicate (k - length line) 0) (ap (take (length line)) (p .made) ∙ over-first d line h) (put-length p)
+line-first : {d line e : List ℕ} {n : ℕ} → Put d 0 line e n → length line ≤ length d → take (length line) e ≡ line
+line-first {d} {line} p h =
+    ap (take (length line)) (p .made ∙ sets-eq line d 0 (omega arith)) ∙ take-append-seam line (drop (0 + length line) d)
 
--- ---- answers
+-- what an output is closed with is the answer for the line that was put into it
+pub line-closed : {d line e : List ℕ} {n : ℕ} → Put d 0 line e n → closedOver e n ≡ lineOver line (length d)
+unfolding closedOver lineOver
+line-closed {d} {line} {e} {n} p = by (decLe n maxLine)
+  where
+    same : length e ≡ length d
+    same = put-length p
 
-module _ (line : List ℕ) (room : ℕ) where
-  pub line-long : {d : List ℕ} {r : Answer} → maxLine < length line → d ≡ replicate room 0 → r ≡ refusedOf 1 maxLine → answered r d ≡ lineOver line room
-  unfolding lineOver
-  line-long h z e = rw (lt-ltb maxLine (length line) h, e, z)
+    fits : n ≤ maxLine → Dec (length line ≤ length d) → closedOver e n ≡ lineOver line (length d)
+    fits h (yes g) =
+        let l : n ≡ length line = omega (arith, p .next) in
+        rw (l, same, le-ltb maxLine (length line) (omega arith), le-ltb (length d) (length line) g, line-first p g)
+    fits h (no g) =
+        let l : n ≡ length line = omega (arith, p .next) in
+        rw (l, same, le-ltb maxLine (length line) (omega arith), lt-ltb (length d) (length line) (omega arith))
 
-  module _ (short : length line ≤ maxLine) where
-    pub line-no-room : {d : List ℕ} {r : Answer} → room < length line → d ≡ replicate room 0 → r ≡ refusedOf 8 (length line)
-        → answered r d ≡ lineOver line room
-    unfolding lineOver
-    line-no-room h z e = rw (le-ltb maxLine (length line) short, lt-ltb room (length line) h, e, z)
-
-    pub line-fits : {d : List ℕ} → length line ≤ room → d ≡ line ++ replicate (room - length line) 0
-        → answered (record { number = 0; place = 0; len = length line }) d ≡ lineOver line room
-    unfolding lineOver
-    line-fits h e = rw (le-ltb maxLine (length line) short, le-ltb room (length line) h, e)
+    by : Dec (n ≤ maxLine) → closedOver e n ≡ lineOver line (length d)
+    by (yes h) = fits h (decLe (length line) (length d))
+    by (no h) = rw (lt-ltb maxLine n (omega arith), lt-ltb maxLine (length line) (omega (arith, p .next)), same)

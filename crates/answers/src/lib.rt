@@ -2,8 +2,9 @@
 // an output holds the result and zeros behind it, or zeros.
 ghost use mathlib.Core.Path.{_≡_};
 ghost use lib.ListN.{length};
-ghost use Rattle.answers.specs.Delivered.{answered, refusedOf, cleared, lineOver};
+ghost use Rattle.answers.specs.Delivered.{answered, refusedOf, lineOver, closedOver};
 use put_bytes::clear;
+use put_bytes::clear_from;
 use put_bytes::put_run;
 
 // How many bytes a line may have.
@@ -26,34 +27,30 @@ pub fn refuse(number: usize, place: usize) -> Answer
     }
 }
 
-// Zeros from a place on.
-pub fn clear_from(out: &mut [u8], from: usize)
-    ensures { λ _. ⌜ now (out .exit) ≡ cleared (now (out .entry)) from ⌝ }
+// A line of n bytes that was put into an output, cut at its end: against its bound and the output.
+pub fn close_line(out: &mut [u8], n: usize) -> Answer
+    ensures { λ r. ⌜ answered r (now (out .exit)) ≡ closedOver (now (out .entry)) n ⌝ }
 {
-    let mut i = from;
-    while i < out.len() {
-        out[i] = 0;
-        i += 1;
-    }
-}
-
-// A line that is found to be a table's, against its bound and the output.
-pub fn write_line(line: &[u8], out: &mut [u8]) -> Answer
-    ensures { λ r. ⌜ answered r (now (out .exit)) ≡ lineOver (now (line .entry)) (length (now (out .entry))) ⌝ }
-{
-    if MAX_LINE < line.len() {
+    if MAX_LINE < n {
         clear(out);
         return refuse(1, MAX_LINE);
     }
-    if out.len() < line.len() {
+    if out.len() < n {
         clear(out);
-        return refuse(8, line.len());
+        return refuse(8, n);
     }
-    put_run(out, 0, line);
-    clear_from(out, line.len());
+    clear_from(out, n);
     Answer {
         number: 0,
         place: 0,
-        len: line.len(),
+        len: n,
     }
+}
+
+// A line that is found to be a table's.
+pub fn write_line(line: &[u8], out: &mut [u8]) -> Answer
+    ensures { λ r. ⌜ answered r (now (out .exit)) ≡ lineOver (now (line .entry)) (length (now (out .entry))) ⌝ }
+{
+    let n = put_run(out, 0, line);
+    close_line(out, n)
 }

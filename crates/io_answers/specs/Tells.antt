@@ -1,9 +1,9 @@
 -- What a reading answers, as text. Assumes nothing.
-use Prim.Native.Nat.{ℕ, _+_, _/_, _%_}
+use Prim.Native.Nat.{ℕ, _+_, _*_, _/_, _%_}
 use mathlib.Core.Bool.{cond}
 use mathlib.Core.List.{List, [], _∷_, _++_}
 use lib.Dec.{ltb}
-use lib.ListN.{take, drop}
+use lib.ListN.{take}
 use Rattle.lang.specs.Parts.{flat}
 use Rattle.rules.specs.Numbers.{digits}
 use Rattle.answers.specs.declared.Answer.{Answer}
@@ -24,5 +24,9 @@ shown (b ∷ s) = flat hexByte (b ∷ s)
 abbrev pub field : ℕ → List ℕ
 field n = digits n ++ (32 ∷ [])
 
+-- the most bytes of an answer to which n bytes belong: three numbers of at most 20 digits, each with a blank, two digits for each byte, a line feed
+abbrev pub longestAnswer : ℕ → ℕ
+longestAnswer n = 64 + 2 * n
+
 abbrev pub told : Answer → List ℕ → List ℕ
-told a table = field (a .number) ++ (field (a .place) ++ (field (a .len) ++ (shown (take (a .len) (drop 0 table)) ++ (10 ∷ []))))
+told a table = field (a .number) ++ (field (a .place) ++ (field (a .len) ++ (shown (take (a .len) table) ++ (10 ∷ []))))

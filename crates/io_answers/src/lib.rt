@@ -1,13 +1,38 @@
-// What a reading answers, as a line of text: its number, place and length, and the table in hexadecimal digits, `-` where there is none.
+// What a line of the input asks, where it begins with the length of its output; and what is answered, as a line of text: its number, place and length, and the table in hexadecimal digits, `-` where there is none.
 ghost use Prim.Native.Nat.{_/_, _%_};
 ghost use mathlib.Core.Path.{_≡_};
+ghost use mathlib.Core.Bool.{true};
 ghost use Rattle.lang.specs.Parts.{flat};
 ghost use Rattle.put_bytes.specs.Puts.{Put};
+ghost use Rattle.io_answers.specs.Asked.{behindSize, roomIn};
 ghost use Rattle.io_answers.specs.Tells.{hexDigit, hexByte, field, shown, told};
 use answers::Answer;
-use io_parts::stretch;
 use numbers::put_number;
+use numbers::read_number;
 use put_bytes::put8;
+use slices::first_of;
+use slices::rest;
+use slices::within;
+
+// ---- what is asked
+
+// What stands behind the number and the blank that a sized line begins with.
+pub fn behind_size<'a>(s: &'a [u8]) -> &'a [u8]
+    ensures { λ r. ⌜ now r ≡ behindSize (now (s .entry)) ⌝ }
+{
+    let n = read_number(s);
+    rest(rest(s, n.len), 1)
+}
+
+// That number, or all where they are fewer.
+pub fn size_in(s: &[u8], all: usize) -> usize
+    ensures { λ r. ⌜ r ≡ roomIn true (now (s .entry)) all ⌝ }
+{
+    let n = read_number(s);
+    within(n.value as usize, all)
+}
+
+// ---- what is answered
 
 // The digit of a byte's low half.
 fn low_digit(b: u8) -> u8
@@ -66,6 +91,6 @@ pub fn put_answer(out: &mut [u8], at: usize, a: Answer, table: &[u8]) -> usize
     let p = put_field(out, at, a.number as u64);
     let q = put_field(out, p, a.place as u64);
     let r = put_field(out, q, a.len as u64);
-    let t = put_shown(out, r, stretch(table, 0, a.len));
+    let t = put_shown(out, r, first_of(table, a.len));
     put8(out, t, b'\n')
 }

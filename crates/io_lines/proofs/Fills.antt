@@ -20,7 +20,8 @@ use Rattle.io_parts.specs.Feeds.{Kept}
 use Rattle.io_lines.specs.declared.Stream.{Stream}
 use Rattle.io_lines.specs.declared.Came.{Came}
 use Rattle.io_lines.specs.declared.Came.the-variants.{Bytes, Fault}
-use Rattle.io_lines.specs.Streams.{maxPlace, sumOf, left}
+use Rattle.put_bytes.specs.Puts.{maxPlace}
+use Rattle.io_lines.specs.Streams.{sumOf, left}
 use Rattle.io_lines.specs.Refills.{cameOf, readOn, Brought, Behind, half, reading, Refilled, more, stops}
 use Rattle.io_lines.proofs.Looks.{take-least}
 

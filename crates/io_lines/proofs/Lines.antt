@@ -8,7 +8,8 @@ use lib.Dec.{ltb}
 use lib.ListN.{length, length-append}
 use borrow.Author.Tests.{lt-ltb}
 use Rattle.io_lines.specs.declared.Stream.{Stream}
-use Rattle.io_lines.specs.Streams.{maxPlace, left, lineIn}
+use Rattle.put_bytes.specs.Puts.{maxPlace}
+use Rattle.io_lines.specs.Streams.{left, lineIn}
 use Rattle.io_lines.specs.Found.{StandsFor, all, cut, Line, Ending, line, end, stops, goesOn, Next}
 use Rattle.io_lines.proofs.Searches.{true-false}
 

@@ -12,7 +12,8 @@ use borrow.Author.Tests.{ltb-true, ltb-false, le-ltb}
 use Rattle.io_parts.specs.Feeds.{beforeFeed}
 use Rattle.io_lines.specs.declared.Stream.{Stream}
 use Rattle.io_lines.specs.declared.Failed.{Failed}
-use Rattle.io_lines.specs.Streams.{maxPlace, stoppedBy, settled, left, lineIn, partOf, lookedAt}
+use Rattle.put_bytes.specs.Puts.{maxPlace}
+use Rattle.io_lines.specs.Streams.{stoppedBy, settled, left, lineIn, partOf, lookedAt}
 use Rattle.io_lines.specs.Refills.{half, Refilled, more}
 use Rattle.io_lines.specs.Refills as refills
 use Rattle.io_lines.specs.Found.{Unfed, StandsFor, all, cut, Line, Ending, line, end, stops, goesOn, Search, Next, feedOf, PartEnding, part, NextPart}

@@ -8,7 +8,8 @@ use lib.ListN.{length, take}
 use Rattle.io_parts.specs.Feeds.{beforeFeed}
 use Rattle.io_lines.specs.declared.Stream.{Stream}
 use Rattle.io_lines.specs.declared.Failed.{Failed}
-use Rattle.io_lines.specs.Streams.{maxPlace, stoppedBy, left, lineIn}
+use Rattle.put_bytes.specs.Puts.{maxPlace}
+use Rattle.io_lines.specs.Streams.{stoppedBy, left, lineIn}
 use Rattle.io_lines.specs.Refills.{half, Faulty}
 
 -- no byte of it is a line feed

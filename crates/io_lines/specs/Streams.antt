@@ -5,14 +5,11 @@ use mathlib.Core.Bool.{Bool, true, false, cond}
 use mathlib.Core.List.{List}
 use lib.Dec.{ltb, leb}
 use lib.ListN.{length, take, drop}
+use Rattle.put_bytes.specs.Puts.{maxPlace}
 use Rattle.io_parts.specs.Feeds.{beforeFeed}
 use Rattle.io_lines.specs.declared.Stream.{Stream}
 use Rattle.io_lines.specs.declared.Failed.{Failed}
 use Rattle.io_lines.specs.declared.Failed.the-variants.{Nothing, Writing}
-
--- the largest place that a usize holds: 2 ^ 64 - 1
-abbrev pub maxPlace : ℕ
-maxPlace = 18446744073709551615
 
 -- before the first line
 abbrev pub begun : Stream

@@ -10,7 +10,6 @@ ghost use Rattle.io_lines.specs.Found.{Next, NextPart};
 use io_parts::behind;
 use io_parts::keep;
 use io_parts::line_end;
-use io_parts::stretch;
 use libc::STDIN_FILENO;
 use libc::STDOUT_FILENO;
 
@@ -190,7 +189,7 @@ fn look(buf: &[u8], s: Stream) -> Stream
 fn part(buf: &[u8], s: Stream) -> Stream
     ensures { λ r. ⌜ r ≡ partOf s (left (now (buf .entry)) s) ⌝ }
 {
-    let all = stretch(buf, s.next, behind(s.filled, s.next, buf.len()));
+    let all = slices::part(buf, s.next, behind(s.filled, s.next, buf.len()));
     let n = line_end(all);
     if n < all.len() {
         return s.at_line(true, true, n, s.next + n + 1);
@@ -270,5 +269,5 @@ pub fn room(out: &[u8], s: Stream, need: usize) -> Stream
 
 // What waits is written; whether the system took it.
 pub fn flush(out: &[u8], waiting: usize) -> bool {
-    io::write_all(STDOUT_FILENO, stretch(out, 0, waiting))
+    io::write_all(STDOUT_FILENO, slices::first_of(out, waiting))
 }

@@ -1,4 +1,3 @@
 pub mod ToLineFeed
-pub mod Parts
 pub mod Moves
 pub mod One

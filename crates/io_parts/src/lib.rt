@@ -1,7 +1,6 @@
 // Lines of input in a buffer: where a line feed stands, and what stays in the buffer of a line that goes on.
 ghost use Prim.Native.Nat.{_-_, min};
 ghost use mathlib.Core.Path.{_≡_};
-ghost use lib.ListN.{take, drop};
 ghost use Rattle.io_parts.specs.Feeds.{LineEnd, Kept};
 
 // How many bytes stand before the first line feed; all of them where there is none.
@@ -29,17 +28,6 @@ pub fn behind(all: usize, from: usize, most: usize) -> usize
         return all - from;
     }
     most
-}
-
-// The n bytes from a place on, as far as there are so many.
-pub fn stretch<'a>(s: &'a [u8], from: usize, n: usize) -> &'a [u8]
-    ensures { λ r. ⌜ now r ≡ take n (drop from (now (s .entry))) ⌝ }
-{
-    if from < s.len() {
-        let end = from + behind(s.len(), from, n);
-        return &s[from..end];
-    }
-    &s[..0]
 }
 
 // The n bytes from a place on, as far as there are so many, moved to the front; how many they are.

@@ -1,6 +1,3 @@
-pub mod Plain
-pub mod SpellsLine
-pub mod Spelling
 pub mod Relabelled
 pub mod Right
 pub mod Back

@@ -3,45 +3,37 @@
 use Prim.Native.Nat.{ℕ, _<_, _≤_, _^_}
 use mathlib.Core.Path.{_≡_, refl, sym, ap, _∙_, subst}
 use mathlib.Core.Bool.{Bool, true, false, cond}
-use mathlib.Core.List.{List, _++_}
+use mathlib.Core.List.{List}
 use native.Mathlib.Omega.{arith}
 use lib.Dec.{eqb, ltb}
 use lib.ListN.{length, getD, take, replicate}
 use borrow.Author.Tests.{eqb-true, eqb-false}
 use Rattle.lang.specs.Mark.{Kept}
 use Rattle.lang.specs.Order.{Each}
-use Rattle.rules.specs.Bytes.{bytes}
 use Rattle.rules.specs.Lines.{Spelling, lineText}
 use Rattle.rules.specs.Fields.{Table, Says}
 use Rattle.rules.specs.Limits.{maxLine, lineMarks}
 use Rattle.rules.specs.Preferred.{preferred}
 use Rattle.rules.specs.Stored.{stored}
 use Rattle.rules.specs.Answers.{Answer, refuses, gives, Sound, Holds, Reads}
-use Rattle.rules.proofs.OneTable as OneTable
-use Rattle.put_bytes.specs.Puts.{maxPlace}
 use Rattle.scan_line.specs.declared.Verdict.{Verdict}
 use Rattle.scan_line.specs.declared.Verdict.the-variants.{Fine, Short, Stray}
 use Rattle.scan_line.specs.Steps.{machineBytes, scannedBy}
 use Rattle.scan_line.specs.Verdicts.{JudgedBy}
 use Rattle.scan_line.proofs.Scans.{by-machine}
-use Rattle.shape.proofs.OneSpelling.{one-spelling}
-use Rattle.read_annotation.proofs.Respelling.{firstPreferred, nextPreferred, Respelling}
-use Rattle.respell_annotation.specs.Annotations.{annotationSpelled}
-use Rattle.respell_annotation.proofs.RespelledAnnotation.{annotation-worded}
 use Rattle.store_sections.specs.Headers.{endAt}
 use Rattle.measure_line.specs.declared.Totals.{Totals}
 use Rattle.measure_line.specs.Totals.{partsAt, totalsOf}
 use Rattle.measure_line.specs.Refusals.{firstOf}
-use Rattle.read_line.specs.Readings.{tableOver, spelledOver, anyOver, readOf}
-use Rattle.measure_line.proofs.EachGives.{Gives, line-given}
-use Rattle.measure_line.proofs.RespelledLine.{line-worded}
+use Rattle.read_line.specs.Readings.{countsIn, tableOver, spelledOver, anyOver, readOf}
 use Rattle.read_line.proofs.Right.{read-right}
 use Rattle.answers.specs.Delivered.{lineOver}
 use Rattle.write_table.proofs.Holds.{spelling-as, no-number, take-given}
 use Rattle.write_table.proofs.Right.{line-right}
-use Rattle.lines.specs.Plain.{isPlain, nextSpelled, lineSpelled, spellingOf}
-use Rattle.lines.specs.Relabels.{maxTable, Relabels, refused, relabelled, relabelledOver, relabelledAs, relabelledOf}
-use Rattle.lines.proofs.Plain.{plain-preferred}
+use Rattle.respell_line.specs.Plain.{spellingOf}
+use Rattle.respell_line.specs.Relabelled.{relabelledOver}
+use Rattle.respell_line.proofs.Preferred.{spelling-preferred}
+use Rattle.lines.specs.Relabels.{maxTable, Relabels, refused, relabelled, relabelledAs, relabelledOf}
 use Rattle.lines.proofs.Enough.{read-enough}
 
 -- ---- what was read
@@ -71,32 +63,7 @@ bytes-read line room {a} x = ap (λ (y : Answer). take (y .size) (y .out)) (x .i
 holds-read : (line : List ℕ) (room : ℕ) {a : Answer} (x : Read line room a) → Holds (take (a .size) (a .out)) (x .table)
 holds-read line room x = record { sound = x .sound; is = sym (bytes-read line room x) }
 
--- ---- what is spelled for it
-
--- a comma before each annotation but the first
-next-worded : Gives nextSpelled (Respelling nextPreferred)
-next-worded a k end i at e kept h small =
-    let x = annotation-worded a k end i at e kept h small in
-    record { table = x .table; says = x .says; is = ap (λ (w : List ℕ). bytes "," ++ w) (x .is) }
-
--- annotation by annotation
-anew-preferred : (s : Spelling) (t : Table) → length (lineText s) ≤ maxPlace → Each Says s t → Kept (lineMarks s)
-    → lineSpelled (lineText s) (partsAt (lineText s) 0) ≡ preferred t
-anew-preferred s t small says kept =
-    let g = line-given annotationSpelled nextSpelled (Respelling firstPreferred) (Respelling nextPreferred) annotation-worded next-worded s small kept in
-    let x = line-worded g in
-    x .is ∙ ap preferred (OneTable.one-table one-spelling (x .says) says)
-
--- either way
-spelling-preferred : (s : Spelling) (t : Table) → length (lineText s) ≤ maxPlace → Each Says s t → Kept (lineMarks s)
-    → spellingOf (lineText s) (totalsOf (lineText s)) (partsAt (lineText s) 0) ≡ preferred t
-unfolding spellingOf
-spelling-preferred s t small says kept = by (isPlain (totalsOf (lineText s) .counts)) refl
-  where
-    by : (b : Bool) → isPlain (totalsOf (lineText s) .counts) ≡ b → cond b (lineText s) (lineSpelled (lineText s) (partsAt (lineText s) 0)) ≡ preferred t
-    by true e = plain-preferred s small says e
-    by false e = anew-preferred s t small says kept
-
+-- what is spelled for it
 spelled-read : (line : List ℕ) (room : ℕ) {a : Answer} (x : Read line room a) → spellingOf line (totalsOf line) (partsAt line 0) ≡ preferred (x .table)
 spelled-read line room x =
     let s = x .spelling in
@@ -119,18 +86,18 @@ module _ (line : List ℕ) (room : ℕ) where
 
   over-is : (spelledOver zeros line .number ≡ 8 → ⊥) → relabelledOver line room ≡ answerBy line room (spelledOver zeros line)
   unfolding relabelledOver spelledOver
-  over-is h = by (eqb (firstOf t .number) 0) refl (ltb (length zeros) (endAt (t .counts))) refl h
+  over-is h = by (eqb (firstOf t .number) 0) refl (ltb (length zeros) (endAt (countsIn t))) refl h
     where
       w : Answer
       w = lineOver (spellingOf line t (partsAt line 0)) room
 
       stored-by : Bool → Answer
-      stored-by c = cond c (record { number = 8; place = endAt (t .counts); size = 0; out = zeros }) (record { number = 0; place = 0; size = endAt (t .counts); out = tableOver zeros line (t .counts) })
+      stored-by c = cond c (record { number = 8; place = endAt (countsIn t); size = 0; out = zeros }) (record { number = 0; place = 0; size = endAt (countsIn t); out = tableOver zeros line (countsIn t) })
 
       read-by : Bool → Bool → Answer
       read-by b c = cond b (stored-by c) (record { number = firstOf t .number; place = firstOf t .place; size = 0; out = zeros })
 
-      by : (b : Bool) → eqb (firstOf t .number) 0 ≡ b → (c : Bool) → ltb (length zeros) (endAt (t .counts)) ≡ c → (read-by b c .number ≡ 8 → ⊥)
+      by : (b : Bool) → eqb (firstOf t .number) 0 ≡ b → (c : Bool) → ltb (length zeros) (endAt (countsIn t)) ≡ c → (read-by b c .number ≡ 8 → ⊥)
           → cond b w (refuses room (firstOf t .number) (firstOf t .place)) ≡ answerBy line room (read-by b c)
       by true e true f n = absurd (n refl)
       by true e false f n = refl

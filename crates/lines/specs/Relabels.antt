@@ -9,12 +9,7 @@ use Rattle.rules.specs.Limits.{maxLine}
 use Rattle.rules.specs.Answers.{Answer, refuses, Reads, Writes}
 use Rattle.scan_line.specs.declared.Verdict.{Verdict}
 use Rattle.scan_line.specs.Verdicts.{numberOf, placeOf}
-use Rattle.read_annotation.specs.declared.Parts.{Parts}
-use Rattle.measure_line.specs.declared.Totals.{Totals}
-use Rattle.measure_line.specs.Totals.{partsAt, totalsOf}
-use Rattle.measure_line.specs.Refusals.{firstOf}
-use Rattle.answers.specs.Delivered.{lineOver}
-use Rattle.lines.specs.Plain.{spellingOf}
+use Rattle.respell_line.specs.Relabelled.{relabelledOver}
 
 -- how many bytes the table of a line within its bound has at most
 abbrev pub maxTable : ℕ
@@ -26,14 +21,6 @@ pub data Relabels (line : List ℕ) (room : ℕ) : Answer → Type 0 where
   relabelled : {a b : Answer} → Reads line maxTable a → a .number ≡ 0 → Writes (take (a .size) (a .out)) room b → Relabels line room b
 
 -- ---- what the code means, for a machine of any bytes
-
--- of a line with a shape, of which t was counted and p read
-abbrev pub relabelledWith : List ℕ → ℕ → Totals → Parts → Answer
-relabelledWith line room t p =
-    let f = firstOf t in cond (eqb (f .number) 0) (lineOver (spellingOf line t p) room) (refuses room (f .number) (f .place))
-
-unfoldable pub relabelledOver : List ℕ → ℕ → Answer
-relabelledOver line room = relabelledWith line room (totalsOf line) (partsAt line 0)
 
 -- of a line whose shape was judged: the verdict's own number, or its spelling
 abbrev pub relabelledAs : Verdict → List ℕ → ℕ → Answer

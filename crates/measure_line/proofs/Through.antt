@@ -7,19 +7,16 @@ use lib.Dec.{leb}
 use borrow.Author.Tests.{ne-eqb}
 use lib.ListN.{length, drop, length-append, length-drop}
 use lib.Seq.{drop-append-seam, drop-drop}
-use Rattle.lang.specs.Parts.{flat, optText, wordOf}
+use Rattle.lang.specs.Parts.{flat}
 use Rattle.lang.specs.Mark.{Mark, Kept}
 use Rattle.rules.specs.Formulas.{Written}
 use Rattle.rules.specs.Annotations.{Annotation, annotationText, annotationMap}
-use Rattle.rules.specs.Numbers.{numberText}
-use Rattle.rules.specs.Texts.{bracedText}
-use Rattle.rules.specs.Ions.{Ion, series, internal, immonium, precursor, reference, named, composed, smiles, unknown, ionText}
 use Rattle.rules.specs.Lines.{Spelling, nextText, lineText}
 use Rattle.rules.specs.Fields.{filled}
 use Rattle.rules.specs.Limits.{annotationMarks, nextMarks, rowMarks, lineMarks}
 use Rattle.rules.specs.House.{one}
 use Rattle.rules.proofs.Keeps.{kept-left, kept-right}
-use Rattle.rules.proofs.Digits.{digits-some}
+use Rattle.rules.proofs.RisesParts.{ion-some}
 use Rattle.put_bytes.specs.Puts.{maxPlace}
 use Rattle.counts.specs.declared.Counts.{Counts}
 use Rattle.counts.specs.Sums.{noCounts, plus}
@@ -53,18 +50,6 @@ pub record Finds (ms : List Mark) (s : Spelling) (from : ℕ) (t u : Totals) : T
   pub excess : Kept ms → u .excess ≡ foldExcess (t .excess) (t .sum) from s
 
 -- ---- no annotation is empty
-
-ion-some : (x : Ion Written) → 1 ≤ length (ionText x)
-ion-some (series s n t) =
-    omega (arith, length-append (wordOf s) (numberText n ++ optText bracedText t), length-append (numberText n) (optText bracedText t), digits-some (n .value))
-ion-some (internal m n t) = omega arith
-ion-some (immonium a m) = omega arith
-ion-some precursor = omega arith
-ion-some (reference n) = omega arith
-ion-some (named t) = omega arith
-ion-some (composed f) = omega arith
-ion-some (smiles t) = omega arith
-ion-some (unknown n) = omega arith
 
 pub annotation-some : (a : Annotation Written) → 1 ≤ length (annotationText a)
 annotation-some a = simp length-append (omega (arith, ion-some (a .ion)))

@@ -10,10 +10,9 @@ use lib.ListN.{length, getD, take, drop, List·getD-eq-default}
 use borrow.Author.Tests.{eq-eqb, ne-eqb}
 use Rattle.rules.specs.Bytes.{bytes}
 use Rattle.rules.specs.Numbers.{digits}
-use Rattle.rules.specs.Texts.{inBraces, inBrackets}
 use Rattle.rules.specs.Ions.{seriesNames}
 use Rattle.slices.specs.Numbers.{u16At}
-use Rattle.print_ion.specs.Texts.{seriesPrinted, bracesPrinted, bracketsPrinted, ionBytes}
+use Rattle.print_ion.specs.Texts.{seriesPrinted, enclosedPrinted, ionBytes}
 use Rattle.print_ion.specs.Ions.{labelPrinted, kindPrinted, ionPrinted}
 use Rattle.print_ion.specs.Fronts.{flagPrinted, analytePrinted}
 
@@ -33,21 +32,14 @@ series-none (suc n) h = by (decLe (suc n) 13)
 
 -- ---- texts and names
 
-pub braces-none : (w : List ℕ) → length w < 1 → [] ≡ bracesPrinted w
-braces-none [] h = refl
-braces-none (b ∷ w) h = absurd (omega arith)
+module _ (first last : ℕ) where
+  pub enclosed-none : (w : List ℕ) → length w < 1 → [] ≡ enclosedPrinted first w last
+  enclosed-none [] h = refl
+  enclosed-none (b ∷ w) h = absurd (omega arith)
 
-pub braces-some : (w : List ℕ) → 1 ≤ length w → inBraces w ≡ bracesPrinted w
-braces-some [] h = absurd (omega arith)
-braces-some (b ∷ w) h = refl
-
-pub brackets-none : (w : List ℕ) → length w < 1 → [] ≡ bracketsPrinted w
-brackets-none [] h = refl
-brackets-none (b ∷ w) h = absurd (omega arith)
-
-pub brackets-some : (w : List ℕ) → 1 ≤ length w → inBrackets w ≡ bracketsPrinted w
-brackets-some [] h = absurd (omega arith)
-brackets-some (b ∷ w) h = refl
+  pub enclosed-some : (w : List ℕ) → 1 ≤ length w → first ∷ (w ++ (last ∷ [])) ≡ enclosedPrinted first w last
+  enclosed-some [] h = absurd (omega arith)
+  enclosed-some (b ∷ w) h = refl
 
 -- ---- labels, flags, analytes
 

@@ -1,9 +1,9 @@
 -- Changes of an ion's text as its record says. Assumes nothing.
 use Prim.Native.Nat.{ℕ}
-use mathlib.Core.List.{List, [], _∷_, map}
+use Prim.Native.Char.{code}
+use mathlib.Core.List.{List, [], _∷_, _++_, map}
 use lib.ListN.{getD, drop}
 use Rattle.rules.specs.Bytes.{bytes}
-use Rattle.rules.specs.Texts.{inBraces, inBrackets}
 use Rattle.rules.specs.Ions.{seriesNames}
 use Rattle.rules.specs.Limits.{maxUnits, maxText}
 use Rattle.slices.specs.Numbers.{u16At}
@@ -13,14 +13,16 @@ use Rattle.print_parts.specs.Numbers.{upTo}
 unfoldable pub seriesPrinted : ℕ → List ℕ
 seriesPrinted n = getD ([] ∷ map bytes seriesNames) n []
 
--- a text or name that is there
+-- a text or name between two bytes; nothing where there is none
+abbrev pub enclosedPrinted : ℕ → List ℕ → ℕ → List ℕ
+enclosedPrinted first [] last = []
+enclosedPrinted first (b ∷ w) last = first ∷ ((b ∷ w) ++ (last ∷ []))
+
 abbrev pub bracesPrinted : List ℕ → List ℕ
-bracesPrinted [] = []
-bracesPrinted (b ∷ w) = inBraces (b ∷ w)
+bracesPrinted w = enclosedPrinted (code "{") w (code "}")
 
 abbrev pub bracketsPrinted : List ℕ → List ℕ
-bracketsPrinted [] = []
-bracketsPrinted (b ∷ w) = inBrackets (b ∷ w)
+bracketsPrinted w = enclosedPrinted (code "[") w (code "]")
 
 -- how many units, and how many bytes of text; no more than the limits allow
 unfoldable pub ionUnits : List ℕ → ℕ

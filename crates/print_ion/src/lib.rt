@@ -2,11 +2,12 @@
 ghost use mathlib.Core.Path.{_≡_};
 ghost use mathlib.Core.List.{_∷_};
 ghost use Rattle.put_bytes.specs.Puts.{Put};
-ghost use Rattle.print_ion.specs.Texts.{seriesPrinted, bracesPrinted, bracketsPrinted, ionUnits, ionBytes};
+ghost use Rattle.print_ion.specs.Texts.{seriesPrinted, enclosedPrinted, bracesPrinted, bracketsPrinted, ionUnits, ionBytes};
 ghost use Rattle.print_ion.specs.Ions.{positionPrinted, internalPrinted, immoniumPrinted, labelPrinted, composedPrinted, ionPrinted};
 ghost use Rattle.print_ion.specs.Fronts.{flagPrinted, analytePrinted, frontPrinted};
 use numbers::put_number;
 use print_parts::at_most;
+use put_bytes::put_between;
 use put_bytes::put_run;
 use put_bytes::put8;
 use put_formula::print_units;
@@ -39,28 +40,14 @@ fn put_series(out: &mut [u8], to: usize, letter: u8) -> usize
     }
 }
 
-// A text in braces; nothing where there is none.
-fn put_braces(out: &mut [u8], to: usize, w: &[u8]) -> usize
-    ensures { λ r. ⌜ Put (now (out .entry)) to (bracesPrinted (now (w .entry))) (now (out .exit)) r ⌝ }
+// A text or name between two bytes; nothing where there is none.
+fn put_enclosed(out: &mut [u8], to: usize, first: u8, w: &[u8], last: u8) -> usize
+    ensures { λ r. ⌜ Put (now (out .entry)) to (enclosedPrinted first (now (w .entry)) last) (now (out .exit)) r ⌝ }
 {
     if w.len() < 1 {
         return to;
     }
-    let a = put8(out, to, b'{');
-    let b = put_run(out, a, w);
-    put8(out, b, b'}')
-}
-
-// A name in brackets; nothing where there is none.
-fn put_brackets(out: &mut [u8], to: usize, w: &[u8]) -> usize
-    ensures { λ r. ⌜ Put (now (out .entry)) to (bracketsPrinted (now (w .entry))) (now (out .exit)) r ⌝ }
-{
-    if w.len() < 1 {
-        return to;
-    }
-    let a = put8(out, to, b'[');
-    let b = put_run(out, a, w);
-    put8(out, b, b']')
+    put_between(out, to, first, w, last)
 }
 
 // How many units, and how many bytes of text, an ion has.
@@ -84,7 +71,7 @@ fn print_series(out: &mut [u8], to: usize, s: &[u8], w: &[u8]) -> usize
 {
     let a = put_series(out, to, byte_of(s, 3));
     let b = put_number(out, a, u16_at(rest(s, 6)) as u64);
-    put_braces(out, b, w)
+    put_enclosed(out, b, b'{', w, b'}')
 }
 
 // 2: both ends.
@@ -95,7 +82,7 @@ fn print_internal(out: &mut [u8], to: usize, s: &[u8], w: &[u8]) -> usize
     let b = put_number(out, a, u16_at(rest(s, 6)) as u64);
     let c = put8(out, b, b':');
     let d = put_number(out, c, u16_at(rest(s, 8)) as u64);
-    put_braces(out, d, w)
+    put_enclosed(out, d, b'{', w, b'}')
 }
 
 // 3: the letter.
@@ -104,7 +91,7 @@ fn print_immonium(out: &mut [u8], to: usize, s: &[u8], w: &[u8]) -> usize
 {
     let a = put8(out, to, b'I');
     let b = put8(out, a, byte_of(s, 3));
-    put_brackets(out, b, w)
+    put_enclosed(out, b, b'[', w, b']')
 }
 
 // 9: the label, 0 where there is none.
@@ -133,14 +120,14 @@ fn print_braced(out: &mut [u8], to: usize, letter: u8, w: &[u8]) -> usize
     ensures { λ r. ⌜ Put (now (out .entry)) to (letter ∷ bracesPrinted (now (w .entry))) (now (out .exit)) r ⌝ }
 {
     let a = put8(out, to, letter);
-    put_braces(out, a, w)
+    put_enclosed(out, a, b'{', w, b'}')
 }
 
 fn print_reference(out: &mut [u8], to: usize, w: &[u8]) -> usize
     ensures { λ r. ⌜ Put (now (out .entry)) to (114 ∷ bracketsPrinted (now (w .entry))) (now (out .exit)) r ⌝ }
 {
     let a = put8(out, to, b'r');
-    put_brackets(out, a, w)
+    put_enclosed(out, a, b'[', w, b']')
 }
 
 // The ion by its kind; nothing for a kind that there is not.

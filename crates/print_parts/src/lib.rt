@@ -12,6 +12,7 @@ ghost use Rattle.print_parts.specs.Tails.{chargePrinted, signedSize, sig
 use numbers::put_number;
 use numbers::put_pointed;
 use print_count::put_head;
+use put_bytes::put_between;
 use put_bytes::put_run;
 use put_bytes::put8;
 use put_formula::print_units;
@@ -75,9 +76,7 @@ fn print_content(out: &mut [u8], to: usize, l: &[u8], u: &[u8], t: &[u8]) -> usi
         return print_units(out, to, u, units_of(l));
     }
     if kind == 1 {
-        let a = put8(out, to, b'[');
-        let b = put_run(out, a, first_of(t, name_of(l)));
-        return put8(out, b, b']');
+        return put_between(out, to, b'[', first_of(t, name_of(l)), b']');
     }
     put8(out, to, b'e')
 }

@@ -2,12 +2,12 @@
 // the cursor stops at the largest place, so that no sum is too large for any output and any text.
 ghost use Prim.Native.Nat.{_+_};
 ghost use mathlib.Core.Path.{_≡_};
-ghost use mathlib.Core.List.{_∷_, []};
+ghost use mathlib.Core.List.{_∷_, [], _++_};
 ghost use lib.Dec.{leb};
 ghost use lib.ListN.{length, replicate};
 ghost use Rattle.lang.specs.Parts.{flat};
 ghost use Rattle.rules.specs.Stored.{little};
-ghost use Rattle.put_bytes.specs.Puts.{Put};
+ghost use Rattle.put_bytes.specs.Puts.{Put, cleared};
 
 // One byte; the place behind it.
 pub fn put8(out: &mut [u8], at: usize, b: u8) -> usize
@@ -111,6 +111,15 @@ fn put_run_far(out: &mut [u8], at: usize, s: &[u8]) -> usize
     to
 }
 
+// A byte, all bytes of `s`, and another byte.
+pub fn put_between(out: &mut [u8], at: usize, first: u8, s: &[u8], last: u8) -> usize
+    ensures { λ r. ⌜ Put (now (out .entry)) at (first ∷ (now (s .entry) ++ (last ∷ []))) (now (out .exit)) r ⌝ }
+{
+    let inside = put8(out, at, first);
+    let behind = put_run(out, inside, s);
+    put8(out, behind, last)
+}
+
 // All of `words`, eight bytes each, the lowest first.
 pub fn put_words(out: &mut [u8], at: usize, words: &[u64]) -> usize
     ensures { λ r. ⌜ Put (now (out .entry)) at (flat (little 8) (now (words .entry))) (now (out .exit)) r ⌝ }
@@ -124,13 +133,20 @@ pub fn put_words(out: &mut [u8], at: usize, words: &[u64]) -> usize
     to
 }
 
-// Zeros everywhere: what is not written later is 0.
-pub fn clear(out: &mut [u8])
-    ensures { λ _. ⌜ now (out .exit) ≡ replicate (length (now (out .entry))) 0 ⌝ }
+// Zeros from a place on.
+pub fn clear_from(out: &mut [u8], from: usize)
+    ensures { λ _. ⌜ now (out .exit) ≡ cleared (now (out .entry)) from ⌝ }
 {
-    let mut i: usize = 0;
+    let mut i = from;
     while i < out.len() {
         out[i] = 0;
         i += 1;
     }
+}
+
+// Zeros everywhere: what is not written later is 0.
+pub fn clear(out: &mut [u8])
+    ensures { λ _. ⌜ now (out .exit) ≡ replicate (length (now (out .entry))) 0 ⌝ }
+{
+    clear_from(out, 0);
 }

@@ -6,7 +6,7 @@ pub use Rattle.read_annotation.proofs.Adducts.{adductRead, adduct-read}
 pub use Rattle.read_annotation.proofs.Middles.{EndsMiddle, behindIon, behindLosses, behindIsotopes, lossesFault, isotopesFault, adductFault, middleRead, losses-ends, adduct-ends, middle-read}
 pub use Rattle.read_annotation.proofs.Tails.{chargeFault, deviationFault, confidenceFault, tailRead, tail-read}
 pub use Rattle.read_annotation.proofs.Follows.{ends-middle, ends-ion}
-pub use Rattle.read_annotation.proofs.Wholes.{first, second, third, text-is, fault1, fault2}
+pub use Rattle.read_annotation.proofs.Wholes.{first, second, third, isotopesOn, adductOn, text-is, fault1, fault2}
 pub use Rattle.read_annotation.proofs.Readings.{fault0, partsRead, parts-read}
 pub use Rattle.read_annotation.proofs.Sized.{behind-ion, size-read, annotation-size}
 pub use Rattle.read_annotation.proofs.Spelled.{Measures, measure-read, measure-within}

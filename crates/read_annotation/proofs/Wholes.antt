@@ -26,6 +26,13 @@ module _ (a : Annotation Written) (k : List ℕ) where
   abbrev pub third : List ℕ
   third = behindAdduct (a .charge) (a .deviation) (a .confidence) k
 
+  -- behind the isotopes, and behind the losses
+  abbrev pub adductOn : List ℕ
+  adductOn = behindIsotopes (a .losses) (a .isotopes) (a .adduct) third
+
+  abbrev pub isotopesOn : List ℕ
+  isotopesOn = behindLosses (a .losses) (a .isotopes) (a .adduct) third
+
   abbrev pub second : List ℕ
   second = behindIon (a .losses) (a .isotopes) (a .adduct) third
 
@@ -59,8 +66,6 @@ module _ (a : Annotation Written) (k : List ℕ) where
         let c = optText confidenceText (a .confidence) in
         let s1 = behindFlag (a .marked) (a .analyte) (a .ion) second in
         let s2 = x ++ second in
-        let s4 = behindLosses (a .losses) (a .isotopes) (a .adduct) third in
-        let s5 = behindIsotopes (a .losses) (a .isotopes) (a .adduct) third in
         let s7 = behindCharge (a .charge) (a .deviation) (a .confidence) k in
         let s8 = behindDeviation (a .charge) (a .deviation) (a .confidence) k in
         let p9 : List Part = optPart confidencePart (a .confidence) ∷ [] in
@@ -74,8 +79,8 @@ module _ (a : Annotation Written) (k : List ℕ) where
         let h1 = inside m s1 h in
         let h2 = inside n s2 h1 in
         let h3 = inside x second h2 in
-        let h4 = inside l s4 h3 in
-        let h5 = inside y s5 h4 in
+        let h4 = inside l isotopesOn h3 in
+        let h5 = inside y adductOn h4 in
         let h6 = inside d third h5 in
         let h7 = inside g s7 h6 in
         let h8 = inside v s8 h7 in
@@ -87,8 +92,8 @@ module _ (a : Annotation Written) (k : List ℕ) where
         first-part m s1 f (bare m) p2 refl h
         ∙ first-part n s2 f (optPart analytePart (a .analyte)) p3 (opt-text analytePart analyteText (λ z. refl) (a .analyte)) h1
         ∙ first-part x second f1 (part x (λ at. marksOf at (ionParts (a .ion)))) p4 refl h2
-        ∙ first-part l s4 fault1 (rowPart lossText lossMarks (a .losses)) p5 refl h3
-        ∙ first-part y s5 f3 (part y (isotopesMarks (a .isotopes))) p6 refl h4
+        ∙ first-part l isotopesOn fault1 (rowPart lossText lossMarks (a .losses)) p5 refl h3
+        ∙ first-part y adductOn f3 (part y (isotopesMarks (a .isotopes))) p6 refl h4
         ∙ first-part d third f4 (part d (adductMarks (a .adduct))) p7 refl h5
         ∙ first-part g s7 fault2 (optPart chargePart (a .charge)) p8 (opt-text chargePart chargeText (λ z. refl) (a .charge)) h6
         ∙ first-part v s8 f6 (optPart deviationPart (a .deviation)) p9 (opt-text deviationPart deviationText (λ z. refl) (a .deviation)) h7

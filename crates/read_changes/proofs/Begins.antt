@@ -1,11 +1,11 @@
 -- What a spelled loss or adduct item begins with, and what its formula, name or `e` begins with. Assumes nothing.
-use Prim.Native.Nat.{ℕ}
+use Prim.Native.Nat.{ℕ, _<_}
 use mathlib.Core.Path.{_≡_, refl, sym, ap, _∙_}
 use mathlib.Core.Bool.{Bool, true, false, _&&_}
 use mathlib.Core.List.{List, [], _∷_, _++_, append-assoc}
 use native.Mathlib.Omega.{arith}
 use lib.Dec.{eqb, ltb}
-use borrow.Author.Tests.{eqb-true, ltb-true, ltb-false}
+use borrow.Author.Tests.{eqb-true, lt-leb, ltb-true, ltb-false}
 use Rattle.lang.specs.Re.{Rng, inC}
 use Rattle.lang.specs.Parts.{optText}
 use Rattle.lang.proofs.Deriv.{and-1}
@@ -15,7 +15,6 @@ use Rattle.rules.specs.Bytes.{bytes, _to_, digit, letter}
 use Rattle.rules.specs.Numbers.{numberText}
 use Rattle.rules.specs.Texts.{firstIn, startsWith, isName, LossName, bracketText}
 use Rattle.rules.specs.Losses.{Sign, minus, plus, signText}
-use Rattle.texts.proofs.Classes.{letter-low}
 use Rattle.read_formula.specs.Units.{beginsUnit}
 use Rattle.read_formula.proofs.Formulas.{formula-no-digit, formula-no-small}
 use Rattle.read_formula.proofs.Ends.{EndsFormula, goesOn, ends-apart}
@@ -43,6 +42,9 @@ what-no-letter : (w : What) (k : List ℕ) → startsWith (bytes "i") (contentTe
 what-no-letter (a-formula x) k = no-letter (contentText (a-formula x) ++ k) (formula-no-small x k)
 what-no-letter (a-name n) k = refl
 what-no-letter an-electron k = refl
+
+letter-low : (b : ℕ) → b < 65 → false ≡ inC letter b
+letter-low b h = rw (lt-leb 65 b h, lt-leb 97 b (omega arith))
 
 -- the name of a loss begins with a letter, and so no unit begins with its bracket
 name-no-digit : (w k : List ℕ) → firstIn letter w ≡ true → firstIn digit (w ++ k) ≡ false

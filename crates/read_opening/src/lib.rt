@@ -2,8 +2,10 @@
 ghost use mathlib.Core.Path.{_≡_};
 ghost use mathlib.Core.List.{_∷_, []};
 ghost use Prim.Native.Nat.{_+_, min};
+ghost use Rattle.rules.specs.Bytes.{bytes};
+ghost use Rattle.rules.specs.Texts.{startsWith};
 ghost use Rattle.faults.specs.Faults.{join};
-ghost use Rattle.read_opening.specs.Heads.{signOf, headOf, beginsSign, beginsChange, beginsIsotope};
+ghost use Rattle.read_opening.specs.Heads.{signOf, headOf, behind, beginsSign, beginsChange, beginsIsotope};
 ghost use Rattle.read_opening.specs.Enclosed.{longMark, enclosedOf, textOf, nameOf};
 use faults::Fault;
 use numbers::read_number;
@@ -65,15 +67,22 @@ pub fn read_head(s: &[u8]) -> Head
     }
 }
 
-// Whether a part begins with an isotope: behind sign and count stands `i`, as in nothing else.
+// Whether `i` stands behind sign and count, as in an isotope and in nothing else.
+fn is_counted_i(s: &[u8]) -> bool
+    ensures { λ r. ⌜ r ≡ startsWith (bytes "i") (behind (now (s .entry))) ⌝ }
+{
+    let h = read_head(s);
+    begins_with(rest(s, h.len), b'i')
+}
+
+// Whether a part begins with an isotope: a sign, and the `i` behind its count.
 pub fn begins_isotope(s: &[u8]) -> bool
     ensures { λ r. ⌜ r ≡ beginsIsotope (now (s .entry)) ⌝ }
 {
     if !begins_sign(s) {
         return false;
     }
-    let h = read_head(s);
-    begins_with(rest(s, h.len), b'i')
+    is_counted_i(s)
 }
 
 // Whether a part begins with a loss or an adduct item: a sign that begins no isotope.
@@ -83,8 +92,7 @@ pub fn begins_change(s: &[u8]) -> bool
     if !begins_sign(s) {
         return false;
     }
-    let h = read_head(s);
-    !begins_with(rest(s, h.len), b'i')
+    !is_counted_i(s)
 }
 
 // ---- texts in braces, names in brackets

@@ -26,16 +26,17 @@ use Rattle.faults.specs.Faults.{fault}
 use Rattle.counts.specs.declared.Counts.{Counts}
 use Rattle.put_formula.proofs.Chains.{flat-map}
 use Rattle.read_ion.specs.declared.IonRead.{IonRead}
+use Rattle.sort_changes.specs.Events.{behindChanges}
 use Rattle.read_annotation.specs.declared.Parts.{Parts}
 use Rattle.read_annotation.specs.Measured.{behindIon, partsOf, annotationSize}
 use Rattle.read_annotation.proofs.Ions.{ion-told}
 use Rattle.read_annotation.proofs.SaysWhat.{tableOf, said-so}
 use Rattle.read_annotation.proofs.Respelling.{firstPreferred, Respelling}
-use Rattle.read_annotation.proofs.SpelledAnnotation.{EndsAnnotation, first, second, text-is, fault0, fault1, partsRead, parts-read, behind-ion, size-read}
+use Rattle.read_annotation.proofs.SpelledAnnotation.{EndsAnnotation, first, second, isotopesOn, adductOn, text-is, fault0, fault1, partsRead, parts-read, behind-ion, size-read}
 use Rattle.respell_annotation.specs.Kept.{hasOne, isKept}
-use Rattle.respell_annotation.specs.Annotations.{behindLosses, behindIsotopes, spelledWith, partsSpelled, annotationSpelled}
+use Rattle.respell_annotation.specs.Annotations.{behindSpelledIsotopes, spelledWith, partsSpelled, annotationSpelled}
 use Rattle.respell_annotation.proofs.Kept.{kept-worded}
-use Rattle.respell_annotation.proofs.Rests.{take-is, prefix-is, middle-is, tail-is, ion-is, isotopesOn, adductOn, losses-are, behind-losses, isotopes-are, behind-isotopes, adduct-is}
+use Rattle.respell_annotation.proofs.Rests.{take-is, prefix-is, middle-is, tail-is, ion-is, losses-are, behind-losses, isotopes-are, behind-isotopes, adduct-is}
 
 -- ---- as it stands
 
@@ -99,8 +100,8 @@ module _ (a : Annotation Written) (k : List ℕ) (nth end : ℕ) (f : Fault) whe
     unfolding partsSpelled
     parts-are =
         let q1 = behind-ion a k nth end f in
-        let q2 = ap behindLosses q1 ∙ behind-losses a k e i at kept in
-        let q3 = ap behindIsotopes q2 ∙ behind-isotopes a k e i at kept in
+        let q2 = ap behindChanges q1 ∙ behind-losses a k e i at kept in
+        let q3 = ap behindSpelledIsotopes q2 ∙ behind-isotopes a k e i at kept in
         λ j. spelledWith (first a k) (q1 j) (q2 j) (q3 j) read
 
     anew : partsSpelled (first a k) read ≡ firstPreferred table

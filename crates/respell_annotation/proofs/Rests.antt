@@ -24,12 +24,13 @@ use Rattle.read_ion.proofs.SpelledIon.{ionRead}
 use Rattle.read_isotopes.specs.Spelled.{spelledIsotopes}
 use Rattle.read_isotopes.proofs.Stores.{kept-told}
 use Rattle.read_isotopes.proofs.Respelled.{isotopes-spelled}
+use Rattle.sort_changes.specs.Events.{behindChanges}
 use Rattle.sort_changes.proofs.Respelled.{SpelledRow, losses-spelled}
 use Rattle.sort_changes.proofs.Fits.{losses-fit}
 use Rattle.read_annotation.specs.declared.Parts.{Parts}
 use Rattle.read_annotation.proofs.Chains.{drop-is, drop-three}
-use Rattle.read_annotation.proofs.SpelledAnnotation.{EndsAnnotation, prefixLength, first, second, third, ends-middle, losses-ends, adduct-ends, behind-prefix, fault0, fault1, partsRead}
-use Rattle.respell_annotation.specs.Annotations.{ionSpelled, behindLosses, behindIsotopes}
+use Rattle.read_annotation.proofs.SpelledAnnotation.{EndsAnnotation, prefixLength, first, second, third, isotopesOn, adductOn, ends-middle, losses-ends, adduct-ends, behind-prefix, fault0, fault1, partsRead}
+use Rattle.respell_annotation.specs.Annotations.{ionSpelled, behindSpelledIsotopes}
 use Rattle.respell_annotation.proofs.Ions.{ion-spelled}
 use Rattle.respell_annotation.proofs.Adducts.{AdductSpelled, adduct-spelled}
 
@@ -51,13 +52,6 @@ take-three u v w k =
 -- ---- part by part
 
 module _ (a : Annotation Written) (k : List ℕ) where
-  -- the text behind the losses, and behind the isotopes
-  abbrev pub isotopesOn : List ℕ
-  isotopesOn = isotopesText (a .isotopes) ++ (adductText (a .adduct) ++ third a k)
-
-  abbrev pub adductOn : List ℕ
-  adductOn = adductText (a .adduct) ++ third a k
-
   pub prefix-is : take (prefixLength (a .marked) (a .analyte)) (first a k) ≡ flagText (bytes "&") (a .marked) ++ optText analyteText (a .analyte)
   prefix-is = take-two (flagText (bytes "&") (a .marked)) (optText analyteText (a .analyte)) (ionText (a .ion) ++ second a k)
 
@@ -88,26 +82,26 @@ module _ (a : Annotation Written) (k : List ℕ) where
     losses-are =
         let p = kept-part at (annotationParts a) (kept-tail kept) (rowPart lossText lossMarks (a .losses)) (later (later (later here))) in
         let m = ends-middle (a .charge) (a .deviation) (a .confidence) e in
-        losses-spelled (a .losses) isotopesOn (losses-ends (a .losses) (a .isotopes) (a .adduct) (third a k) m) (losses-fit (a .losses) (p .0) (p .1))
+        losses-spelled (a .losses) (isotopesOn a k) (losses-ends (a .losses) (a .isotopes) (a .adduct) (third a k) m) (losses-fit (a .losses) (p .0) (p .1))
 
-    pub behind-losses : behindLosses (second a k) ≡ isotopesOn
-    behind-losses = drop-is (flat lossText (a .losses)) isotopesOn (losses-are .len)
+    pub behind-losses : behindChanges (second a k) ≡ isotopesOn a k
+    behind-losses = drop-is (flat lossText (a .losses)) (isotopesOn a k) (losses-are .len)
 
-    pub isotopes-are : spelledIsotopes isotopesOn ≡ walked adductOn (isotopesText (isotopesMap shortened (isotopesMap filled (a .isotopes))))
+    pub isotopes-are : spelledIsotopes (isotopesOn a k) ≡ walked (adductOn a k) (isotopesText (isotopesMap shortened (isotopesMap filled (a .isotopes))))
     isotopes-are =
         let x = part (isotopesText (a .isotopes)) (isotopesMarks (a .isotopes)) in
         let p = kept-part at (annotationParts a) (kept-tail kept) x (later (later (later (later here)))) in
         let m = ends-middle (a .charge) (a .deviation) (a .confidence) e in
-        isotopes-spelled (a .isotopes) adductOn (adduct-ends (a .losses) (a .isotopes) (a .adduct) (third a k) m) (kept-told (a .isotopes) (p .0) (p .1))
+        isotopes-spelled (a .isotopes) (adductOn a k) (adduct-ends (a .losses) (a .isotopes) (a .adduct) (third a k) m) (kept-told (a .isotopes) (p .0) (p .1))
 
-    pub behind-isotopes : behindIsotopes isotopesOn ≡ adductOn
+    pub behind-isotopes : behindSpelledIsotopes (isotopesOn a k) ≡ adductOn a k
     behind-isotopes =
         let z = ap (λ (w : Walked (List ℕ)). length (w .rest)) isotopes-are in
-        let n : length isotopesOn - length (spelledIsotopes isotopesOn .rest) ≡ length (isotopesText (a .isotopes)) =
-        omega (arith, z, length-append (isotopesText (a .isotopes)) adductOn) in
-        drop-is (isotopesText (a .isotopes)) adductOn n
+        let n : length (isotopesOn a k) - length (spelledIsotopes (isotopesOn a k) .rest) ≡ length (isotopesText (a .isotopes)) =
+        omega (arith, z, length-append (isotopesText (a .isotopes)) (adductOn a k)) in
+        drop-is (isotopesText (a .isotopes)) (adductOn a k) n
 
-    pub adduct-is : AdductSpelled (a .adduct) adductOn
+    pub adduct-is : AdductSpelled (a .adduct) (adductOn a k)
     adduct-is =
         let x = part (adductText (a .adduct)) (adductMarks (a .adduct)) in
         let p = kept-part at (annotationParts a) (kept-tail kept) x (later (later (later (later (later here))))) in

@@ -16,12 +16,12 @@ use Rattle.put_formula.specs.Preferred.{preferredUnits}
 use Rattle.read_ion.specs.declared.IonRead.{IonRead}
 use Rattle.read_isotopes.specs.Spelled.{spelledIsotopes, SpellsIsotopes}
 use Rattle.sort_changes.specs.Gathered.{gathered}
-use Rattle.sort_changes.specs.Events.{noKeys}
+use Rattle.sort_changes.specs.Events.{noKeys, behindChanges}
 use Rattle.sort_changes.specs.Spelled.{changesSpelled, SpellsChanges}
 use Rattle.read_annotation.specs.declared.Parts.{Parts}
 use Rattle.read_annotation.specs.Measured.{behindIon, annotationSize}
 use Rattle.respell_annotation.specs.Kept.{hasOne, isKept}
-use Rattle.respell_annotation.specs.Annotations.{ionSpelled, adductSpelled, behindLosses, partsSpelled, annotationSpelled, SpellsAnnotation}
+use Rattle.respell_annotation.specs.Annotations.{ionSpelled, adductSpelled, partsSpelled, annotationSpelled, SpellsAnnotation}
 
 -- ---- a `1` in a part: what is left to look at decides
 
@@ -95,7 +95,7 @@ module _ (s : List ℕ) (p : Parts) where
   parts-put {l = l} {y = y} q0 prefix qa ion q1 losses e2 isotopes e3 adduct eu ev tail =
       let z2 : l .len ≡ gathered noKeys (behindIon s p) .at = losses .len ∙ (λ j. gathered noKeys (q1 j) .at) in
       let q2 = e2 ∙ (λ j. drop (z2 j) (q1 j)) in
-      let z3 : y .len ≡ length (behindLosses (behindIon s p)) - length (spelledIsotopes (behindLosses (behindIon s p)) .rest) =
+      let z3 : y .len ≡ length (behindChanges (behindIon s p)) - length (spelledIsotopes (behindChanges (behindIon s p)) .rest) =
       isotopes .len ∙ (λ j. length (q2 j) - length (spelledIsotopes (q2 j) .rest)) in
       let q3 = e3 ∙ (λ j. drop (z3 j) (q2 j)) in
       let qv = ev ∙ ap (take (p .tail .len)) (eu ∙ ap (drop (p .middle .len)) q1) in

@@ -12,8 +12,7 @@ use Rattle.print_count.specs.declared.Respelled.{Respelled}
 use Rattle.put_formula.specs.Preferred.{preferredUnits}
 use Rattle.read_ion.specs.declared.IonRead.{IonRead}
 use Rattle.read_isotopes.specs.Spelled.{spelledIsotopes}
-use Rattle.sort_changes.specs.Gathered.{gathered}
-use Rattle.sort_changes.specs.Events.{noKeys}
+use Rattle.sort_changes.specs.Events.{behindChanges}
 use Rattle.sort_changes.specs.Spelled.{changesSpelled}
 use Rattle.read_annotation.specs.declared.Parts.{Parts}
 use Rattle.read_annotation.specs.Measured.{behindIon, annotationSize}
@@ -29,11 +28,8 @@ adductSpelled s = cond (startsWith (bytes "[M") s) (take 2 s ++ (changesSpelled 
 
 -- ---- the annotation, by what is left behind each of its parts
 
-abbrev pub behindLosses : List ℕ → List ℕ
-behindLosses s = drop (gathered noKeys s .at) s
-
-abbrev pub behindIsotopes : List ℕ → List ℕ
-behindIsotopes s = drop (length s - length (spelledIsotopes s .rest)) s
+abbrev pub behindSpelledIsotopes : List ℕ → List ℕ
+behindSpelledIsotopes s = drop (length s - length (spelledIsotopes s .rest)) s
 
 -- s1 is left behind the ion, s2 behind the losses, s3 behind the isotopes
 abbrev pub spelledWith : List ℕ → List ℕ → List ℕ → List ℕ → Parts → List ℕ
@@ -42,7 +38,7 @@ spelledWith s s1 s2 s3 p =
     ++ (changesSpelled s1 ++ (spelledIsotopes s2 .known ++ (adductSpelled s3 ++ take (p .tail .len) (drop (p .middle .len) s1)))))
 
 unfoldable pub partsSpelled : List ℕ → Parts → List ℕ
-partsSpelled s p = spelledWith s (behindIon s p) (behindLosses (behindIon s p)) (behindIsotopes (behindLosses (behindIon s p))) p
+partsSpelled s p = spelledWith s (behindIon s p) (behindChanges (behindIon s p)) (behindSpelledIsotopes (behindChanges (behindIon s p))) p
 
 -- as it stands, or part by part
 unfoldable pub annotationSpelled : List ℕ → Parts → List ℕ

@@ -6,10 +6,10 @@ ghost use Rattle.run_program.specs.Words.{Tells, helpWord};
 use io_lines::Failed;
 use io_lines::Stream;
 use io_lines::flush;
-use io_parts::stretch;
 use libc::STDERR_FILENO;
 use libc::STDOUT_FILENO;
 use put_bytes::put_run;
+use slices::first_of;
 
 // Whether the program was given arguments, which are answered then: `--help` alone by what the program does and, where its answers have
 // such numbers, what the numbers of refusal mean; all others by a line on standard error.
@@ -73,7 +73,7 @@ fn refuse(name: &[u8]) {
         name,
         b": takes no arguments but --help, which explains it\n",
     );
-    io::write_all(STDERR_FILENO, stretch(&text, 0, n));
+    io::write_all(STDERR_FILENO, first_of(&text, n));
 }
 
 // The last of a program: the answers that wait are written, and what the system refused is told on standard error.
@@ -94,7 +94,7 @@ pub fn finish(name: &[u8], out: &[u8], s: Stream) {
 fn fail(name: &[u8], what: &[u8]) {
     let mut text = io::buffer();
     let n = join(&mut text, name, what);
-    os::fail(stretch(&text, 0, n));
+    os::fail(first_of(&text, n));
 }
 
 // One text behind the other, from the output's start on; where they end.

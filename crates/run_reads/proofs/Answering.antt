@@ -9,11 +9,11 @@ use Rattle.answers.specs.declared.Answer.{Answer}
 use Rattle.io_lines.specs.declared.Stream.{Stream}
 use Rattle.io_lines.specs.Streams.{waitingOf, Roomed}
 use Rattle.run_program.proofs.Waiting.{waits-by}
-use Rattle.io_answers.specs.Tells.{told}
+use Rattle.io_answers.specs.Tells.{longestAnswer, told}
 use Rattle.run_reads.specs.Reads.{ReadInto}
-use Rattle.run_reads.specs.Answered.{longest, Answered}
+use Rattle.run_reads.specs.Answered.{Answered}
 
-pub answered-by : {m line asked t u d e : List ℕ} {sized : Bool} {s v r : Stream} {a : Answer} {end : ℕ} → Roomed (length d) longest s v → line ≡ asked
+pub answered-by : {m line asked t u d e : List ℕ} {sized : Bool} {s v r : Stream} {a : Answer} {end : ℕ} → Roomed (length d) (longestAnswer 21340) s v → line ≡ asked
     → ReadInto m line sized t u a → Put d (v .waiting) (told a u) e end → r ≡ waitingOf v end → Answered m asked sized s t u d e r
 answered-by {m} {t = t} {u} {sized = sized} {a = a} roomed found reads puts waits =
     record {

@@ -11,7 +11,8 @@ use Rattle.read_line.proofs.One.{answered-in-one}
 use Rattle.io_lines.specs.declared.Stream.{Stream}
 use Rattle.io_lines.specs.Streams.{waitingOf}
 use Rattle.io_answers.specs.Tells.{told}
-use Rattle.run_reads.specs.Reads.{roomIn, ReadInto}
+use Rattle.io_answers.specs.Asked.{roomIn}
+use Rattle.run_reads.specs.Reads.{ReadInto}
 use Rattle.run_reads.specs.Answered.{Answered}
 
 pub read-into-one : {machine asked d e f : List ℕ} {sized : Bool} {r q : Answer}

@@ -7,15 +7,15 @@ ghost use lib.ListN.{take, drop};
 ghost use Rattle.run_reads.specs.Answered.{Answered};
 ghost use Rattle.run_reads.specs.Reads.{ReadInto};
 use answers::Answer;
+use io_answers::behind_size;
 use io_answers::put_answer;
+use io_answers::size_in;
 use io_lines::Stream;
 use io_lines::next_line;
 use io_lines::room;
-use io_parts::behind;
-use io_parts::stretch;
-use numbers::read_number;
 use read_line::read_by;
 use run_program::finish;
+use slices::part;
 
 // How many bytes a table needs at most.
 pub const TABLE: usize = 21340;
@@ -60,7 +60,7 @@ fn one_line(
     ensures { λ r. ⌜ Answered (now (machine .entry)) (take (s .len) (drop (s .from) (now (buf .entry)))) sized s (now (table .entry)) (now (table .exit)) (now (out .entry)) (now (out .exit)) r ⌝ }
 {
     let t = room(out, s, ANSWER);
-    let line = stretch(buf, s.from, s.len);
+    let line = part(buf, s.from, s.len);
     let a = read_one(machine, line, table, sized);
     let end = put_answer(out, t.waiting, a, table);
     t.answered(end)
@@ -80,8 +80,7 @@ fn read_one(machine: &[u8], line: &[u8], table: &mut [u8], sized: bool) -> Answe
 fn read_sized(machine: &[u8], asked: &[u8], table: &mut [u8]) -> Answer
     ensures { λ r. ⌜ ReadInto (now (machine .entry)) (now (asked .entry)) true (now (table .entry)) (now (table .exit)) r ⌝ }
 {
-    let n = read_number(asked);
-    let line = stretch(stretch(asked, n.len, asked.len()), 1, asked.len());
-    let bytes = behind(n.value as usize, 0, table.len());
+    let line = behind_size(asked);
+    let bytes = size_in(asked, table.len());
     read_by(machine, line, &mut table[..bytes])
 }

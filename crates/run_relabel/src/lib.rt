@@ -17,12 +17,12 @@ use io_lines::Stream;
 use io_lines::next_line;
 use io_lines::room;
 use io_parts::behind;
-use io_parts::stretch;
 use lines::relabel_by;
 use numbers::put_number;
 use put_bytes::put8;
 use run_program::finish;
 use slices::advance;
+use slices::part;
 
 // All lines of standard input, for the program of this name.
 pub fn relabel_lines(name: &[u8]) {
@@ -55,7 +55,7 @@ fn one_line(machine: &[u8], buf: &[u8], out: &mut [u8], s: Stream) -> Stream
     ensures { λ r. ⌜ Answered (take (s .len) (drop (s .from) (now (buf .entry)))) s (now (out .entry)) (now (out .exit)) r ⌝ }
 {
     let t = room(out, s, MAX_LINE + 1);
-    let line = stretch(buf, s.from, s.len);
+    let line = part(buf, s.from, s.len);
     let a = spell(machine, line, out, t.waiting);
     let end = put_told(out, t.waiting, a);
     t.answered(put8(out, end, b'\n'))

@@ -1,18 +1,16 @@
 -- A table's answer: by its digits, into a part of the line or all of it, and as text. Assumes nothing.
-use Prim.Native.Nat.{ℕ, _-_, _≤_, min}
+use Prim.Native.Nat.{ℕ, _≤_}
 use mathlib.Core.Path.{_≡_, sym, ap, _∙_, subst, subst₂}
 use mathlib.Core.Bool.{Bool, true, false, cond}
 use mathlib.Core.List.{List, [], _∷_, _++_}
-use native.Mathlib.Nat.{sub-zero}
 use native.Mathlib.Omega.{arith}
-use lib.ListN.{length, take, drop, replicate, length-drop}
+use lib.ListN.{length, take, drop, replicate}
 use lib.Seq.{length-take-le, take-all, take-take, take-at, drop-at, drop-length}
+use Rattle.rules.specs.Limits.{maxLine}
 use Rattle.rules.specs.Answers as rules
 use Rattle.rules.specs.Answers.{refuses}
 use Rattle.put_bytes.specs.Puts.{Put}
 use Rattle.put_bytes.proofs.Putting.{put-as}
-use Rattle.numbers.specs.declared.Number.{Number}
-use Rattle.numbers.specs.Leading.{numberOf}
 use Rattle.io_hex.specs.Hexes.{spelled, unhexed}
 use Rattle.answers.specs.declared.Answer.{Answer}
 use Rattle.answers.specs.Delivered.{answered, refusedOf}
@@ -20,8 +18,9 @@ use Rattle.write_table.specs.Writings.{writtenOf}
 use Rattle.io_lines.specs.declared.Stream.{Stream}
 use Rattle.io_lines.specs.Streams.{waitingOf, Roomed}
 use Rattle.run_program.proofs.Waiting.{waits-by}
-use Rattle.io_answers.specs.Tells.{field, shown, told}
-use Rattle.run_writes.specs.Answered.{hexOf, digitsIn, roomIn, answerTo, Written, toldOf, longest, Answered}
+use Rattle.io_answers.specs.Asked.{behindSize, askedIn, roomIn}
+use Rattle.io_answers.specs.Tells.{field, shown, longestAnswer, told}
+use Rattle.run_writes.specs.Answered.{hexOf, answerTo, Written, toldOf, Answered}
 use Rattle.run_writes.proofs.Fits.{Fits, hex-fits}
 
 -- ---- by the digits
@@ -42,10 +41,6 @@ module _ (machine digits : List ℕ) (tableRoom room : ℕ) where
 
 -- ---- into the line
 
--- all that stands behind a place
-rest-of : (k from : ℕ) (l : List ℕ) → length l ≤ k → take k (drop from l) ≡ drop from l
-rest-of k from l h = take-all k (drop from l) (omega (arith, length-drop from l))
-
 -- a part of the line is lent
 written-part : (machine digits : List ℕ) (tableRoom : ℕ) {d p e : List ℕ} {n : ℕ} {r : Answer} → n ≤ length d → length p ≡ length (take n d)
     → answered r p ≡ hexOf machine digits tableRoom (length (take n d)) → e ≡ p ++ drop n d
@@ -57,18 +52,12 @@ written-part machine digits tableRoom {d} {p} {e} {n} {r} h same q made =
       rest = ap (drop n) made ∙ drop-at p (drop n d) n (same ∙ k);
     }
 
-pub written-sized : (machine asked : List ℕ) (tableRoom : ℕ) {s t d p e : List ℕ} {n : ℕ} {v : Number} {r : Answer} → v ≡ numberOf asked
-    → s ≡ take (length asked) (drop (v .len) asked) → t ≡ take (length asked) (drop 1 s) → n ≡ min (v .value - 0) (length d)
+pub written-sized : (machine asked : List ℕ) (tableRoom : ℕ) {t d p e : List ℕ} {n : ℕ} {r : Answer} → t ≡ behindSize asked → n ≡ roomIn true asked (length d)
     → length p ≡ length (take n d) → answered r p ≡ hexOf machine t tableRoom (length (take n d)) → e ≡ p ++ drop n d
     → Written (roomIn true asked (length d)) (answerTo machine true asked tableRoom (length d)) d e r
-written-sized machine asked tableRoom {s} {t} {d} {p} {e} {n} {v} {r} h i j k same q made =
-    let all = length asked in
-    let x : s ≡ drop (v .len) asked = i ∙ rest-of all (v .len) asked (omega arith) in
-    let y : t ≡ drop 1 s = j ∙ rest-of all 1 s (omega (arith, ap length x, length-drop (v .len) asked)) in
-    let digits : t ≡ digitsIn true asked = y ∙ ap (drop 1) (x ∙ ap (λ (u : Number). drop (u .len) asked) h) in
-    let room : n ≡ roomIn true asked (length d) = k ∙ ap (λ (m : ℕ). min m (length d)) (sub-zero (v .value) ∙ ap (λ (u : Number). u .value) h) in
+written-sized machine asked tableRoom {t} {d} {p} {e} {n} {r} digits room same q made =
     subst₂ (λ (l : List ℕ) (m : ℕ). Written m (hexOf machine l tableRoom m) d e r) digits room
-    (written-part machine t tableRoom (omega (arith, k)) same q made)
+    (written-part machine t tableRoom (omega (arith, room)) same q made)
 
 -- all of the line is lent
 written-whole : (machine digits : List ℕ) (tableRoom : ℕ) {d e : List ℕ} {r : Answer} → length e ≡ length d
@@ -100,8 +89,8 @@ told-by {room} {a} {d} {e} {r} w h =
     ∙ ap toldOf (w .is)
 
 pub answered-by : (machine : List ℕ) (sized : Bool) (asked : List ℕ) (tableRoom all : ℕ) {w l m d e : List ℕ} {end : ℕ} {a : Answer} {s v r : Stream}
-    → Roomed (length d) longest s v → w ≡ asked → Written (roomIn sized w all) (answerTo machine sized w tableRoom all) l m a → Put d (v .waiting) (told a m) e end
+    → Roomed (length d) (longestAnswer maxLine) s v → w ≡ asked → Written (roomIn sized w all) (answerTo machine sized w tableRoom all) l m a → Put d (v .waiting) (told a m) e end
     → r ≡ waitingOf v end → Answered (answerTo machine sized asked tableRoom all) s d e r
 answered-by machine sized asked tableRoom all {w = w} p i x q y =
-    let t = told-by x (hex-fits machine (digitsIn sized w) tableRoom (roomIn sized w all)) ∙ ap (λ (l : List ℕ). toldOf (answerTo machine sized l tableRoom all)) i in
+    let t = told-by x (hex-fits machine (askedIn sized w) tableRoom (roomIn sized w all)) ∙ ap (λ (l : List ℕ). toldOf (answerTo machine sized l tableRoom all)) i in
     waits-by p (put-as q t) y

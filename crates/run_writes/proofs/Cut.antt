@@ -25,7 +25,7 @@ front d m n small h g e (yes x) =
     ∙ put-over {d = d} {l = m} {e = sets d 0 m} {r = min (0 + length m) maxPlace} (record { small = small; next = refl; made = refl }) (omega arith)
 
 -- as many bytes from the front as were put
-pub put-front : {d l e p : List ℕ} {n : ℕ} → Put d 0 l e n → p ≡ take n (drop 0 e) → p ≡ take (length d) l
+pub put-front : {d l e p : List ℕ} {n : ℕ} → Put d 0 l e n → p ≡ take n e → p ≡ take (length d) l
 put-front {d} {l} {e} {p} {n} q h =
     let m = take (length d) l in
     let k = length-take (length d) l in

@@ -6,21 +6,23 @@ ghost use mathlib.Core.Path.{_≡_};
 ghost use mathlib.Core.Bool.{true};
 ghost use lib.ListN.{length, take, drop};
 ghost use Rattle.answers.specs.Delivered.{answered};
-ghost use Rattle.run_writes.specs.Answered.{hexOf, roomIn, answerTo, Written, Answered};
+ghost use Rattle.io_answers.specs.Asked.{roomIn};
+ghost use Rattle.run_writes.specs.Answered.{hexOf, answerTo, Written, Answered};
 use answers::Answer;
 use answers::MAX_LINE;
 use answers::refuse;
+use io_answers::behind_size;
 use io_answers::put_answer;
+use io_answers::size_in;
 use io_hex::is_hex;
 use io_hex::put_unhexed;
 use io_lines::Stream;
 use io_lines::next_line;
 use io_lines::room;
-use io_parts::behind;
-use io_parts::stretch;
-use numbers::read_number;
 use put_bytes::clear;
 use run_program::finish;
+use slices::first_of;
+use slices::part;
 use write_table::write_by;
 
 // One byte more than the header of a table can name as its length, so that what is cut to so many bytes is no table either.
@@ -87,7 +89,7 @@ fn one_table(
     ensures { λ r. ⌜ Answered (answerTo (now (machine .entry)) sized (take (s .len) (drop (s .from) (now (buf .entry)))) (length (now (table .entry))) (length (now (line .entry)))) s (now (out .entry)) (now (out .exit)) r ⌝ }
 {
     let t = room(out, s, ANSWER);
-    let asked = stretch(buf, s.from, s.len);
+    let asked = part(buf, s.from, s.len);
     let a = write_one(machine, asked, table, line, sized);
     let end = put_answer(out, t.waiting, a, line);
     t.answered(end)
@@ -107,9 +109,8 @@ fn write_one(machine: &[u8], asked: &[u8], table: &mut [u8], line: &mut [u8], si
 fn write_sized(machine: &[u8], asked: &[u8], table: &mut [u8], line: &mut [u8]) -> Answer
     ensures { λ r. ⌜ Written (roomIn true (now (asked .entry)) (length (now (line .entry)))) (answerTo (now (machine .entry)) true (now (asked .entry)) (length (now (table .entry))) (length (now (line .entry)))) (now (line .entry)) (now (line .exit)) r ⌝ }
 {
-    let n = read_number(asked);
-    let digits = stretch(stretch(asked, n.len, asked.len()), 1, asked.len());
-    let bytes = behind(n.value as usize, 0, line.len());
+    let digits = behind_size(asked);
+    let bytes = size_in(asked, line.len());
     write_hex(machine, digits, table, &mut line[..bytes])
 }
 
@@ -122,5 +123,5 @@ fn write_hex(machine: &[u8], digits: &[u8], table: &mut [u8], line: &mut [u8]) -
         return refuse(9, 0);
     }
     let n = put_unhexed(table, 0, digits);
-    write_by(machine, stretch(table, 0, n), line)
+    write_by(machine, first_of(table, n), line)
 }

@@ -10,7 +10,6 @@ ghost use Rattle.shapes.specs.Shown.{placeText, verdictText, isBegun, Sh
 use io_lines::Stream;
 use io_lines::next_part;
 use io_lines::room;
-use io_parts::stretch;
 use numbers::put_number;
 use put_bytes::put_run;
 use put_bytes::put8;
@@ -18,6 +17,7 @@ use run_program::finish;
 use run_program::was_asked;
 use scan_line::Progress;
 use scan_line::Verdict;
+use slices::part;
 
 // The longest answer: a number, a blank, a place of 20 digits, a line feed.
 const ANSWER: usize = 23;
@@ -74,8 +74,8 @@ struct Work {
 fn one_part(machine: &[u8], buf: &[u8], out: &mut [u8], s: Stream, p: Progress) -> Work
     ensures { λ r. ⌜ Parted (now (machine .entry)) (take (s .len) (drop (s .from) (now (buf .entry)))) s p (now (out .entry)) (now (out .exit)) r ⌝ }
 {
-    let part = stretch(buf, s.from, s.len);
-    let scan = p.over(machine, part);
+    let bytes = part(buf, s.from, s.len);
+    let scan = p.over(machine, bytes);
     if s.fed {
         let stream = answer(machine, out, s, scan);
         let fresh = Progress::begin();

@@ -11,7 +11,7 @@ ghost use Rattle.slices.specs.Numbers.{u16At, u32At, u64At};
 // ---- parts
 
 // n, or `all` where n is more.
-fn within(n: usize, all: usize) -> usize
+pub fn within(n: usize, all: usize) -> usize
     ensures { λ r. ⌜ r ≡ min n all ⌝ }
 {
     if n < all {

@@ -35,6 +35,10 @@ slotsEvents j s slots = flat (slotEvents j s) (slotsOf slots)
 abbrev pub noKeys : List ℕ
 noKeys = replicate 2056 0
 
+-- what stands behind all losses, or adduct items, that the bytes s begin with
+abbrev pub behindChanges : List ℕ → List ℕ
+behindChanges s = drop (gathered noKeys s .at) s
+
 -- the events of all that the bytes s begin with
 unfoldable pub changeEvents : ℕ → List ℕ → List Event
 changeEvents j s = flat (slotEvents j s) (gathered noKeys s .slots)

@@ -19,21 +19,15 @@ use Rattle.rules.specs.Stored.{stores, isotopeRecords}
 use Rattle.rules.proofs.Keeps.{kept-tail, kept-part}
 use Rattle.read_isotopes.specs.Records.{Filed, filedIsotopes}
 use Rattle.read_isotopes.proofs.Stores.{isotopes-stored, kept-told}
+use Rattle.sort_changes.specs.Events.{behindChanges}
 use Rattle.sort_changes.proofs.StoredChanges.{LossesStored, losses-stored}
 use Rattle.sort_changes.proofs.Fits.{losses-fit}
 use Rattle.read_annotation.proofs.Chains.{drop-is}
-use Rattle.read_annotation.proofs.SpelledAnnotation.{EndsAnnotation, prefixLength, first, second, third, ends-middle, losses-ends, adduct-ends, behind-prefix}
-use Rattle.store_annotation.specs.Events.{behindLosses, behindIsotopes}
+use Rattle.read_annotation.proofs.SpelledAnnotation.{EndsAnnotation, prefixLength, first, second, third, isotopesOn, adductOn, ends-middle, losses-ends, adduct-ends, behind-prefix}
+use Rattle.store_annotation.specs.Events.{behindFiledIsotopes}
 use Rattle.store_annotation.proofs.Adducts.{AdductStored, adduct-stored}
 
 module _ (a : Annotation Written) (k : List ℕ) where
-  -- the text behind the losses, and behind the isotopes
-  abbrev pub isotopesOn : List ℕ
-  isotopesOn = isotopesText (a .isotopes) ++ (adductText (a .adduct) ++ third a k)
-
-  abbrev pub adductOn : List ℕ
-  adductOn = adductText (a .adduct) ++ third a k
-
   -- what is left behind the prefix
   pub ion-at : drop (prefixLength (a .marked) (a .analyte)) (first a k) ≡ ionText (a .ion) ++ second a k
   ion-at = behind-prefix (a .marked) (a .analyte) (a .ion) (second a k)
@@ -43,26 +37,26 @@ module _ (a : Annotation Written) (k : List ℕ) where
     losses-are =
         let p = kept-part at (annotationParts a) (kept-tail kept) (rowPart lossText lossMarks (a .losses)) (later (later (later here))) in
         let m = ends-middle (a .charge) (a .deviation) (a .confidence) e in
-        losses-stored (a .losses) isotopesOn (losses-ends (a .losses) (a .isotopes) (a .adduct) (third a k) m) (losses-fit (a .losses) (p .0) (p .1))
+        losses-stored (a .losses) (isotopesOn a k) (losses-ends (a .losses) (a .isotopes) (a .adduct) (third a k) m) (losses-fit (a .losses) (p .0) (p .1))
 
-    pub behind-losses : behindLosses (second a k) ≡ isotopesOn
-    behind-losses = drop-is (flat lossText (a .losses)) isotopesOn (losses-are .len)
+    pub behind-losses : behindChanges (second a k) ≡ isotopesOn a k
+    behind-losses = drop-is (flat lossText (a .losses)) (isotopesOn a k) (losses-are .len)
 
-    pub isotopes-are : filedIsotopes isotopesOn
-        ≡ record { rest = adductOn; known = record { n = length (isotopeRecords (isotopesMap filled (a .isotopes))); bytes = flat (λ r. stores r) (isotopeRecords (isotopesMap filled (a .isotopes))) } }
+    pub isotopes-are : filedIsotopes (isotopesOn a k)
+        ≡ record { rest = adductOn a k; known = record { n = length (isotopeRecords (isotopesMap filled (a .isotopes))); bytes = flat (λ r. stores r) (isotopeRecords (isotopesMap filled (a .isotopes))) } }
     isotopes-are =
         let p = kept-part at (annotationParts a) (kept-tail kept) (part (isotopesText (a .isotopes)) (isotopesMarks (a .isotopes))) (later (later (later (later here)))) in
         let m = ends-middle (a .charge) (a .deviation) (a .confidence) e in
-        isotopes-stored (a .isotopes) adductOn (adduct-ends (a .losses) (a .isotopes) (a .adduct) (third a k) m) (kept-told (a .isotopes) (p .0) (p .1))
+        isotopes-stored (a .isotopes) (adductOn a k) (adduct-ends (a .losses) (a .isotopes) (a .adduct) (third a k) m) (kept-told (a .isotopes) (p .0) (p .1))
 
-    pub behind-isotopes : behindIsotopes isotopesOn ≡ adductOn
+    pub behind-isotopes : behindFiledIsotopes (isotopesOn a k) ≡ adductOn a k
     behind-isotopes =
         let z = ap (λ (w : Walked Filed). length (w .rest)) isotopes-are in
-        let n : length isotopesOn - length (filedIsotopes isotopesOn .rest) ≡ length (isotopesText (a .isotopes)) =
-        omega (arith, z, length-append (isotopesText (a .isotopes)) adductOn) in
-        drop-is (isotopesText (a .isotopes)) adductOn n
+        let n : length (isotopesOn a k) - length (filedIsotopes (isotopesOn a k) .rest) ≡ length (isotopesText (a .isotopes)) =
+        omega (arith, z, length-append (isotopesText (a .isotopes)) (adductOn a k)) in
+        drop-is (isotopesText (a .isotopes)) (adductOn a k) n
 
-    pub adduct-is : AdductStored (a .adduct) adductOn
+    pub adduct-is : AdductStored (a .adduct) (adductOn a k)
     adduct-is =
         let p = kept-part at (annotationParts a) (kept-tail kept) (part (adductText (a .adduct)) (adductMarks (a .adduct))) (later (later (later (later (later here))))) in
         adduct-stored (a .adduct) (third a k) (p .0) (ends-middle (a .charge) (a .deviation) (a .confidence) e .adduct) (p .1)

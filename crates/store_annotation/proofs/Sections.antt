@@ -9,9 +9,10 @@ use Rattle.rules.specs.Limits.{annotationMarks}
 use Rattle.faults.specs.declared.Fault.{Fault}
 use Rattle.store_sections.specs.Pages.{Event, bytesFor, bytesOf}
 use Rattle.store_sections.proofs.Events.{bytes-append}
-use Rattle.read_annotation.proofs.SpelledAnnotation.{EndsAnnotation, first, second, behind-ion}
-use Rattle.store_annotation.specs.Events.{behindLosses, behindIsotopes, eventsWith, annotationEvents}
-use Rattle.store_annotation.proofs.Rests.{isotopesOn, adductOn, behind-losses, behind-isotopes}
+use Rattle.sort_changes.specs.Events.{behindChanges}
+use Rattle.read_annotation.proofs.SpelledAnnotation.{EndsAnnotation, first, second, isotopesOn, adductOn, behind-ion}
+use Rattle.store_annotation.specs.Events.{behindFiledIsotopes, eventsWith, annotationEvents}
+use Rattle.store_annotation.proofs.Rests.{behind-losses, behind-isotopes}
 use Rattle.store_annotation.proofs.Records.{seen}
 
 -- ---- the bytes of a section, part by part
@@ -32,6 +33,6 @@ module _ (a : Annotation Written) (k : List ℕ) (nth end : ℕ) (f : Fault) (e 
   unfolding annotationEvents
   events-are =
       let q1 = behind-ion a k nth end f in
-      let q2 = ap behindLosses q1 ∙ behind-losses a k e i at kept in
-      let q3 = ap behindIsotopes q2 ∙ behind-isotopes a k e i at kept in
+      let q2 = ap behindChanges q1 ∙ behind-losses a k e i at kept in
+      let q3 = ap behindFiledIsotopes q2 ∙ behind-isotopes a k e i at kept in
       λ j. eventsWith (first a k) (q1 j) (q2 j) (q3 j) (seen a k nth end f .front) (seen a k nth end f .tail)

@@ -19,7 +19,7 @@ use Rattle.read_isotopes.specs.declared.IsotopesStored.{IsotopesStored}
 use Rattle.read_isotopes.specs.Records.{filedIsotopes, StoresIsotopes}
 use Rattle.sort_changes.specs.declared.Arranged.{Arranged}
 use Rattle.sort_changes.specs.Gathered.{gathered}
-use Rattle.sort_changes.specs.Events.{noKeys, changeEvents, StoresChanges}
+use Rattle.sort_changes.specs.Events.{noKeys, changeEvents, StoresChanges, behindChanges}
 use Rattle.sort_changes.proofs.Steps.{ran-at}
 use Rattle.read_annotation.specs.declared.Front.{Front}
 use Rattle.read_annotation.specs.declared.Tail.{Tail}
@@ -27,7 +27,7 @@ use Rattle.read_annotation.specs.declared.Parts.{Parts}
 use Rattle.store_annotation.specs.declared.Added.{Added}
 use Rattle.store_annotation.specs.Records.{signedOf, frontBytes, tailBytes, countBytes, recordBytes}
 use Rattle.read_annotation.specs.Measured.{behindIon, annotationSize}
-use Rattle.store_annotation.specs.Events.{ionEvents, adductCount, adductEvents, StoresAdduct, behindLosses, behindIsotopes, annotationEvents, StoresAnnotation}
+use Rattle.store_annotation.specs.Events.{ionEvents, adductCount, adductEvents, StoresAdduct, behindFiledIsotopes, annotationEvents, StoresAnnotation}
 
 -- ---- a number with its sign
 
@@ -85,13 +85,13 @@ module _ {s d : List ℕ} {p : Parts} {c : Cursors} {l : Arranged} {y : Isotopes
   unfolding annotationEvents annotationSize
   annotation-stored eta ion q1 losses e2 en isotopes e3 f3 adduct eo put ek eu er el =
       let z2 : l .len ≡ gathered noKeys (behindIon s p) .at = losses .len ∙ (λ j. gathered noKeys (q1 j) .at) in
-      let q2 : t2 ≡ behindLosses (behindIon s p) = e2 ∙ (λ j. drop (z2 j) (q1 j)) in
-      let z3 : y .len ≡ length (behindLosses (behindIon s p)) - length (filedIsotopes (behindLosses (behindIon s p)) .rest) =
+      let q2 : t2 ≡ behindChanges (behindIon s p) = e2 ∙ (λ j. drop (z2 j) (q1 j)) in
+      let z3 : y .len ≡ length (behindChanges (behindIon s p)) - length (filedIsotopes (behindChanges (behindIon s p)) .rest) =
       isotopes .len ∙ (λ j. length (q2 j) - length (filedIsotopes (q2 j) .rest)) in
-      let q3 : t3 ≡ behindIsotopes (behindLosses (behindIon s p)) = f3 ∙ (λ j. drop (z3 j) (q2 j)) in
+      let q3 : t3 ≡ behindFiledIsotopes (behindChanges (behindIon s p)) = f3 ∙ (λ j. drop (z3 j) (q2 j)) in
       let pl : l .n ≡ length (gathered noKeys (behindIon s p) .slots) = losses .n ∙ (λ j. length (gathered noKeys (q1 j) .slots)) in
-      let py : y .n ≡ filedIsotopes (behindLosses (behindIon s p)) .known .n = isotopes .n ∙ (λ j. filedIsotopes (q2 j) .known .n) in
-      let pi : i .n ≡ adductCount (behindIsotopes (behindLosses (behindIon s p))) = adduct .n ∙ ap adductCount q3 in
+      let py : y .n ≡ filedIsotopes (behindChanges (behindIon s p)) .known .n = isotopes .n ∙ (λ j. filedIsotopes (q2 j) .known .n) in
+      let pi : i .n ≡ adductCount (behindFiledIsotopes (behindChanges (behindIon s p))) = adduct .n ∙ ap adductCount q3 in
       record {
         len = el ∙ ap (λ (r : List ℕ). length s - length r) (er ∙ ap (drop (p .tail .len)) (eu ∙ ap (drop (p .middle .len)) q1));
         ran =

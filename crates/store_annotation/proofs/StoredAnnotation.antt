@@ -29,12 +29,12 @@ use Rattle.sort_changes.specs.Events.{changeEvents}
 use Rattle.read_annotation.specs.declared.Parts.{Parts}
 use Rattle.read_annotation.specs.Measured.{partsOf}
 use Rattle.read_annotation.proofs.SaysWhat.{tableOf, said-so}
-use Rattle.read_annotation.proofs.SpelledAnnotation.{EndsAnnotation, first, second, text-is, parts-read}
+use Rattle.read_annotation.proofs.SpelledAnnotation.{EndsAnnotation, first, second, isotopesOn, adductOn, text-is, parts-read}
 use Rattle.store_annotation.specs.Records.{recordBytes}
 use Rattle.store_annotation.specs.Events.{ionEvents, adductEvents, storedCounts, annotationEvents}
 use Rattle.store_annotation.proofs.Ions.{ion-units, ion-name}
 use Rattle.store_annotation.proofs.Records.{seen, ionSeen, record-stored}
-use Rattle.store_annotation.proofs.Rests.{isotopesOn, adductOn, ion-at, losses-are, isotopes-are, adduct-is}
+use Rattle.store_annotation.proofs.Rests.{ion-at, losses-are, isotopes-are, adduct-is}
 use Rattle.store_annotation.proofs.Sections.{share-all, events-are}
 
 -- events that store what an annotation says

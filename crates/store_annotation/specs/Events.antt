@@ -13,7 +13,7 @@ use Rattle.store_sections.specs.Pages.{Event, Ran}
 use Rattle.read_ion.specs.declared.IonRead.{IonRead}
 use Rattle.read_isotopes.specs.Records.{filedIsotopes}
 use Rattle.sort_changes.specs.Gathered.{gathered}
-use Rattle.sort_changes.specs.Events.{noKeys, changeEvents}
+use Rattle.sort_changes.specs.Events.{noKeys, behindChanges, changeEvents}
 use Rattle.read_annotation.specs.declared.Front.{Front}
 use Rattle.read_annotation.specs.declared.Tail.{Tail}
 use Rattle.read_annotation.specs.declared.Parts.{Parts}
@@ -40,11 +40,8 @@ pub record StoresAdduct (s d : List ℕ) (c : Cursors) (e : List ℕ) (r : Added
 
 -- ---- the annotation, by what is left behind each of its parts
 
-abbrev pub behindLosses : List ℕ → List ℕ
-behindLosses s = drop (gathered noKeys s .at) s
-
-abbrev pub behindIsotopes : List ℕ → List ℕ
-behindIsotopes s = drop (length s - length (filedIsotopes s .rest)) s
+abbrev pub behindFiledIsotopes : List ℕ → List ℕ
+behindFiledIsotopes s = drop (length s - length (filedIsotopes s .rest)) s
 
 -- what the record of an annotation counts: units and text are those of its ion alone
 abbrev pub storedCounts : List ℕ → List ℕ → List ℕ → IonRead → Counts
@@ -65,7 +62,7 @@ eventsWith s s1 s2 s3 a b =
     ++ (changeEvents 1 s1 ++ ((2, filedIsotopes s2 .known .bytes) ∷ (adductEvents s3 ++ ((0, recordBytes a b (storedCounts s1 s2 s3 (a .ion))) ∷ []))))
 
 unfoldable pub annotationEvents : List ℕ → Parts → List Event
-annotationEvents s p = eventsWith s (behindIon s p) (behindLosses (behindIon s p)) (behindIsotopes (behindLosses (behindIon s p))) (p .front) (p .tail)
+annotationEvents s p = eventsWith s (behindIon s p) (behindChanges (behindIon s p)) (behindFiledIsotopes (behindChanges (behindIon s p))) (p .front) (p .tail)
 
 pub record StoresAnnotation (s : List ℕ) (p : Parts) (d : List ℕ) (c : Cursors) (e : List ℕ) (r : Stored) : Type 0 where
   pub len : r .len ≡ annotationSize s p

@@ -1,71 +1,61 @@
 // Texts and names: which bytes they are made of, where one ends, and whether bytes are a name. Document 01, "Shape of a line".
+ghost use Prim.Native.Nat.{_<_};
 ghost use mathlib.Core.Path.{_≡_};
 ghost use Rattle.lang.specs.Re.{inC};
 ghost use Rattle.rules.specs.Bytes.{textByte, nameByte};
 ghost use Rattle.rules.specs.Texts.{isName};
-ghost use Rattle.texts.specs.Leading.{leadingIn};
+ghost use Rattle.texts.specs.Leading.{between, leadingIn};
 
-// Whether a byte may stand in a text: 0x20 to 0x7E without { and }.
-fn is_text_byte(b: u8) -> bool
-    ensures { λ r. ⌜ r ≡ inC textByte b ⌝ }
+// Whether a byte may stand between an opening and a closing byte: 0x20 to 0x7E without these two.
+fn is_between(b: u8, opening: u8, closing: u8) -> bool
+    requires { ⌜ (32 < opening) × (opening < closing) ⌝ }
+    ensures { λ r. ⌜ r ≡ inC (between opening closing) b ⌝ }
 {
     if b < b' ' {
         return false;
     }
-    if b <= b'z' {
+    if b < opening {
         return true;
     }
-    if b == b'|' {
-        return true;
-    }
-    b == b'~'
-}
-
-// Whether a byte may stand in a name: 0x20 to 0x7E without [ and ].
-fn is_name_byte(b: u8) -> bool
-    ensures { λ r. ⌜ r ≡ inC nameByte b ⌝ }
-{
-    if b < b' ' {
+    if b == opening {
         return false;
     }
-    if b <= b'Z' {
+    if b < closing {
         return true;
     }
-    if b == b'\\' {
-        return true;
-    }
-    if b < b'^' {
+    if b == closing {
         return false;
     }
     b <= b'~'
+}
+
+// How many such bytes a part begins with.
+fn len_between(s: &[u8], opening: u8, closing: u8) -> usize
+    requires { ⌜ (32 < opening) × (opening < closing) ⌝ }
+    ensures { λ r. ⌜ r ≡ leadingIn (between opening closing) (now (s .entry)) ⌝ }
+{
+    let mut at: usize = 0;
+    while at < s.len() {
+        if !is_between(s[at], opening, closing) {
+            return at;
+        }
+        at += 1;
+    }
+    at
 }
 
 // How many bytes of a text a part begins with.
 pub fn text_len(s: &[u8]) -> usize
     ensures { λ r. ⌜ r ≡ leadingIn textByte (now (s .entry)) ⌝ }
 {
-    let mut at: usize = 0;
-    while at < s.len() {
-        if !is_text_byte(s[at]) {
-            return at;
-        }
-        at += 1;
-    }
-    at
+    len_between(s, b'{', b'}')
 }
 
 // How many bytes of a name a part begins with.
 pub fn name_len(s: &[u8]) -> usize
     ensures { λ r. ⌜ r ≡ leadingIn nameByte (now (s .entry)) ⌝ }
 {
-    let mut at: usize = 0;
-    while at < s.len() {
-        if !is_name_byte(s[at]) {
-            return at;
-        }
-        at += 1;
-    }
-    at
+    len_between(s, b'[', b']')
 }
 
 // Whether bytes are a name: one or more, and each may stand in a name. The scan tells it of the names in a line; this is for names that are

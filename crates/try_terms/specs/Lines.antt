@@ -19,34 +19,31 @@ use Rattle.elements.specs.declared.Element.{Element}
 use Rattle.elements.specs.Symbols.{elementOf}
 use Rattle.read_formula.specs.declared.FormulaRead.{FormulaRead}
 use Rattle.read_formula.specs.Formulas.{formulaOf}
+use Rattle.io_answers.specs.Tells.{field}
 use Rattle.put_formula.specs.Preferred.{symbolText, preferredUnits}
-
--- a number and a space
-abbrev pub fieldText : ℕ → List ℕ
-fieldText n = digits n ++ (32 ∷ [])
 
 -- value and bytes
 abbrev pub numberText : Number → List ℕ
-numberText n = fieldText (n .value) ++ digits (n .len)
+numberText n = field (n .value) ++ digits (n .len)
 
 abbrev pub numberSaid : List ℕ → List ℕ
 numberSaid text = numberText (numberOf text)
 
 -- value without point, decimals and spelling, or that the decimal is past its bounds
 unfoldable pub madeText : MadeDecimal → List ℕ
-madeText (Fits x) = fieldText (x .value) ++ (fieldText (x .places) ++ decimalText (ruled x))
+madeText (Fits x) = field (x .value) ++ (field (x .places) ++ decimalText (ruled x))
 madeText Past = bytes "past"
 
 -- behind the bytes
 abbrev pub readText : DecimalRead → List ℕ
-readText d = fieldText (d .len) ++ madeText (d .made)
+readText d = field (d .len) ++ madeText (d .made)
 
 abbrev pub decimalSaid : List ℕ → List ℕ
 decimalSaid text = readText (decimalOf text)
 
 -- atomic number, bytes and symbol
 abbrev pub elementText : Element → List ℕ
-elementText e = fieldText (e .number) ++ (fieldText (e .len) ++ symbolText (e .number))
+elementText e = field (e .number) ++ (field (e .len) ++ symbolText (e .number))
 
 abbrev pub symbolSaid : List ℕ → List ℕ
 symbolSaid text = elementText (elementOf text)
@@ -54,8 +51,8 @@ symbolSaid text = elementText (elementOf text)
 -- units, bytes, number and place of the first broken limit, and the preferred spelling
 abbrev pub unitsText : FormulaRead → List ℕ → List ℕ
 unitsText f text =
-    fieldText (f .units)
-    ++ (fieldText (f .len) ++ (fieldText (f .fault .number) ++ (fieldText (f .fault .place) ++ preferredUnits (f .units) text)))
+    field (f .units)
+    ++ (field (f .len) ++ (field (f .fault .number) ++ (field (f .fault .place) ++ preferredUnits (f .units) text)))
 
 abbrev pub formulaSaid : List ℕ → List ℕ
 formulaSaid text = unitsText (formulaOf (length text) text (record { number = 0; place = 0 })) text

@@ -8,13 +8,13 @@
 ghost use lib.ListN.{take, drop};
 ghost use Rattle.put_bytes.specs.Puts.{Put};
 ghost use Rattle.try_terms.specs.Answered.{Answered};
-ghost use Rattle.try_terms.specs.Lines.{fieldText, numberSaid, decimalSaid, symbolSaid, formulaSaid, answerTo};
+ghost use Rattle.try_terms.specs.Lines.{numberSaid, decimalSaid, symbolSaid, formulaSaid, answerTo};
 use elements::read_element;
 use faults::Fault;
+use io_answers::put_field;
 use io_lines::Stream;
 use io_lines::next_line;
 use io_lines::room;
-use io_parts::stretch;
 use numbers::MadeDecimal;
 use numbers::put_decimal;
 use numbers::put_number;
@@ -27,6 +27,7 @@ use put_formula::put_symbol;
 use read_formula::formula;
 use run_program::finish;
 use run_program::was_asked;
+use slices::part;
 use slices::rest;
 
 // The longest answer: the bytes of a buffer, which a formula in preferred spelling does not exceed; four numbers of at most 20 digits,
@@ -80,7 +81,7 @@ fn one_line(buf: &[u8], out: &mut [u8], s: Stream) -> Stream
     ensures { λ r. ⌜ Answered (take (s .len) (drop (s .from) (now (buf .entry)))) s (now (out .entry)) (now (out .exit)) r ⌝ }
 {
     let t = room(out, s, ANSWER);
-    let line = stretch(buf, s.from, s.len);
+    let line = part(buf, s.from, s.len);
     let end = answer(line, out, t.waiting);
     t.answered(put8(out, end, b'\n'))
 }
@@ -107,14 +108,6 @@ fn answer(line: &[u8], out: &mut [u8], at: usize) -> usize
         return say_formula(text, out, at);
     }
     put8(out, at, b'?')
-}
-
-// A number and a space.
-fn put_field(out: &mut [u8], at: usize, n: u64) -> usize
-    ensures { λ r. ⌜ Put (now (out .entry)) at (fieldText n) (now (out .exit)) r ⌝ }
-{
-    let p = put_number(out, at, n);
-    put8(out, p, b' ')
 }
 
 fn say_number(text: &[u8], out: &mut [u8], at: usize) -> usize

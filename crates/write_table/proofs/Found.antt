@@ -17,7 +17,7 @@ use Rattle.answers.specs.declared.Answer.{Answer}
 use Rattle.answers.specs.Delivered.{answered, refusedOf}
 use Rattle.read_line.specs.Back.{readsTo, few, largest, zeros}
 use Rattle.answers.specs.Delivered.{lineOver}
-use Rattle.write_table.specs.Writings.{foundOf, foundIn, longest, writtenOf}
+use Rattle.write_table.specs.Writings.{foundOf, foundIn, longestPrinted, writtenOf}
 
 -- ---- found to be the line of a table
 
@@ -61,13 +61,13 @@ module _ {most n : ℕ} {w e : List ℕ} (p : Put (replicate most 0) 0 w e n) (h
 -- ---- by small buffers or by large ones
 
 module _ (machine table : List ℕ) (room : ℕ) {a : rules.Answer} where
-  pub written-many : few < length (printedTable table) → a ≡ foundIn machine longest (zeros largest) (printedTable table) table room
+  pub written-many : few < length (printedTable table) → a ≡ foundIn machine longestPrinted (zeros largest) (printedTable table) table room
       → a ≡ writtenOf machine table room
   unfolding writtenOf
   written-many h q = q ∙ rw (lt-ltb few (length (printedTable table)) h)
 
   pub written-large : length (printedTable table) ≤ few → few < length table
-      → a ≡ foundIn machine longest (zeros largest) (printedTable table) table room → a ≡ writtenOf machine table room
+      → a ≡ foundIn machine longestPrinted (zeros largest) (printedTable table) table room → a ≡ writtenOf machine table room
   unfolding writtenOf
   written-large h g q = q ∙ rw (le-ltb few (length (printedTable table)) h, lt-ltb few (length table) g)
 

@@ -23,7 +23,7 @@ use Rattle.print_table.proofs.Short.{line-short}
 use Rattle.read_line.specs.Same.{allBytes}
 use Rattle.read_line.specs.Back.{readsTo, few, largest, zeros}
 use Rattle.answers.specs.Delivered.{lineOver}
-use Rattle.write_table.specs.Writings.{foundOf, foundIn, longest, writtenOf}
+use Rattle.write_table.specs.Writings.{foundOf, foundIn, longestPrinted, writtenOf}
 use Rattle.write_table.proofs.Holds.{reads-holds, holds-reads}
 
 -- the line of a table, against its bound and the output
@@ -76,11 +76,11 @@ module _ (machine table : List ℕ) (room : ℕ) (judged : (l : List ℕ) → al
   unfolding writtenOf
   write-right = by (ltb few (length w)) refl (ltb few (length table)) refl
     where
-      all : Writes table room (foundIn machine longest (zeros largest) w table room)
-      all = found-right longest largest (omega arith) (omega arith) (λ t h. line-short t (h .sound)) (λ t h. sizes-fit t (h .sound))
+      all : Writes table room (foundIn machine longestPrinted (zeros largest) w table room)
+      all = found-right longestPrinted largest (omega arith) (omega arith) (λ t h. line-short t (h .sound)) (λ t h. sizes-fit t (h .sound))
 
       by : (a : Bool) → ltb few (length w) ≡ a → (b : Bool) → ltb few (length table) ≡ b
-          → Writes table room (cond (a || b) (foundIn machine longest (zeros largest) w table room) (foundIn machine few (zeros few) w table room))
+          → Writes table room (cond (a || b) (foundIn machine longestPrinted (zeros largest) w table room) (foundIn machine few (zeros few) w table room))
       by true e b f = all
       by false e true f = all
       by false e false f =

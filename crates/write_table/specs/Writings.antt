@@ -21,12 +21,12 @@ foundIn machine most scratch w table room =
     cond (ltb most (length w)) (refuses room 9 0) (foundOf (readsTo (scannedBy machine w) scratch w table) w room)
 
 -- enough for the line of every table
-abbrev pub longest : ℕ
-longest = 65536
+abbrev pub longestPrinted : ℕ
+longestPrinted = 65536
 
 unfoldable pub writtenOf : List ℕ → List ℕ → ℕ → Answer
 writtenOf machine table room =
     let w = printedTable table in
     cond (ltb few (length w) || ltb few (length table))
-    (foundIn machine longest (zeros largest) w table room)
+    (foundIn machine longestPrinted (zeros largest) w table room)
     (foundIn machine few (zeros few) w table room)

@@ -15,8 +15,8 @@ put-field-requires-2 c κs = search needs
 put-field-requires-3 : tie.Need-put-field-requires-3
 put-field-requires-3 c κs = search needs
 
-stretch-requires : tie.Need-stretch-requires
-stretch-requires c κs = search needs
+first-of-requires : tie.Need-first-of-requires
+first-of-requires c κs = search needs
 
 put-shown-requires : tie.Need-put-shown-requires
 put-shown-requires c κs = search needs
@@ -30,11 +30,11 @@ same-length c = search needs
 returns : tie.Need-returns
 returns c =
     let at-put-shown = c .before .before .before .before .before .before in
-    let at-stretch = at-put-shown .before in
-    let at-put-field3 = at-stretch .before .before .before .before in
+    let at-first-of = at-put-shown .before in
+    let at-put-field3 = at-first-of .before .before .before .before in
     let at-put-field2 = at-put-field3 .before .before .before .before in
     let at-put-field = at-put-field2 .before .before .before .before in
-    put-then (at-put-field .put-field .ensures) (put-then (at-put-field2 .put-field2 .ensures) (put-then (at-put-field3 .put-field3 .ensures) (put-then (put-as (at-put-shown .put-shown .ensures) (ap shown (at-stretch .stretch .ensures))) (c .before .before .put8 .ensures))))
+    put-then (at-put-field .put-field .ensures) (put-then (at-put-field2 .put-field2 .ensures) (put-then (at-put-field3 .put-field3 .ensures) (put-then (put-as (at-put-shown .put-shown .ensures) (ap shown (at-first-of .first-of .ensures))) (c .before .before .put8 .ensures))))
 
 pub put-answer-spec : {M : Type 1} → statement M
 put-answer-spec =
@@ -43,7 +43,7 @@ put-answer-spec =
     put-field-requires
     put-field-requires-2
     put-field-requires-3
-    stretch-requires
+    first-of-requires
     put-shown-requires
     put8-requires
     same-length

@@ -1,7 +1,8 @@
 -- `io_lines::next_line` meets its contract. Assumes nothing.
 use Rattle.io_lines.proofs.Searches.{first, settles, next, turned, spent}
 use Rattle.io_lines.specs.declared.Stream.{Stream}
-use Rattle.io_lines.specs.Streams.{maxPlace, left, lookedAt}
+use Rattle.put_bytes.specs.Puts.{maxPlace}
+use Rattle.io_lines.specs.Streams.{left, lookedAt}
 use Rattle.io_lines.specs.Found.{Search}
 use Prim.Native.Nat.{_-_, _≤_}
 use mathlib.Core.Path.{_≡_, refl, sym, _∙_}

@@ -6,8 +6,8 @@ use Rattle.print_ion.proofs.print_braced.Tie as tie
 put8-requires : tie.Need-put8-requires
 put8-requires c κs = search needs
 
-put-braces-requires : tie.Need-put-braces-requires
-put-braces-requires c κs = search needs
+put-enclosed-requires : tie.Need-put-enclosed-requires
+put-enclosed-requires c κs = search needs
 
 same-length : tie.Need-same-length
 same-length c = search needs
@@ -15,7 +15,7 @@ same-length c = search needs
 returns : tie.Need-returns
 returns c =
     let at-put8 = c .before .before .before .before .before .before in
-    put-then (at-put8 .put8 .ensures) (c .before .before .put-braces .ensures)
+    put-then (at-put8 .put8 .ensures) (c .before .before .put-enclosed .ensures)
 
 pub print-braced-spec : {M : Type 1} → statement M
-print-braced-spec = tie.close (tie.spec put8-requires put-braces-requires same-length returns)
+print-braced-spec = tie.close (tie.spec put8-requires put-enclosed-requires same-length returns)

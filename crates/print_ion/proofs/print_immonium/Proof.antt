@@ -16,8 +16,8 @@ byte-of-requires c κs = search needs
 put8-requires-2 : tie.Need-put8-requires-2
 put8-requires-2 c κs = search needs
 
-put-brackets-requires : tie.Need-put-brackets-requires
-put-brackets-requires c κs = search needs
+put-enclosed-requires : tie.Need-put-enclosed-requires
+put-enclosed-requires c κs = search needs
 
 same-length : tie.Need-same-length
 same-length c = search needs
@@ -28,7 +28,7 @@ returns c =
     let at-put82 = c .before .before .before .before .before .before in
     let at-byte-of = at-put82 .before in
     let at-put8 = at-byte-of .before .before .before .before in
-    put-then (at-put8 .put8 .ensures) (put-then (put-as (at-put82 .put82 .ensures) (ap (λ (b : ℕ). b ∷ []) (at-byte-of .byte-of .ensures))) (c .before .before .put-brackets .ensures))
+    put-then (at-put8 .put8 .ensures) (put-then (put-as (at-put82 .put82 .ensures) (ap (λ (b : ℕ). b ∷ []) (at-byte-of .byte-of .ensures))) (c .before .before .put-enclosed .ensures))
 
 pub print-immonium-spec : {M : Type 1} → statement M
 print-immonium-spec =
@@ -37,6 +37,6 @@ print-immonium-spec =
     put8-requires
     byte-of-requires
     put8-requires-2
-    put-brackets-requires
+    put-enclosed-requires
     same-length
     returns)

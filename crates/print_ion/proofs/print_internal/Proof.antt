@@ -37,8 +37,8 @@ cast-put-number-2 c = search needs
 put-number-requires-2 : tie.Need-put-number-requires-2
 put-number-requires-2 c κs = search needs
 
-put-braces-requires : tie.Need-put-braces-requires
-put-braces-requires c κs = search needs
+put-enclosed-requires : tie.Need-put-enclosed-requires
+put-enclosed-requires c κs = search needs
 
 same-length : tie.Need-same-length
 same-length c = search needs
@@ -54,7 +54,7 @@ returns c =
     let at-u16-at = at-put-number .before in
     let at-rest = at-u16-at .before in
     let at-put8 = at-rest .before .before .before .before in
-    put-then (at-put8 .put8 .ensures) (put-then (put-as (at-put-number .put-number .ensures) (ap digits ((at-u16-at .u16-at .ensures) ∙ ap u16At (at-rest .rest .ensures)))) (put-then (at-put82 .put82 .ensures) (put-then (put-as (at-put-number2 .put-number2 .ensures) (ap digits ((at-u16-at2 .u16-at2 .ensures) ∙ ap u16At (at-rest2 .rest2 .ensures)))) (c .before .before .put-braces .ensures))))
+    put-then (at-put8 .put8 .ensures) (put-then (put-as (at-put-number .put-number .ensures) (ap digits ((at-u16-at .u16-at .ensures) ∙ ap u16At (at-rest .rest .ensures)))) (put-then (at-put82 .put82 .ensures) (put-then (put-as (at-put-number2 .put-number2 .ensures) (ap digits ((at-u16-at2 .u16-at2 .ensures) ∙ ap u16At (at-rest2 .rest2 .ensures)))) (c .before .before .put-enclosed .ensures))))
 
 pub print-internal-spec : {M : Type 1} → statement M
 print-internal-spec =
@@ -70,6 +70,6 @@ print-internal-spec =
     u16-at-requires-2
     cast-put-number-2
     put-number-requires-2
-    put-braces-requires
+    put-enclosed-requires
     same-length
     returns)

@@ -26,8 +26,8 @@ cast-put-number c = search needs
 put-number-requires : tie.Need-put-number-requires
 put-number-requires c κs = search needs
 
-put-braces-requires : tie.Need-put-braces-requires
-put-braces-requires c κs = search needs
+put-enclosed-requires : tie.Need-put-enclosed-requires
+put-enclosed-requires c κs = search needs
 
 same-length : tie.Need-same-length
 same-length c = search needs
@@ -40,7 +40,7 @@ returns c =
     let at-rest = at-u16-at .before in
     let at-put-series = at-rest .before .before .before .before in
     let at-byte-of = at-put-series .before in
-    put-then (put-as (at-put-series .put-series .ensures) (ap seriesPrinted (at-byte-of .byte-of .ensures))) (put-then (put-as (at-put-number .put-number .ensures) (ap digits ((at-u16-at .u16-at .ensures) ∙ ap u16At (at-rest .rest .ensures)))) (c .before .before .put-braces .ensures))
+    put-then (put-as (at-put-series .put-series .ensures) (ap seriesPrinted (at-byte-of .byte-of .ensures))) (put-then (put-as (at-put-number .put-number .ensures) (ap digits ((at-u16-at .u16-at .ensures) ∙ ap u16At (at-rest .rest .ensures)))) (c .before .before .put-enclosed .ensures))
 
 pub print-series-spec : {M : Type 1} → statement M
 print-series-spec =
@@ -52,6 +52,6 @@ print-series-spec =
     u16-at-requires
     cast-put-number
     put-number-requires
-    put-braces-requires
+    put-enclosed-requires
     same-length
     returns)

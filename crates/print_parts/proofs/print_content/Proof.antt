@@ -1,5 +1,5 @@
--- `print_parts::print_what` meets its contract. Assumes nothing.
-use Rattle.put_bytes.proofs.Putting.{put-then, put-as}
+-- `print_parts::print_content` meets its contract. Assumes nothing.
+use Rattle.put_bytes.proofs.Putting.{put-as}
 use Rattle.print_parts.proofs.Tests.{what-units, what-name, what-electron}
 use borrow.Author.Needs.{needs}
 use Rattle.print_parts.proofs.print_content.Statement.{statement}
@@ -24,38 +24,30 @@ returns c =
     let at-args = at-byte-of .before .before .before .before .before in
     put-as (c .before .before .print-units .ensures) (what-units (at-args .args .l .now) (at-byte-of .byte-of .ensures) (at-args .args .u .now) (at-args .args .t .now) (at-if1 .if1 .taken) (c .before .before .before .units-of .ensures))
 
-put8-requires : tie.Need-put8-requires
-put8-requires c κs = search needs
-
 name-of-requires : tie.Need-name-of-requires
 name-of-requires c κs = search needs
 
 first-of-requires : tie.Need-first-of-requires
 first-of-requires c κs = search needs
 
-put-run-requires : tie.Need-put-run-requires
-put-run-requires c κs = search needs
-
-put8-requires-2 : tie.Need-put8-requires-2
-put8-requires-2 c κs = search needs
+put-between-requires : tie.Need-put-between-requires
+put-between-requires c κs = search needs
 
 same-length-2 : tie.Need-same-length-2
 same-length-2 c = search needs
 
 returns-2 : tie.Need-returns-2
 returns-2 c =
-    let at-put-run = c .before .before .before .before .before .before in
-    let at-first-of = at-put-run .before in
+    let at-first-of = c .before .before .before in
     let at-name-of = at-first-of .before in
-    let at-put8 = at-name-of .before .before .before .before in
-    let at-if2 = at-put8 .before .before in
+    let at-if2 = at-name-of .before .before in
     let at-if1 = at-if2 .before in
     let at-byte-of = at-if1 .before in
     let at-args = at-byte-of .before .before .before .before .before in
-    put-as (put-then (at-put8 .put8 .ensures) (put-then (at-put-run .put-run .ensures) (c .before .before .put82 .ensures))) (what-name (at-args .args .l .now) (at-byte-of .byte-of .ensures) (at-args .args .u .now) (at-args .args .t .now) (at-if1 .if1 .left) (at-if2 .if2 .taken) (at-name-of .name-of .ensures) (at-first-of .first-of .ensures))
+    put-as (c .before .before .put-between .ensures) (what-name (at-args .args .l .now) (at-byte-of .byte-of .ensures) (at-args .args .u .now) (at-args .args .t .now) (at-if1 .if1 .left) (at-if2 .if2 .taken) (at-name-of .name-of .ensures) (at-first-of .first-of .ensures))
 
-put8-requires-3 : tie.Need-put8-requires-3
-put8-requires-3 c κs = search needs
+put8-requires : tie.Need-put8-requires
+put8-requires c κs = search needs
 
 same-length-3 : tie.Need-same-length-3
 same-length-3 c = search needs
@@ -66,7 +58,7 @@ returns-3 c =
     let at-if1 = at-if2 .before in
     let at-byte-of = at-if1 .before in
     let at-args = at-byte-of .before .before .before .before .before in
-    put-as (c .before .before .put83 .ensures) (what-electron (at-args .args .l .now) (at-byte-of .byte-of .ensures) (at-args .args .u .now) (at-args .args .t .now) (at-if1 .if1 .left) (at-if2 .if2 .left))
+    put-as (c .before .before .put8 .ensures) (what-electron (at-args .args .l .now) (at-byte-of .byte-of .ensures) (at-args .args .u .now) (at-args .args .t .now) (at-if1 .if1 .left) (at-if2 .if2 .left))
 
 pub print-content-spec : {M : Type 1} → statement M
 print-content-spec =
@@ -77,13 +69,11 @@ print-content-spec =
     print-units-requires
     same-length
     returns
-    put8-requires
     name-of-requires
     first-of-requires
-    put-run-requires
-    put8-requires-2
+    put-between-requires
     same-length-2
     returns-2
-    put8-requires-3
+    put8-requires
     same-length-3
     returns-3)

@@ -12,28 +12,12 @@ returns : tie.Need-returns
 unfolding beginsChange
 returns c = rw (sym (c .before .begins-sign .ensures) ∙ not-true _ (c .if1 .taken))
 
-read-head-requires : tie.Need-read-head-requires
-read-head-requires c κs = search needs
-
-rest-requires : tie.Need-rest-requires
-rest-requires c κs = search needs
-
-begins-with-requires : tie.Need-begins-with-requires
-begins-with-requires c κs = search needs
+is-counted-i-requires : tie.Need-is-counted-i-requires
+is-counted-i-requires c κs = search needs
 
 returns-2 : tie.Need-returns-2
 unfolding beginsChange
-returns-2 c =
-    let at-begins-sign = c .before .before .before .before in
-    rw (sym (at-begins-sign .begins-sign .ensures) ∙ not-false _ (c .before .before .before .if1 .left), ← c .before .before .read-head .ensures, ← c .before .rest .ensures, c .begins-with .ensures)
+returns-2 c = rw (sym (c .before .before .begins-sign .ensures) ∙ not-false _ (c .before .if1 .left), ← c .is-counted-i .ensures)
 
 pub begins-change-spec : {M : Type 1} → statement M
-begins-change-spec =
-    tie.close
-    (tie.spec
-    begins-sign-requires
-    returns
-    read-head-requires
-    rest-requires
-    begins-with-requires
-    returns-2)
+begins-change-spec = tie.close (tie.spec begins-sign-requires returns is-counted-i-requires returns-2)

@@ -7,8 +7,8 @@ use Rattle.run_reads.proofs.one_line.Tie as tie
 room-requires : tie.Need-room-requires
 room-requires c κs = search needs
 
-stretch-requires : tie.Need-stretch-requires
-stretch-requires c κs = search needs
+part-requires : tie.Need-part-requires
+part-requires c κs = search needs
 
 read-one-requires : tie.Need-read-one-requires
 read-one-requires c κs = search needs
@@ -29,16 +29,16 @@ returns : tie.Need-returns
 returns c =
     let at-way = c .before .before .before .before .before .before .before .before in
     let at-read-one = at-way in
-    let at-stretch = at-read-one .before .before in
-    let at-room = at-stretch .before in
-    answered-by (at-room .room .ensures) (at-stretch .stretch .ensures) (at-read-one .read-one .ensures) (c .before .before .before .put-answer .ensures) (c .answered .ensures)
+    let at-part = at-read-one .before .before in
+    let at-room = at-part .before in
+    answered-by (at-room .room .ensures) (at-part .part .ensures) (at-read-one .read-one .ensures) (c .before .before .before .put-answer .ensures) (c .answered .ensures)
 
 pub one-line-spec : {M : Type 1} → statement M
 one-line-spec =
     tie.close
     (tie.spec
     room-requires
-    stretch-requires
+    part-requires
     read-one-requires
     put-answer-requires
     answered-requires

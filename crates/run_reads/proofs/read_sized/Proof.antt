@@ -6,20 +6,11 @@ use Rattle.run_reads.proofs.Reading.{read-behind}
 use Rattle.run_reads.proofs.read_sized.Statement.{statement}
 use Rattle.run_reads.proofs.read_sized.Tie as tie
 
-read-number-requires : tie.Need-read-number-requires
-read-number-requires c κs = search needs
+behind-size-requires : tie.Need-behind-size-requires
+behind-size-requires c κs = search needs
 
-stretch-requires : tie.Need-stretch-requires
-stretch-requires c κs = search needs
-
-stretch-requires-2 : tie.Need-stretch-requires-2
-stretch-requires-2 c κs = search needs
-
-cast-behind : tie.Need-cast-behind
-cast-behind c = search needs
-
-behind-requires : tie.Need-behind-requires
-behind-requires c κs = search needs
+size-in-requires : tie.Need-size-in-requires
+size-in-requires c κs = search needs
 
 slice-relend-prefix-read-by : tie.Need-slice-relend-prefix-read-by
 slice-relend-prefix-read-by c = search needs
@@ -35,23 +26,17 @@ same-length c = search needs
 
 returns : tie.Need-returns
 returns c =
-    let at-behind = c .before .before .before .before in
-    let at-stretch2 = at-behind .before .before in
-    let at-stretch = at-stretch2 .before in
-    let at-read-number = at-stretch .before in
-    let at-args = at-read-number .before .before .before .before in
-    let a = at-args .args in
-    read-behind (a .asked .now) (a .table .now) _ _ (at-read-number .read-number .ensures) (at-stretch .stretch .ensures) (at-stretch2 .stretch2 .ensures) (at-behind .behind .ensures) (c .before .before .read-by .ensures) (c .before .table .given .0) refl
+    let at-size-in = c .before .before .before .before in
+    let at-behind-size = at-size-in .before .before in
+    let a = at-behind-size .before .before .before .before .args in
+    read-behind (a .asked .now) (a .table .now) _ (at-behind-size .behind-size .ensures) (at-size-in .size-in .ensures) (c .before .before .read-by .ensures) (c .before .table .given .0) refl
 
 pub read-sized-spec : {M : Type 1} → statement M
 read-sized-spec =
     tie.close
     (tie.spec
-    read-number-requires
-    stretch-requires
-    stretch-requires-2
-    cast-behind
-    behind-requires
+    behind-size-requires
+    size-in-requires
     slice-relend-prefix-read-by
     slice-aggregate-read-by
     read-by-requires

@@ -14,8 +14,8 @@ add-room c = search needs
 room-requires : tie.Need-room-requires
 room-requires c κs = search needs
 
-stretch-requires : tie.Need-stretch-requires
-stretch-requires c κs = search needs
+part-requires : tie.Need-part-requires
+part-requires c κs = search needs
 
 spell-requires : tie.Need-spell-requires
 spell-requires c κs = let a = c .before .before .before .before .before .before .before .args in let p = c .before .before .before .before .before .before .before .pre in (p .0, omega (arith, room-at (c .before .before .room .ensures), room-fits (length (a .out .now)) (a .s .waiting) 4097 (p .1)))
@@ -33,7 +33,7 @@ same-length : tie.Need-same-length
 same-length c = search needs
 
 returns : tie.Need-returns
-returns c = answered-by (c .before .before .before .before .before .before .before .before .before .before .before .before .before .before .room .ensures) (c .before .before .before .before .before .before .before .before .before .before .before .before .before .before .before .before .before .before .before .pre .1) (c .before .before .before .before .before .before .before .before .before .before .before .before .before .stretch .ensures) (c .before .before .before .before .before .before .before .before .before .before .out .given) (omega arith) (omega arith) (c .before .before .before .before .before .before .before .before .before .before .before .spell .ensures) (c .before .before .before .before .before .before .before .put-told .ensures) (c .before .before .before .put8 .ensures) (c .answered .ensures)
+returns c = answered-by (c .before .before .before .before .before .before .before .before .before .before .before .before .before .before .room .ensures) (c .before .before .before .before .before .before .before .before .before .before .before .before .before .before .before .before .before .before .before .pre .1) (c .before .before .before .before .before .before .before .before .before .before .before .before .before .part .ensures) (c .before .before .before .before .before .before .before .before .before .before .out .given) (omega arith) (omega arith) (c .before .before .before .before .before .before .before .before .before .before .before .spell .ensures) (c .before .before .before .before .before .before .before .put-told .ensures) (c .before .before .before .put8 .ensures) (c .answered .ensures)
 
 pub one-line-spec : {M : Type 1} → statement M
 one-line-spec =
@@ -41,7 +41,7 @@ one-line-spec =
     (tie.spec
     add-room
     room-requires
-    stretch-requires
+    part-requires
     spell-requires
     put-told-requires
     put8-requires

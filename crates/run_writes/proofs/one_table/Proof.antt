@@ -8,8 +8,8 @@ use Rattle.run_writes.proofs.one_table.Tie as tie
 room-requires : tie.Need-room-requires
 room-requires c κs = search needs
 
-stretch-requires : tie.Need-stretch-requires
-stretch-requires c κs = search needs
+part-requires : tie.Need-part-requires
+part-requires c κs = search needs
 
 write-one-requires : tie.Need-write-one-requires
 write-one-requires c κs = search needs
@@ -33,17 +33,17 @@ returns : tie.Need-returns
 returns c =
     let at-way = c .before .before .before .before .before .before .before .before .before .before in
     let at-write-one = at-way in
-    let at-stretch = at-write-one .before .before .before in
-    let at-room = at-stretch .before in
+    let at-part = at-write-one .before .before .before in
+    let at-room = at-part .before in
     let at-args = at-room .before .before .before .before .before .before .before in
-    let a = at-args .args in answered-by (a .machine .now) (a .sized) (take (a .s .len) (drop (a .s .from) (a .buf .now))) (length (a .table .now)) (length (a .line .now)) (at-room .room .ensures) (at-stretch .stretch .ensures) (at-write-one .write-one .ensures) (c .before .before .before .put-answer .ensures) (c .answered .ensures)
+    let a = at-args .args in answered-by (a .machine .now) (a .sized) (take (a .s .len) (drop (a .s .from) (a .buf .now))) (length (a .table .now)) (length (a .line .now)) (at-room .room .ensures) (at-part .part .ensures) (at-write-one .write-one .ensures) (c .before .before .before .put-answer .ensures) (c .answered .ensures)
 
 pub one-table-spec : {M : Type 1} → statement M
 one-table-spec =
     tie.close
     (tie.spec
     room-requires
-    stretch-requires
+    part-requires
     write-one-requires
     put-answer-requires
     answered-requires

@@ -32,8 +32,8 @@ returns c =
 put-unhexed-requires : tie.Need-put-unhexed-requires
 put-unhexed-requires c κs = search needs
 
-stretch-requires : tie.Need-stretch-requires
-stretch-requires c κs = search needs
+first-of-requires : tie.Need-first-of-requires
+first-of-requires c κs = search needs
 
 write-by-requires : tie.Need-write-by-requires
 write-by-requires c κs = search needs
@@ -46,14 +46,14 @@ same-length-3 c = search needs
 
 returns-2 : tie.Need-returns-2
 returns-2 c =
-    let at-stretch = c .before .before .before .before in
-    let at-put-unhexed = at-stretch .before .before .before .before in
+    let at-first-of = c .before .before .before .before in
+    let at-put-unhexed = at-first-of .before .before .before .before in
     let at-if1 = at-put-unhexed .before .before in
     let at-is-hex = at-if1 .before in
     let at-args = at-is-hex .before .before .before .before .before in
     let a = at-args .args in
     hex-written (a .machine .now) (a .digits .now) (length (a .table .now)) (length (a .line .now)) (sym (at-is-hex .is-hex .ensures) ∙ not-false _ (at-if1 .if1 .left))
-    (put-front (at-put-unhexed .put-unhexed .ensures) (at-stretch .stretch .ensures)) (c .before .before .write-by .ensures)
+    (put-front (at-put-unhexed .put-unhexed .ensures) (at-first-of .first-of .ensures)) (c .before .before .write-by .ensures)
 
 pub write-hex-spec : {M : Type 1} → statement M
 write-hex-spec =
@@ -65,7 +65,7 @@ write-hex-spec =
     same-length
     returns
     put-unhexed-requires
-    stretch-requires
+    first-of-requires
     write-by-requires
     same-length-2
     same-length-3

@@ -7,20 +7,11 @@ use borrow.Author.Needs.{needs}
 use Rattle.run_writes.proofs.write_sized.Statement.{statement}
 use Rattle.run_writes.proofs.write_sized.Tie as tie
 
-read-number-requires : tie.Need-read-number-requires
-read-number-requires c κs = search needs
+behind-size-requires : tie.Need-behind-size-requires
+behind-size-requires c κs = search needs
 
-stretch-requires : tie.Need-stretch-requires
-stretch-requires c κs = search needs
-
-stretch-requires-2 : tie.Need-stretch-requires-2
-stretch-requires-2 c κs = search needs
-
-cast-behind : tie.Need-cast-behind
-cast-behind c = search needs
-
-behind-requires : tie.Need-behind-requires
-behind-requires c κs = search needs
+size-in-requires : tie.Need-size-in-requires
+size-in-requires c κs = search needs
 
 slice-relend-prefix-write-hex : tie.Need-slice-relend-prefix-write-hex
 slice-relend-prefix-write-hex c = search needs
@@ -39,19 +30,18 @@ same-length-2 c = search needs
 
 returns : tie.Need-returns
 returns c =
-    let a = c .before .before .before .before .before .before .before .before .before .before .before .before .before .before .before .before .args in
-    written-sized (a .machine .now) (a .asked .now) (length (a .table .now)) (c .before .before .before .before .before .before .before .before .before .before .before .read-number .ensures) (c .before .before .before .before .before .before .before .before .before .before .stretch .ensures) (c .before .before .before .before .before .before .before .before .before .stretch2 .ensures)
-    (c .before .before .before .before .before .before .before .behind .ensures) (search needs) (c .before .before .before .before .write-hex .ensures) refl
+    let at-write-hex = c .before .before .before .before in
+    let at-size-in = at-write-hex .before .before .before in
+    let at-behind-size = at-size-in .before .before in
+    let a = at-behind-size .before .before .before .before .before .args in
+    written-sized (a .machine .now) (a .asked .now) (length (a .table .now)) (at-behind-size .behind-size .ensures) (at-size-in .size-in .ensures) (search needs) (at-write-hex .write-hex .ensures) refl
 
 pub write-sized-spec : {M : Type 1} → statement M
 write-sized-spec =
     tie.close
     (tie.spec
-    read-number-requires
-    stretch-requires
-    stretch-requires-2
-    cast-behind
-    behind-requires
+    behind-size-requires
+    size-in-requires
     slice-relend-prefix-write-hex
     slice-aggregate-write-hex
     write-hex-requires

@@ -4,8 +4,8 @@ use borrow.Author.Needs.{needs}
 use Rattle.shapes.proofs.one_part.Statement.{statement}
 use Rattle.shapes.proofs.one_part.Tie as tie
 
-stretch-requires : tie.Need-stretch-requires
-stretch-requires c κs = search needs
+part-requires : tie.Need-part-requires
+part-requires c κs = search needs
 
 over-requires : tie.Need-over-requires
 over-requires c κs = search needs
@@ -24,17 +24,17 @@ returns c =
     let at-way = c .before .before .before .before .before in
     let at-if1 = at-way in
     let at-over = at-if1 .before in
-    let at-stretch = at-over .before in
-    part-ends (at-if1 .if1 .taken) (at-stretch .stretch .ensures) (at-over .over .ensures) (c .before .before .before .answer .ensures) (c .begin .ensures)
+    let at-part = at-over .before in
+    part-ends (at-if1 .if1 .taken) (at-part .part .ensures) (at-over .over .ensures) (c .before .before .before .answer .ensures) (c .begin .ensures)
 
 returns-2 : tie.Need-returns-2
-returns-2 c = part-goes-on (c .if1 .left) (c .before .before .stretch .ensures) (c .before .over .ensures)
+returns-2 c = part-goes-on (c .if1 .left) (c .before .before .part .ensures) (c .before .over .ensures)
 
 pub one-part-spec : {M : Type 1} → statement M
 one-part-spec =
     tie.close
     (tie.spec
-    stretch-requires
+    part-requires
     over-requires
     answer-requires
     begin-requires

@@ -7,8 +7,8 @@ use Rattle.try_terms.proofs.one_line.Tie as tie
 room-requires : tie.Need-room-requires
 room-requires c κs = search needs
 
-stretch-requires : tie.Need-stretch-requires
-stretch-requires c κs = search needs
+part-requires : tie.Need-part-requires
+part-requires c κs = search needs
 
 answer-requires : tie.Need-answer-requires
 answer-requires c κs = search needs
@@ -26,16 +26,16 @@ returns : tie.Need-returns
 returns c =
     let at-way = c .before .before .before .before .before .before .before in
     let at-answer = at-way in
-    let at-stretch = at-answer .before .before in
-    let at-room = at-stretch .before in
-    answered-by (at-room .room .ensures) (at-stretch .stretch .ensures) (at-answer .answer .ensures) (c .before .before .before .put8 .ensures) (c .answered .ensures)
+    let at-part = at-answer .before .before in
+    let at-room = at-part .before in
+    answered-by (at-room .room .ensures) (at-part .part .ensures) (at-answer .answer .ensures) (c .before .before .before .put8 .ensures) (c .answered .ensures)
 
 pub one-line-spec : {M : Type 1} → statement M
 one-line-spec =
     tie.close
     (tie.spec
     room-requires
-    stretch-requires
+    part-requires
     answer-requires
     put8-requires
     answered-requires

@@ -1,7 +1,7 @@
 -- `try_terms::say_decimal` meets its contract. Assumes nothing.
 use mathlib.Core.Path.{ap}
 use Rattle.try_terms.proofs.Saying.{decimal-fits, decimal-past}
-use Rattle.try_terms.specs.Lines.{fieldText}
+use Rattle.io_answers.specs.Tells.{field}
 use Rattle.put_bytes.proofs.Putting.{put-then, put-as}
 use borrow.Author.Needs.{needs}
 use Rattle.try_terms.proofs.say_decimal.Statement.{statement}
@@ -57,7 +57,7 @@ returns c =
     let at-put-field = at-made .before .before .before .before in
     let at-read-decimal = at-put-field .before .before in
     let at-args = at-read-decimal .before .before .before in
-    put-as (put-then (at-put-field .put-field .ensures) (put-then (put-as (at-put-field2 .put-field2 .ensures) (ap fieldText (at-value .value .ensures))) (put-then (put-as (at-put-field3 .put-field3 .ensures) (ap fieldText (at-places .places .ensures))) (c .before .before .put-decimal .ensures)))) (decimal-fits _ (at-args .args .text .now) (at-read-decimal .read-decimal .ensures) (at-made .made .given .1))
+    put-as (put-then (at-put-field .put-field .ensures) (put-then (put-as (at-put-field2 .put-field2 .ensures) (ap field (at-value .value .ensures))) (put-then (put-as (at-put-field3 .put-field3 .ensures) (ap field (at-places .places .ensures))) (c .before .before .put-decimal .ensures)))) (decimal-fits _ (at-args .args .text .now) (at-read-decimal .read-decimal .ensures) (at-made .made .given .1))
 
 same-length-2 : tie.Need-same-length-2
 same-length-2 c = search needs

@@ -1,0 +1,5 @@
+pub mod Plain
+pub mod SpellsLine
+pub mod Spelling
+pub mod Relabelled
+pub mod Preferred

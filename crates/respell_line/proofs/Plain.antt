@@ -1,0 +1,126 @@
+-- A line without losses, isotopes, adduct items and units is the preferred one of what it spells. Assumes nothing.
+use Prim.Native.Nat.{ℕ, _≤_}
+use mathlib.Core.Path.{_≡_, refl, ap, ap₂, _∙_, subst}
+use mathlib.Core.Bool.{true}
+use mathlib.Core.List.{List, [], _∷_, _++_, map}
+use native.Mathlib.Omega.{arith}
+use lib.Dec.{eqb}
+use lib.ListN.{length, length-append}
+use borrow.Author.Tests.{eqb-true}
+use Rattle.lang.specs.Parts.{flat}
+use Rattle.lang.specs.Order.{Perm, Each, none, next}
+use Rattle.lang.proofs.Tests.{is-t, t-is}
+use Rattle.lang.proofs.Deriv.{and-0, and-1}
+use Rattle.rules.specs.Numbers.{Number}
+use Rattle.rules.specs.Formulas.{Written}
+use Rattle.rules.specs.Ions.{Ion, ionMap}
+use Rattle.rules.specs.Losses.{lossMap}
+use Rattle.rules.specs.Isotopes.{Isotopes, no-isotope, plain-isotope, average-isotope, specific-isotopes, isotopesMap}
+use Rattle.rules.specs.Adducts.{itemMap}
+use Rattle.rules.specs.Annotations.{Annotation, annotationMap}
+use Rattle.rules.specs.Lines.{Spelling, lineText}
+use Rattle.rules.specs.Fields.{Table, filled, Says}
+use Rattle.rules.specs.Preferred.{shortened, preferredSpelling, preferred}
+use Rattle.rules.specs.Stored.{ionFields, lostUnits, addedUnits, isotopeRecords}
+use Rattle.rules.proofs.Totals.{perm-length}
+use Rattle.put_bytes.specs.Puts.{maxPlace}
+use Rattle.counts.specs.declared.Counts.{Counts}
+use Rattle.counts.specs.Sums.{sum, noCounts, plus}
+use Rattle.respell_annotation.proofs.Kept.{ion-filled}
+use Rattle.measure_line.specs.Totals.{totalsOf}
+use Rattle.measure_line.proofs.Through.{countsIn, spelledCounts, totals-read}
+use Rattle.respell_line.specs.Plain.{isPlain}
+
+-- ---- the parts of an annotation, as a table has them
+
+-- of none in any order, none
+none-said : {A B : Type 0} (f : A → B) (g : B → A) (l : List A) (m : List B) → Perm (map f l) m → length (map f l) ≡ 0 → l ≡ map g m
+none-said f g [] [] p e = refl
+none-said f g [] (y ∷ m) p e = let q = perm-length p in absurd (omega arith)
+none-said f g (x ∷ l) m p e = absurd (omega arith)
+
+ion-said : (x : Ion Written) (y : Ion Number) → ionMap filled x ≡ y → length (ionFields (ionMap filled x) .units) ≡ 0 → x ≡ ionMap shortened y
+ion-said x y q e = ion-filled x e ∙ ap (ionMap shortened) q
+
+isotopes-filled : (x : Isotopes Written) → length (isotopeRecords (isotopesMap filled x)) ≡ 0 → x ≡ isotopesMap shortened (isotopesMap filled x)
+isotopes-filled no-isotope e = refl
+isotopes-filled (plain-isotope x) e = absurd (omega arith)
+isotopes-filled (average-isotope x) e = absurd (omega arith)
+isotopes-filled (specific-isotopes xs) e = absurd (omega arith)
+
+-- ---- annotations and lines
+
+-- none of the four
+record Plain (n : Counts) : Type 0 where
+  losses : n .losses ≡ 0
+  isotopes : n .isotopes ≡ 0
+  items : n .items ≡ 0
+  units : n .units ≡ 0
+
+-- none in all, none in either part
+none-of : (x y : ℕ) → sum x y ≡ 0 → (x ≡ 0) × (y ≡ 0)
+none-of x y e = (omega arith, omega arith)
+
+plain-parts : (n m : Counts) → Plain (plus n m) → Plain n × Plain m
+plain-parts n m p =
+    let losses = none-of (n .losses) (m .losses) (p .losses) in
+    let isotopes = none-of (n .isotopes) (m .isotopes) (p .isotopes) in
+    let items = none-of (n .items) (m .items) (p .items) in
+    let units = none-of (n .units) (m .units) (p .units) in (
+      record { losses = losses .0; isotopes = isotopes .0; items = items .0; units = units .0 },
+      record { losses = losses .1; isotopes = isotopes .1; items = items .1; units = units .1 },
+    )
+
+ion-plain : (a : Annotation Written) → countsIn a .units ≡ 0 → length (ionFields (ionMap filled (a .ion)) .units) ≡ 0
+ion-plain a e =
+    let b = annotationMap filled a in
+    let others = flat (λ l. lostUnits (l .what)) (b .losses) ++ flat (λ x. addedUnits (x .what)) (b .adduct) in
+    omega (arith, e, length-append (ionFields (b .ion) .units) others)
+
+first-said : (a : Annotation Written) (b : Annotation Number) → Says a b → Plain (countsIn a) → a ≡ annotationMap shortened b
+first-said a b s p =
+    let e = s .fields in
+    let ion = ion-said (a .ion) (b .ion) (e .ion) (ion-plain a (p .units)) in
+    let losses = none-said (lossMap filled) (lossMap shortened) (a .losses) (b .losses) (e .losses) (p .losses) in
+    let isotopes = isotopes-filled (a .isotopes) (p .isotopes) ∙ ap (isotopesMap shortened) (e .isotopes) in
+    let adduct = none-said (itemMap filled) (itemMap shortened) (a .adduct) (b .adduct) (e .adduct) (p .items) in
+    λ i. record {
+      marked = e .marked i;
+      analyte = e .analyte i;
+      ion = ion i;
+      losses = losses i;
+      isotopes = isotopes i;
+      adduct = adduct i;
+      charge = e .charge i;
+      deviation = e .deviation i;
+      confidence = e .confidence i;
+    }
+
+-- a plain spelling is the preferred one
+plain-one : {s : Spelling} {t : Table} → Each Says s t → Plain (spelledCounts s) → s ≡ preferredSpelling t
+plain-one none p = refl
+plain-one (next {a = a} {b = b} {l = more} x e) p =
+    let q = plain-parts (countsIn a) (spelledCounts more) p in ap₂ _∷_ (first-said a b x (q .0)) (plain-one e (q .1))
+
+-- ---- by what was counted
+
+tested-plain : (n : Counts) → isPlain n ≡ true → Plain n
+unfolding isPlain
+tested-plain n e =
+    let losses = eqb (n .losses) 0 in
+    let isotopes = eqb (n .isotopes) 0 in
+    let items = eqb (n .items) 0 in
+    let units = eqb (n .units) 0 in
+    let h = is-t e in
+    record {
+      losses = eqb-true (n .losses) 0 (t-is losses (and-0 losses _ h));
+      isotopes = eqb-true (n .isotopes) 0 (t-is isotopes (and-0 isotopes _ (and-1 losses _ h)));
+      items = eqb-true (n .items) 0 (t-is items (and-0 items units (and-1 isotopes _ (and-1 losses _ h))));
+      units = eqb-true (n .units) 0 (t-is units (and-1 items units (and-1 isotopes _ (and-1 losses _ h))));
+    }
+
+pub plain-preferred : (s : Spelling) {t : Table} → length (lineText s) ≤ maxPlace → Each Says s t → isPlain (totalsOf (lineText s) .counts) ≡ true
+    → lineText s ≡ preferred t
+plain-preferred s h says e =
+    let p = subst Plain (totals-read s h .counts) (tested-plain (totalsOf (lineText s) .counts) e) in
+    ap lineText (plain-one says (plain-parts noCounts (spelledCounts s) p .1))
