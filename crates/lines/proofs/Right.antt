@@ -17,6 +17,7 @@ use Rattle.rules.specs.Limits.{maxLine, lineMarks}
 use Rattle.rules.specs.Preferred.{preferred}
 use Rattle.rules.specs.Stored.{stored}
 use Rattle.rules.specs.Answers.{Answer, refuses, gives, Sound, Holds, Reads}
+use Rattle.rules.specs.Largest.{maxTable}
 use Rattle.rules.proofs.OneTable as OneTable
 use Rattle.put_bytes.specs.Puts.{maxPlace}
 use Rattle.shape.specs.declared.Verdict.{Verdict}
@@ -40,7 +41,7 @@ use Rattle.answers.specs.Delivered.{lineOver}
 use Rattle.write_table.proofs.Holds.{spelling-as, no-number, take-given}
 use Rattle.write_table.proofs.Right.{line-right}
 use Rattle.lines.specs.Plain.{isPlain, nextSpelled, lineSpelled, spellingOf}
-use Rattle.lines.specs.Relabels.{maxTable, Relabels, refused, relabelled, relabelledOver, relabelledAs, relabelledOf}
+use Rattle.lines.specs.Relabels.{Relabels, refused, relabelled, relabelledOver, relabelledAs, relabelledOf}
 use Rattle.lines.proofs.Plain.{plain-preferred}
 use Rattle.lines.proofs.Enough.{read-enough}
 

@@ -7,6 +7,7 @@ use lib.Dec.{eqb, ltb}
 use lib.ListN.{length, take}
 use Rattle.rules.specs.Limits.{maxLine}
 use Rattle.rules.specs.Answers.{Answer, refuses, Reads, Writes}
+use Rattle.rules.specs.Largest.{maxTable}
 use Rattle.shape.specs.declared.Verdict.{Verdict}
 use Rattle.shape.specs.Verdicts.{numberOf, placeOf}
 use Rattle.read_annotation.specs.declared.Parts.{Parts}
@@ -15,10 +16,6 @@ use Rattle.measure_line.specs.Totals.{partsAt, totalsOf}
 use Rattle.measure_line.specs.Refusals.{firstOf}
 use Rattle.answers.specs.Delivered.{lineOver}
 use Rattle.lines.specs.Plain.{spellingOf}
-
--- how many bytes the table of a line within its bound has at most
-abbrev pub maxTable : ℕ
-maxTable = 21340
 
 -- what reading the line and writing its table answer: the refusal of the reader, or what the writer gives for the table that was read
 pub data Relabels (line : List ℕ) (room : ℕ) : Answer → Type 0 where

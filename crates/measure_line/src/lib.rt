@@ -4,7 +4,7 @@ ghost use mathlib.Core.Path.{_≡_};
 ghost use Rattle.measure_line.specs.Totals.{nothing, noted, summed, partsAt, addedBy, addNext, totalsBy};
 ghost use Rattle.measure_line.specs.Refusals.{firstOf};
 use faults::Fault;
-use read_annotation::ONE;
+use limits::ONE;
 use read_annotation::Parts;
 use read_annotation::measure;
 use read_annotation::read_parts;

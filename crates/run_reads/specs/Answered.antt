@@ -2,15 +2,16 @@
 use Prim.Native.Nat.{ℕ, _+_, _*_}
 use mathlib.Core.Bool.{Bool}
 use mathlib.Core.List.{List}
+use Rattle.rules.specs.Largest.{maxTable}
 use Rattle.answers.specs.declared.Answer.{Answer}
 use Rattle.io_lines.specs.declared.Stream.{Stream}
 use Rattle.run_program.specs.Waits.{Waits}
 use Rattle.io_answers.specs.Tells.{told}
 use Rattle.run_reads.specs.Reads.{ReadInto}
 
--- three numbers of at most 20 digits, each with a blank, two digits for each of 21,340 bytes, a line feed
+-- three numbers of at most 20 digits, each with a blank, two digits for each byte of a table, a line feed
 abbrev pub longest : ℕ
-longest = 64 + 2 * 21340
+longest = 64 + 2 * maxTable
 
 -- table t is u, output d is e, and s is r: what is told of the reading of a line waits
 pub record Answered (machine asked : List ℕ) (sized : Bool) (s : Stream) (t u d e : List ℕ) (r : Stream) : Type 0 where
