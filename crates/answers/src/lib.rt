@@ -3,12 +3,10 @@
 ghost use mathlib.Core.Path.{_≡_};
 ghost use lib.ListN.{length};
 ghost use Rattle.answers.specs.Delivered.{answered, refusedOf, lineOver, closedOver};
+use limits::MAX_LINE;
 use put_bytes::clear;
 use put_bytes::clear_from;
 use put_bytes::put_run;
-
-// How many bytes a line may have.
-pub const MAX_LINE: usize = 4096;
 
 // The number of refusal, or 0; its place, or the bytes needed; and how many bytes of the output were written.
 pub struct Answer {

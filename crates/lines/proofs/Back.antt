@@ -10,13 +10,14 @@ use Rattle.rules.specs.Limits.{maxLine}
 use Rattle.rules.specs.Preferred.{preferred, preferredSpelling}
 use Rattle.rules.specs.Stored.{stored}
 use Rattle.rules.specs.Answers.{Answer, refuses, gives, Delivers, no-room, done, Sound, Holds, Reads, ReadsSpelling, ReadsRules, ReadsSum, Writes, no-table, long, fits}
+use Rattle.rules.specs.Largest.{maxTable}
 use Rattle.rules.proofs.PreferredSpells.{said-in-order, preferred-says}
 use Rattle.rules.proofs.WritesOne.{holds-one, writes-one}
 use Rattle.shape.proofs.Unambiguous.{reads-one}
 use Rattle.write_table.proofs.Prefers.{preferred-kept, preferred-rules, preferred-sum}
 use Rattle.write_table.proofs.Shorter.{preferred-shorter}
 use Rattle.write_table.proofs.Holds.{take-given}
-use Rattle.lines.specs.Relabels.{maxTable, Relabels, refused, relabelled}
+use Rattle.lines.specs.Relabels.{Relabels, refused, relabelled}
 use Rattle.lines.proofs.Enough.{delivers-enough, read-enough}
 use Rattle.lines.proofs.Right.{reads-table, bytes-read}
 

@@ -10,8 +10,8 @@ use Rattle.rules.specs.Lines.{Spelling, lineText, Misshapen}
 use Rattle.rules.specs.Limits.{maxLine, lineMarks}
 use Rattle.rules.specs.House.{firstBreach}
 use Rattle.rules.specs.Answers.{Answer, Delivers, no-room, done, Reads, ReadsSpelling, ReadsRules, ReadsSum}
+use Rattle.rules.specs.Largest.{maxTable}
 use Rattle.rules.proofs.Rises.{line-rises}
-use Rattle.lines.specs.Relabels.{maxTable}
 use Rattle.lines.proofs.Small.{table-small}
 
 pub delivers-enough : {room : ℕ} {w : List ℕ} {a : Answer} → Delivers room w a → length w ≤ room → a .number ≡ 8 → ⊥

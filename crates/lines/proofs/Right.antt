@@ -16,6 +16,7 @@ use Rattle.rules.specs.Limits.{maxLine, lineMarks}
 use Rattle.rules.specs.Preferred.{preferred}
 use Rattle.rules.specs.Stored.{stored}
 use Rattle.rules.specs.Answers.{Answer, refuses, gives, Sound, Holds, Reads}
+use Rattle.rules.specs.Largest.{maxTable}
 use Rattle.scan_line.specs.declared.Verdict.{Verdict}
 use Rattle.scan_line.specs.declared.Verdict.the-variants.{Fine, Short, Stray}
 use Rattle.scan_line.specs.Steps.{machineBytes, scannedBy}
@@ -33,7 +34,7 @@ use Rattle.write_table.proofs.Right.{line-right}
 use Rattle.respell_line.specs.Plain.{spellingOf}
 use Rattle.respell_line.specs.Relabelled.{relabelledOver}
 use Rattle.respell_line.proofs.Preferred.{spelling-preferred}
-use Rattle.lines.specs.Relabels.{maxTable, Relabels, refused, relabelled, relabelledAs, relabelledOf}
+use Rattle.lines.specs.Relabels.{Relabels, refused, relabelled, relabelledAs, relabelledOf}
 use Rattle.lines.proofs.Enough.{read-enough}
 
 -- ---- what was read

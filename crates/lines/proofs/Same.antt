@@ -8,8 +8,9 @@ use Rattle.rules.specs.Lines.{lineText}
 use Rattle.rules.specs.Limits.{maxLine}
 use Rattle.rules.specs.Preferred.{preferred}
 use Rattle.rules.specs.Answers.{Answer, gives, no-room, done, Reads, Writes, no-table, long, fits}
+use Rattle.rules.specs.Largest.{maxTable}
 use Rattle.write_table.proofs.Holds.{take-given}
-use Rattle.lines.specs.Relabels.{maxTable, Relabels, refused, relabelled}
+use Rattle.lines.specs.Relabels.{Relabels, refused, relabelled}
 use Rattle.lines.proofs.Small.{table-small}
 use Rattle.lines.proofs.Right.{reads-table, bytes-read}
 use Rattle.lines.proofs.Back.{read-back, relabels-one}

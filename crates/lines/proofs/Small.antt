@@ -22,19 +22,15 @@ use Rattle.rules.specs.Fields.{Table, Says}
 use Rattle.rules.specs.Limits.{maxLine, maxUnits}
 use Rattle.rules.specs.Stored.{ionFields, lostUnits, lostName, addedUnits, annotationTexts, stored}
 use Rattle.rules.specs.Answers.{Sound}
+use Rattle.rules.specs.Largest.{maxPlainBytes, maxTable}
 use Rattle.rules.proofs.Totals.{total, length-flat, total-le, perm-flat}
 use Rattle.rules.proofs.Bounds.{Bounded, table-few, table-bounded}
 use Rattle.rules.proofs.Lengths.{weight, stored-weight}
 use Rattle.read_annotation.proofs.Sizes.{ion-long, losses-long}
-use Rattle.lines.specs.Relabels.{maxTable}
 
 -- ---- an annotation, besides its texts
 
--- 36 + 8 * 6 + 4 * 8 + 4 * 6 + 6 * (12 + 8 * 12 + 4 * 12)
-abbrev pub maxPlain : ℕ
-maxPlain = 1076
-
-pub weight-plain : (a : Annotation Number) → Bounded a → weight a ≤ maxPlain + length (annotationTexts a)
+pub weight-plain : (a : Annotation Number) → Bounded a → weight a ≤ maxPlainBytes + length (annotationTexts a)
 weight-plain a h =
     let u = ionFields (a .ion) .units in
     let lu = flat (λ l. lostUnits (l .what)) (a .losses) in
@@ -93,13 +89,12 @@ total-over : {A : Type 0} (v w : A → ℕ) (n : ℕ) (xs : List A) → ((x : A)
 total-over v w n [] h = omega arith
 total-over v w n (x ∷ xs) h = omega (arith, h x here, total-over v w n xs (λ y i. h y (later i)), mul-suc n (length xs))
 
--- 28 + 16 * 1076 + 4096
 pub table-small : {s : Spelling} {t : Table} → Each Says s t → Sound t → length (lineText s) ≤ maxLine → length (stored t) ≤ maxTable
 table-small {t = t} e h short =
     omega (
       arith,
       stored-weight t,
-      total-over weight (λ a. length (annotationTexts a)) maxPlain t (λ a i. weight-plain a (table-bounded t h a i)),
+      total-over weight (λ a. length (annotationTexts a)) maxPlainBytes t (λ a i. weight-plain a (table-bounded t h a i)),
       table-few t h,
       texts-long e,
     )

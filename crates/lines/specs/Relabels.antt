@@ -7,13 +7,10 @@ use lib.Dec.{eqb, ltb}
 use lib.ListN.{length, take}
 use Rattle.rules.specs.Limits.{maxLine}
 use Rattle.rules.specs.Answers.{Answer, refuses, Reads, Writes}
+use Rattle.rules.specs.Largest.{maxTable}
 use Rattle.scan_line.specs.declared.Verdict.{Verdict}
 use Rattle.scan_line.specs.Verdicts.{numberOf, placeOf}
 use Rattle.respell_line.specs.Relabelled.{relabelledOver}
-
--- how many bytes the table of a line within its bound has at most
-abbrev pub maxTable : ℕ
-maxTable = 21340
 
 -- what reading the line and writing its table answer: the refusal of the reader, or what the writer gives for the table that was read
 pub data Relabels (line : List ℕ) (room : ℕ) : Answer → Type 0 where

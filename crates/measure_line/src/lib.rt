@@ -6,7 +6,7 @@ ghost use Rattle.measure_line.specs.Refusals.{firstOf};
 use counts::Counts;
 use counts::plus;
 use faults::Fault;
-use read_annotation::ONE;
+use limits::ONE;
 use read_annotation::Parts;
 use read_annotation::measure;
 use read_annotation::read_parts;

@@ -13,7 +13,7 @@ use borrow.Author.Tests.{lt-ltb, le-ltb, le-leb, lt-leb, leb-true, ltb-true}
 use Rattle.lang.proofs.Tests.{is-t}
 use Rattle.rules.specs.Numbers.{digits}
 use Rattle.rules.specs.Decimals.{whole}
-use Rattle.rules.specs.Limits.{fits}
+use Rattle.rules.specs.Limits.{fits, maxPlaces, maxDigits}
 use Rattle.rules.proofs.Digits.{digits-small, digits-big}
 use Rattle.numbers.specs.declared.Decimal.{Decimal}
 use Rattle.numbers.specs.declared.MadeDecimal.the-variants.{Fits, Past}
@@ -80,42 +80,42 @@ whole-some p v h = go (decLt v (10 ^ p))
 
 -- ---- the bounds of a decimal
 
-module _ (v p : ℕ) (h : p ≤ 9) where
-  parts : 10 ^ suc (11 - p) * 10 ^ p ≡ 10 ^ 12
-  parts = let e : suc (11 - p) + p ≡ 12 = omega arith in sym (pow-add 10 (suc (11 - p)) p) ∙ ap (λ (n : ℕ). 10 ^ n) e
+module _ (v p : ℕ) (h : p ≤ maxPlaces) where
+  parts : 10 ^ suc (maxDigits - 1 - p) * 10 ^ p ≡ 10 ^ maxDigits
+  parts = let e : suc (maxDigits - 1 - p) + p ≡ maxDigits = omega arith in sym (pow-add 10 (suc (maxDigits - 1 - p)) p) ∙ ap (λ (n : ℕ). 10 ^ n) e
 
-  twelve : leb (length (digits (whole p v)) + p) 12 ≡ ltb v (10 ^ 12)
-  twelve = go (decLt v (10 ^ 12))
+  few-digits : leb (length (digits (whole p v)) + p) maxDigits ≡ ltb v (10 ^ maxDigits)
+  few-digits = go (decLt v (10 ^ maxDigits))
     where
-      go : Dec (v < 10 ^ 12) → leb (length (digits (whole p v)) + p) 12 ≡ ltb v (10 ^ 12)
+      go : Dec (v < 10 ^ maxDigits) → leb (length (digits (whole p v)) + p) maxDigits ≡ ltb v (10 ^ maxDigits)
       go (yes l) =
-          let f = digits-below (11 - p) (whole p v) (whole-lt p v (10 ^ suc (11 - p)) (omega (arith, parts))) in
-          le-leb (length (digits (whole p v)) + p) 12 (omega arith) ∙ sym (lt-ltb v (10 ^ 12) l)
+          let f = digits-below (maxDigits - 1 - p) (whole p v) (whole-lt p v (10 ^ suc (maxDigits - 1 - p)) (omega (arith, parts))) in
+          le-leb (length (digits (whole p v)) + p) maxDigits (omega arith) ∙ sym (lt-ltb v (10 ^ maxDigits) l)
       go (no l) =
-          let g : 10 ^ 12 ≤ v = omega arith in
-          let f = many-digits (11 - p) (whole p v) (whole-ge p v (10 ^ suc (11 - p)) (omega (arith, parts))) in
-          lt-leb (length (digits (whole p v)) + p) 12 (omega arith) ∙ sym (le-ltb v (10 ^ 12) g)
+          let g : 10 ^ maxDigits ≤ v = omega arith in
+          let f = many-digits (maxDigits - 1 - p) (whole p v) (whole-ge p v (10 ^ suc (maxDigits - 1 - p)) (omega (arith, parts))) in
+          lt-leb (length (digits (whole p v)) + p) maxDigits (omega arith) ∙ sym (le-ltb v (10 ^ maxDigits) g)
 
--- a decimal fits exactly where it has at most 9 places and its value is below 10 ^ 12
-pub fits-is : (v p : ℕ) → fits (record { value = v; places = p }) ≡ leb p 9 && ltb v (10 ^ 12)
-fits-is v p = go (leb p 9) refl
+-- a decimal fits exactly where it has no more places than it may, and its value is below 10 ^ maxDigits
+pub fits-is : (v p : ℕ) → fits (record { value = v; places = p }) ≡ leb p maxPlaces && ltb v (10 ^ maxDigits)
+fits-is v p = go (leb p maxPlaces) refl
   where
-    go : (t : Bool) → leb p 9 ≡ t → leb p 9 && leb (length (digits (whole p v)) + p) 12 ≡ leb p 9 && ltb v (10 ^ 12)
-    go true e = rw e (twelve v p (leb-true p 9 e))
+    go : (t : Bool) → leb p maxPlaces ≡ t → leb p maxPlaces && leb (length (digits (whole p v)) + p) maxDigits ≡ leb p maxPlaces && ltb v (10 ^ maxDigits)
+    go true e = rw e (few-digits v p (leb-true p maxPlaces e))
     go false e = rw e
 
-pub made-is : (v p : ℕ) → madeOf v p ≡ cond (leb p 9 && ltb v (10 ^ 12)) (Fits (record { value = v; places = p })) Past
+pub made-is : (v p : ℕ) → madeOf v p ≡ cond (leb p maxPlaces && ltb v (10 ^ maxDigits)) (Fits (record { value = v; places = p })) Past
 unfolding madeOf
 made-is v p = ap (λ (t : Bool). cond t (Fits (record { value = v; places = p })) Past) (fits-is v p)
 
-pub made-fits : (v p : ℕ) → p ≤ 9 → v < 10 ^ 12 → madeOf v p ≡ Fits (record { value = v; places = p })
-made-fits v p h g = made-is v p ∙ rw (le-leb p 9 h, lt-ltb v (10 ^ 12) g)
+pub made-fits : (v p : ℕ) → p ≤ maxPlaces → v < 10 ^ maxDigits → madeOf v p ≡ Fits (record { value = v; places = p })
+made-fits v p h g = made-is v p ∙ rw (le-leb p maxPlaces h, lt-ltb v (10 ^ maxDigits) g)
 
-pub made-long : (v p : ℕ) → 9 < p → madeOf v p ≡ Past
-made-long v p h = made-is v p ∙ rw (lt-leb p 9 h)
+pub made-long : (v p : ℕ) → maxPlaces < p → madeOf v p ≡ Past
+made-long v p h = made-is v p ∙ rw (lt-leb p maxPlaces h)
 
-pub made-large : (v p : ℕ) → 10 ^ 12 ≤ v → madeOf v p ≡ Past
-made-large v p h = made-is v p ∙ rw (le-ltb v (10 ^ 12) h) (go (leb p 9))
+pub made-large : (v p : ℕ) → 10 ^ maxDigits ≤ v → madeOf v p ≡ Past
+made-large v p h = made-is v p ∙ rw (le-ltb v (10 ^ maxDigits) h) (go (leb p maxPlaces))
   where
     go : (t : Bool) → cond (t && false) (Fits (record { value = v; places = p })) Past ≡ Past
     go true = refl
@@ -123,11 +123,11 @@ made-large v p h = made-is v p ∙ rw (le-ltb v (10 ^ 12) h) (go (leb p 9))
 
 -- ---- back from what was made
 
-pub fits-within : (v p : ℕ) → fits (record { value = v; places = p }) ≡ true → (v < 10 ^ 12) × (p ≤ 9)
-fits-within v p e = go (leb p 9) refl (ltb v (10 ^ 12)) refl (sym (fits-is v p) ∙ e)
+pub fits-within : (v p : ℕ) → fits (record { value = v; places = p }) ≡ true → (v < 10 ^ maxDigits) × (p ≤ maxPlaces)
+fits-within v p e = go (leb p maxPlaces) refl (ltb v (10 ^ maxDigits)) refl (sym (fits-is v p) ∙ e)
   where
-    go : (s : Bool) → leb p 9 ≡ s → (t : Bool) → ltb v (10 ^ 12) ≡ t → leb p 9 && ltb v (10 ^ 12) ≡ true → (v < 10 ^ 12) × (p ≤ 9)
-    go true a true b q = (ltb-true v (10 ^ 12) b, leb-true p 9 a)
+    go : (s : Bool) → leb p maxPlaces ≡ s → (t : Bool) → ltb v (10 ^ maxDigits) ≡ t → leb p maxPlaces && ltb v (10 ^ maxDigits) ≡ true → (v < 10 ^ maxDigits) × (p ≤ maxPlaces)
+    go true a true b q = (ltb-true v (10 ^ maxDigits) b, leb-true p maxPlaces a)
     go true a false b q = let z : _≡_ {A = ℕ} 0 1 = cc in omega arith
     go false a t b q = let z : _≡_ {A = ℕ} 0 1 = cc in omega arith
 

@@ -13,6 +13,7 @@ use Rattle.lang.specs.Digits.{valueFrom}
 use Rattle.lang.proofs.Lits.{one-eq}
 use Rattle.lang.proofs.Tests.{is-t}
 use Rattle.rules.specs.Decimals.{whole}
+use Rattle.rules.specs.Limits.{maxPlaces, maxDigits}
 use Rattle.numbers.specs.declared.Digits.{Digits}
 use Rattle.numbers.specs.declared.MadeDecimal.{MadeDecimal}
 use Rattle.numbers.specs.Leading.{leading, leadingOf}
@@ -40,7 +41,7 @@ is-point b e = rw e
 
 -- ---- the fraction, as it is walked
 
-pub fraction-none : (s : List ℕ) (before : ℕ) → before ≤ 10 ^ 12 → fraction s ≡ [] → record { value = before; len = 0 } ≡ fractionOf before s
+pub fraction-none : (s : List ℕ) (before : ℕ) → before ≤ 10 ^ maxDigits → fraction s ≡ [] → record { value = before; len = 0 } ≡ fractionOf before s
 unfolding fractionOf valueFrom
 fraction-none s before h e = rw e (ap (λ (v : ℕ). record { value = v; len = 0 }) (omega arith))
 
@@ -55,19 +56,19 @@ fraction-other [] h n = refl
 fraction-other (b ∷ s) h n = rw (not-point b n)
 
 pub fraction-point : (s : List ℕ) (before : ℕ) → 1 ≤ length s → getD s 0 0 ≡ 46
-    → leadingOf before (10 ^ 12) (take (length s - 1) (drop 1 s)) ≡ fractionOf before s
+    → leadingOf before (10 ^ maxDigits) (take (length s - 1) (drop 1 s)) ≡ fractionOf before s
 unfolding fraction fractionOf leadingOf
 fraction-point [] before h e = absurd (omega arith)
 fraction-point (b ∷ s) before h e = rw (rest (b ∷ s) 1, is-point b e)
 
 -- ---- what is told where the value or the places are past all bounds
 
-pub made-capped : (v p : ℕ) → madeOf (min v (10 ^ 12)) (min p 10) ≡ madeOf v p
-made-capped v p = go (decLe (10 ^ 12) v) (decLe 10 p)
+pub made-capped : (v p : ℕ) → madeOf (min v (10 ^ maxDigits)) (min p (maxPlaces + 1)) ≡ madeOf v p
+made-capped v p = go (decLe (10 ^ maxDigits) v) (decLe (maxPlaces + 1) p)
   where
-    go : Dec (10 ^ 12 ≤ v) → Dec (10 ≤ p) → madeOf (min v (10 ^ 12)) (min p 10) ≡ madeOf v p
-    go (yes h) q = made-large (min v (10 ^ 12)) (min p 10) (omega arith) ∙ sym (made-large v p h)
-    go (no h) (yes g) = made-long (min v (10 ^ 12)) (min p 10) (omega arith) ∙ sym (made-long v p g)
+    go : Dec (10 ^ maxDigits ≤ v) → Dec (maxPlaces + 1 ≤ p) → madeOf (min v (10 ^ maxDigits)) (min p (maxPlaces + 1)) ≡ madeOf v p
+    go (yes h) q = made-large (min v (10 ^ maxDigits)) (min p (maxPlaces + 1)) (omega arith) ∙ sym (made-large v p h)
+    go (no h) (yes g) = made-long (min v (10 ^ maxDigits)) (min p (maxPlaces + 1)) (omega arith) ∙ sym (made-long v p g)
     go (no h) (no g) = ap₂ madeOf (omega arith) (omega arith)
 
 pub fraction-within : (s : List ℕ) → pointed (fraction s) ≤ length s
@@ -102,10 +103,10 @@ pointed-some (b ∷ f) n = refl
 
 -- what the two walks found
 pub record Walked (s : List ℕ) (whole all : Digits) : Type 0 where
-  pub front : whole ≡ leadingOf 0 (10 ^ 12) s
+  pub front : whole ≡ leadingOf 0 (10 ^ maxDigits) s
   pub behind : all ≡ fractionOf (whole .value) (take (length s - whole .len) (drop (whole .len) s))
 
-pub walked : {s : List ℕ} {whole all : Digits} → whole ≡ leadingOf 0 (10 ^ 12) s
+pub walked : {s : List ℕ} {whole all : Digits} → whole ≡ leadingOf 0 (10 ^ maxDigits) s
     → all ≡ fractionOf (whole .value) (take (length s - whole .len) (drop (whole .len) s)) → Walked s whole all
 walked f b = record { front = f; behind = b }
 
@@ -124,26 +125,26 @@ module _ {s : List ℕ} {whole all : Digits} (w : Walked s whole all) where
   unfolding fractionOf tail
   places = ap (λ (d : Digits). d .len) all-is
 
-  value : all .value ≡ min (valueFrom (valueFrom 0 (leading s)) tail) (10 ^ 12)
+  value : all .value ≡ min (valueFrom (valueFrom 0 (leading s)) tail) (10 ^ maxDigits)
   unfolding fractionOf leadingOf tail
   value =
-      let e : whole .value ≡ min (valueFrom 0 (leading s)) (10 ^ 12) = ap (λ (d : Digits). d .value) (w .front) in
-      ap (λ (d : Digits). d .value) all-is ∙ capped (10 ^ 12) (whole .value) (valueFrom 0 (leading s)) tail (omega arith)
+      let e : whole .value ≡ min (valueFrom 0 (leading s)) (10 ^ maxDigits) = ap (λ (d : Digits). d .value) (w .front) in
+      ap (λ (d : Digits). d .value) all-is ∙ capped (10 ^ maxDigits) (whole .value) (valueFrom 0 (leading s)) tail (omega arith)
 
-  found : {made : MadeDecimal} {p n : ℕ} → p ≡ min (all .len) 10 → made ≡ madeOf (all .value) p → n ≡ length (leading s) + pointed tail
+  found : {made : MadeDecimal} {p n : ℕ} → p ≡ min (all .len) (maxPlaces + 1) → made ≡ madeOf (all .value) p → n ≡ length (leading s) + pointed tail
       → record { made = made; len = n } ≡ decimalOf s
   unfolding decimalOf tail
   found {made} {p} {n} e m l =
       ap₂ (λ (x : MadeDecimal) (y : ℕ). record { made = x; len = y })
-      (m ∙ ap₂ madeOf value (e ∙ ap (λ (x : ℕ). min x 10) places)
+      (m ∙ ap₂ madeOf value (e ∙ ap (λ (x : ℕ). min x (maxPlaces + 1)) places)
       ∙ made-capped (valueFrom (valueFrom 0 (leading s)) tail) (length tail))
       l
 
-  pub found-whole : {made : MadeDecimal} {p : ℕ} → p ≡ min (all .len) 10 → made ≡ madeOf (all .value) p → all .len ≡ 0
+  pub found-whole : {made : MadeDecimal} {p : ℕ} → p ≡ min (all .len) (maxPlaces + 1) → made ≡ madeOf (all .value) p → all .len ≡ 0
       → record { made = made; len = whole .len } ≡ decimalOf s
   found-whole e m z = found e m (omega (arith, at, pointed-none tail (sym places ∙ z)))
 
-  pub found-point : {made : MadeDecimal} {p : ℕ} → p ≡ min (all .len) 10 → made ≡ madeOf (all .value) p → (all .len ≡ 0 → ⊥)
+  pub found-point : {made : MadeDecimal} {p : ℕ} → p ≡ min (all .len) (maxPlaces + 1) → made ≡ madeOf (all .value) p → (all .len ≡ 0 → ⊥)
       → record { made = made; len = whole .len + 1 + all .len } ≡ decimalOf s
   found-point e m z = found e m (omega (arith, at, places, pointed-some tail (λ q. z (places ∙ q))))
 

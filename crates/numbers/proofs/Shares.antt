@@ -4,6 +4,7 @@ use mathlib.Core.Path.{_≡_, refl, sym, _∙_}
 use native.Mathlib.Omega.{arith}
 use native.Mathlib.Nat.{pow-suc, one-le-pow, mul-le-mul, mul-le-mul-left}
 use native.Mathlib.Decide.{decLe}
+use Rattle.rules.specs.Limits.{maxPlaces}
 use Rattle.numbers.specs.declared.Decimal.{Decimal}
 use Rattle.numbers.specs.Shares.{largest, billionthsOf}
 
@@ -23,19 +24,19 @@ capped-again a k h = go (decLe a largest)
 -- what is told after some places, where v was reached
 pub record Scaled (d : Decimal) (v places : ℕ) : Type 0 where
   pub small : v ≤ largest
-  pub is : billionthsOf d ≡ min (v * 10 ^ (9 - places)) largest
+  pub is : billionthsOf d ≡ min (v * 10 ^ (maxPlaces - places)) largest
 
 module _ {d : Decimal} where
   pub begin : d .value ≤ largest → Scaled d (d .value) (d .places)
   unfolding billionthsOf
   begin h = record { small = h; is = refl }
 
-  pub turn : {v places : ℕ} → Scaled d v places → places < 9 → Scaled d (min (v * 10) largest) (places + 1)
+  pub turn : {v places : ℕ} → Scaled d v places → places < maxPlaces → Scaled d (min (v * 10) largest) (places + 1)
   turn {v} {places} s h =
-      let k = 9 - (places + 1) in
-      let e : 9 - places ≡ suc k = omega arith in
+      let k = maxPlaces - (places + 1) in
+      let e : maxPlaces - places ≡ suc k = omega arith in
       let t : v * 10 ^ suc k ≡ v * 10 * 10 ^ k = rw (pow-suc 10 k) (omega arith) in
       record { small = omega arith; is = s .is ∙ rw (e, t) (sym (capped-again (v * 10) (10 ^ k) (one-le-pow k 10 (omega arith)))) }
 
-  pub ends : {v places : ℕ} → Scaled d v places → 9 ≤ places → v ≡ billionthsOf d
-  ends {v} {places} s h = let e : 9 - places ≡ 0 = omega arith in sym (s .is ∙ rw e (omega (arith, s .small)))
+  pub ends : {v places : ℕ} → Scaled d v places → maxPlaces ≤ places → v ≡ billionthsOf d
+  ends {v} {places} s h = let e : maxPlaces - places ≡ 0 = omega arith in sym (s .is ∙ rw e (omega (arith, s .small)))

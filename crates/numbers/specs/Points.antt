@@ -6,6 +6,7 @@ use lib.ListN.{length, drop}
 use Rattle.lang.specs.Re.{Rng, inC}
 use Rattle.lang.specs.Digits.{valueFrom}
 use Rattle.rules.specs.Bytes.{_to_}
+use Rattle.rules.specs.Limits.{maxDigits}
 use Rattle.numbers.specs.declared.Digits.{Digits}
 use Rattle.numbers.specs.declared.DecimalRead.{DecimalRead}
 use Rattle.numbers.specs.Leading.{leading}
@@ -19,9 +20,9 @@ unfoldable pub fraction : List ℕ → List ℕ
 fraction [] = []
 fraction (b ∷ s) = cond (inC point b) (leading s) []
 
--- their value behind the digits of a number, no more than 10 ^ 12, and how many they are
+-- their value behind the digits of a number, no more than 10 ^ maxDigits, and how many they are
 unfoldable pub fractionOf : ℕ → List ℕ → Digits
-fractionOf before s = record { value = min (valueFrom before (fraction s)) (10 ^ 12); len = length (fraction s) }
+fractionOf before s = record { value = min (valueFrom before (fraction s)) (10 ^ maxDigits); len = length (fraction s) }
 
 -- how many bytes a point and these digits have; none where there are no digits
 unfoldable pub pointed : List ℕ → ℕ

@@ -4,6 +4,7 @@ ghost use Prim.Native.Nat.{_≤_, _*_, _+_, _-_, min};
 ghost use Rattle.lang.specs.Re.{inC};
 ghost use Rattle.rules.specs.Bytes.{digit};
 ghost use Rattle.rules.specs.Numbers.{digits};
+ghost use Rattle.rules.specs.Limits.{maxPlaces};
 ghost use Rattle.rules.specs.Decimals.{whole, lastDigits, decimalText};
 ghost use Rattle.put_bytes.specs.Puts.{Put};
 ghost use Rattle.numbers.specs.Leading.{leadingOf, numberOf};
@@ -101,10 +102,10 @@ pub enum MadeDecimal {
 
 impl Decimal {
     // How many digits may stand behind the point.
-    pub const MAX_PLACES: u8 = 9;
+    pub const MAX_PLACES: u8 = limits::MAX_PLACES;
 
     // How many digits there may be in all.
-    pub const MAX_DIGITS: u8 = 12;
+    pub const MAX_DIGITS: u8 = limits::MAX_DIGITS;
 
     // A decimal, unless it is past its bounds. Nine places and a `0` before them are ten digits, so that the value's own digits decide.
     pub fn new(value: u64, places: u8) -> MadeDecimal
@@ -194,9 +195,9 @@ fn fraction_from(s: &[u8], before: u64) -> Digits
 
 // How many places there are, or one more than there may be.
 fn places_of(len: usize) -> u8
-    ensures { λ r. ⌜ r ≡ min len 10 ⌝ }
+    ensures { λ r. ⌜ r ≡ min len (maxPlaces + 1) ⌝ }
 {
-    if len < 10 {
+    if len <= Decimal::MAX_PLACES as usize {
         len as u8
     } else {
         Decimal::MAX_PLACES + 1

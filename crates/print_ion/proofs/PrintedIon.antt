@@ -19,6 +19,8 @@ use Rattle.rules.specs.Ions.{Series, seriesNames, Ion, series, internal, immoni
 use Rattle.rules.specs.Annotations.{Annotation, flagText, analyteText}
 use Rattle.rules.specs.Preferred.{shortened}
 use Rattle.rules.specs.Stored.{stores, flag, present, valueOr0, number, bytesOf, ionFields, unitRecord, annotationRecord}
+use Rattle.rules.specs.Limits.{maxUnits, maxText}
+use Rattle.rules.specs.Layout.{markedAt, analytePresentAt, letterAt, analyteAt, positionAt, lastAt, chargeAt, unitCountAt, lossCountAt}
 use Rattle.rules.proofs.FitParts.{UnitFits}
 use Rattle.rules.proofs.FitAnnotations.{InRange}
 use Rattle.rules.proofs.Bounds.{Bounded}
@@ -40,9 +42,9 @@ pub record FrontOk (a : Annotation Number) : Type 0 where
   pub letter : ionFields (a .ion) .letter ≤ 255
   pub position : ionFields (a .ion) .position ≤ 65535
   pub end : ionFields (a .ion) .end ≤ 65535
-  pub few : length (ionFields (a .ion) .units) ≤ 12
+  pub few : length (ionFields (a .ion) .units) ≤ maxUnits
   pub units : AllOf (UnitUpTo 65535) (ionFields (a .ion) .units)
-  pub short : length (ionFields (a .ion) .text) ≤ 255
+  pub short : length (ionFields (a .ion) .text) ≤ maxText
 
 -- the bytes of the record of an annotation, and what follows it
 abbrev pub noted : Annotation Number → List ℕ → List ℕ
@@ -50,21 +52,21 @@ noted a k = stores (annotationRecord a) ++ k
 
 -- ---- how many units and bytes of text
 
-pub ion-units-stored : (a : Annotation Number) (ks : List ℕ) → length (ionFields (a .ion) .units) ≤ 12
+pub ion-units-stored : (a : Annotation Number) (ks : List ℕ) → length (ionFields (a .ion) .units) ≤ maxUnits
     → ionUnits (noted a ks) ≡ length (ionFields (a .ion) .units)
 unfolding ionUnits
 ion-units-stored a ks h =
     let n = length (ionFields (a .ion) .units) in
-    omega (arith, word-stored n (drop 32 (noted a ks)) (omega arith))
+    omega (arith, word-stored n (drop lossCountAt (noted a ks)) (omega arith))
 
-pub ion-bytes-stored : (a : Annotation Number) (ks : List ℕ) → length (ionFields (a .ion) .text) ≤ 255
+pub ion-bytes-stored : (a : Annotation Number) (ks : List ℕ) → length (ionFields (a .ion) .text) ≤ maxText
     → ionBytes (noted a ks) ≡ length (ionFields (a .ion) .text)
 unfolding ionBytes
 ion-bytes-stored a ks h =
     let n = length (ionFields (a .ion) .text) in
-    omega (arith, word-stored n (drop 30 (noted a ks)) (omega arith))
+    omega (arith, word-stored n (drop unitCountAt (noted a ks)) (omega arith))
 
-text-taken : (a : Annotation Number) (ks kt : List ℕ) → length (ionFields (a .ion) .text) ≤ 255
+text-taken : (a : Annotation Number) (ks kt : List ℕ) → length (ionFields (a .ion) .text) ≤ maxText
     → take (ionBytes (noted a ks)) (ionFields (a .ion) .text ++ kt) ≡ ionFields (a .ion) .text
 text-taken a ks kt h =
     let w = ionFields (a .ion) .text in
@@ -73,11 +75,11 @@ text-taken a ks kt h =
 -- ---- numbers of the record
 
 position-stored : (a : Annotation Number) (ks : List ℕ) → ionFields (a .ion) .position ≤ 65535
-    → u16At (drop 6 (noted a ks)) ≡ ionFields (a .ion) .position
-position-stored a ks h = word-stored (ionFields (a .ion) .position) (drop 8 (noted a ks)) h
+    → u16At (drop positionAt (noted a ks)) ≡ ionFields (a .ion) .position
+position-stored a ks h = word-stored (ionFields (a .ion) .position) (drop lastAt (noted a ks)) h
 
-end-stored : (a : Annotation Number) (ks : List ℕ) → ionFields (a .ion) .end ≤ 65535 → u16At (drop 8 (noted a ks)) ≡ ionFields (a .ion) .end
-end-stored a ks h = word-stored (ionFields (a .ion) .end) (drop 10 (noted a ks)) h
+end-stored : (a : Annotation Number) (ks : List ℕ) → ionFields (a .ion) .end ≤ 65535 → u16At (drop lastAt (noted a ks)) ≡ ionFields (a .ion) .end
+end-stored a ks h = word-stored (ionFields (a .ion) .end) (drop chargeAt (noted a ks)) h
 
 series-stored : (s : Series) → seriesPrinted ((s .which + 1) % 256) ≡ wordOf s
 unfolding seriesPrinted
@@ -116,17 +118,17 @@ modified (written m) = by (m .bytes) (m .good)
 -- ---- ions, with the text that was taken
 
 module _ (s : List ℕ) where
-  position-is : (w : List ℕ) {x z : List ℕ} {n : ℕ} → seriesPrinted (getD s 3 0) ≡ x → u16At (drop 6 s) ≡ n → bracesPrinted w ≡ z → positionPrinted s w ≡ x ++ (digits n ++ z)
+  position-is : (w : List ℕ) {x z : List ℕ} {n : ℕ} → seriesPrinted (getD s letterAt 0) ≡ x → u16At (drop positionAt s) ≡ n → bracesPrinted w ≡ z → positionPrinted s w ≡ x ++ (digits n ++ z)
   unfolding positionPrinted
   position-is w p q r = ap₂ (λ (a b : List ℕ). a ++ b) p (ap₂ (λ (n : ℕ) (b : List ℕ). digits n ++ b) q r)
 
-  internal-is : (w : List ℕ) {z : List ℕ} {m n : ℕ} → u16At (drop 6 s) ≡ m → u16At (drop 8 s) ≡ n → bracesPrinted w ≡ z
+  internal-is : (w : List ℕ) {z : List ℕ} {m n : ℕ} → u16At (drop positionAt s) ≡ m → u16At (drop lastAt s) ≡ n → bracesPrinted w ≡ z
       → internalPrinted s w ≡ bytes "m" ++ (digits m ++ (bytes ":" ++ (digits n ++ z)))
   unfolding internalPrinted
   internal-is w p q r =
       ap₂ (λ (m : ℕ) (b : List ℕ). bytes "m" ++ (digits m ++ (bytes ":" ++ b))) p (ap₂ (λ (n : ℕ) (b : List ℕ). digits n ++ b) q r)
 
-  immonium-is : (w : List ℕ) {z : List ℕ} {n : ℕ} → getD s 3 0 ≡ n → bracketsPrinted w ≡ z → immoniumPrinted s w ≡ bytes "I" ++ ((n ∷ []) ++ z)
+  immonium-is : (w : List ℕ) {z : List ℕ} {n : ℕ} → getD s letterAt 0 ≡ n → bracketsPrinted w ≡ z → immoniumPrinted s w ≡ bytes "I" ++ ((n ∷ []) ++ z)
   unfolding immoniumPrinted
   immonium-is w p r = ap₂ (λ (n : ℕ) (b : List ℕ). bytes "I" ++ (n ∷ b)) p r
 
@@ -134,7 +136,7 @@ module _ (s : List ℕ) where
   unfolding composedPrinted
   composed-is u n p r = ap (λ (b : List ℕ). bytes "f{" ++ (b ++ bytes "}")) (ap (λ (m : ℕ). printedUnits m u) p ∙ r)
 
-label-is : (n : Opt Number) (s : List ℕ) → u16At (drop 6 s) ≡ valueOr0 number n → labelPrinted s ≡ bytes "?" ++ optText numberText n
+label-is : (n : Opt Number) (s : List ℕ) → u16At (drop positionAt s) ≡ valueOr0 number n → labelPrinted s ≡ bytes "?" ++ optText numberText n
 unfolding labelPrinted
 label-is silent s e = rw e
 label-is (written n) s e =
@@ -189,7 +191,7 @@ ion-printed a ks ku kt h =
 
 -- ---- before the ion
 
-flag-is : (s : List ℕ) (m : Bool) → getD s 1 0 ≡ flag m → flagPrinted s ≡ flagText (bytes "&") m
+flag-is : (s : List ℕ) (m : Bool) → getD s markedAt 0 ≡ flag m → flagPrinted s ≡ flagText (bytes "&") m
 unfolding flagPrinted
 flag-is s true e = rw e
 flag-is s false e = rw e
@@ -198,14 +200,14 @@ flag-kept : (m : Bool) → flag m % 256 ≡ flag m
 flag-kept true = refl
 flag-kept false = refl
 
-analyte-is : (s : List ℕ) (n : Opt ℕ) → getD s 2 0 ≡ present n % 256 → u16At (drop 4 s) ≡ valueOr0 (λ n. n) n → analytePrinted s ≡ optText analyteText n
+analyte-is : (s : List ℕ) (n : Opt ℕ) → getD s analytePresentAt 0 ≡ present n % 256 → u16At (drop analyteAt s) ≡ valueOr0 (λ n. n) n → analytePrinted s ≡ optText analyteText n
 unfolding analytePrinted
 analyte-is s silent e f = rw e
 analyte-is s (written n) e f = rw (e, f)
 
 analyte-stored : (a : Annotation Number) (ks : List ℕ) → valueOr0 (λ n. n) (a .analyte) ≤ 65535
-    → u16At (drop 4 (noted a ks)) ≡ valueOr0 (λ n. n) (a .analyte)
-analyte-stored a ks h = word-stored (valueOr0 (λ n. n) (a .analyte)) (drop 6 (noted a ks)) h
+    → u16At (drop analyteAt (noted a ks)) ≡ valueOr0 (λ n. n) (a .analyte)
+analyte-stored a ks h = word-stored (valueOr0 (λ n. n) (a .analyte)) (drop positionAt (noted a ks)) h
 
 -- ---- prefix and ion
 

@@ -11,6 +11,7 @@ use borrow.Author.Tests.{eq-eqb, ne-eqb}
 use Rattle.rules.specs.Bytes.{bytes}
 use Rattle.rules.specs.Numbers.{digits}
 use Rattle.rules.specs.Ions.{seriesNames}
+use Rattle.rules.specs.Layout.{markedAt, analytePresentAt, analyteAt, positionAt, kindAt}
 use Rattle.slices.specs.Numbers.{u16At}
 use Rattle.print_ion.specs.Texts.{seriesPrinted, enclosedPrinted, ionBytes}
 use Rattle.print_ion.specs.Ions.{labelPrinted, kindPrinted, ionPrinted}
@@ -44,27 +45,27 @@ module _ (first last : ℕ) where
 -- ---- labels, flags, analytes
 
 module _ (s : List ℕ) {n : ℕ} where
-  pub label-none : n ≡ u16At (drop 6 s) → n ≡ 0 → bytes "?" ≡ labelPrinted s
+  pub label-none : n ≡ u16At (drop positionAt s) → n ≡ 0 → bytes "?" ≡ labelPrinted s
   unfolding labelPrinted
   label-none e z = rw (← e, eq-eqb n 0 z)
 
-  pub label-some : n ≡ u16At (drop 6 s) → (n ≡ 0 → ⊥) → bytes "?" ++ digits n ≡ labelPrinted s
+  pub label-some : n ≡ u16At (drop positionAt s) → (n ≡ 0 → ⊥) → bytes "?" ++ digits n ≡ labelPrinted s
   unfolding labelPrinted
   label-some e z = rw (← e, ne-eqb n 0 z)
 
-  pub flag-none : n ≡ getD s 1 0 → n ≡ 0 → [] ≡ flagPrinted s
+  pub flag-none : n ≡ getD s markedAt 0 → n ≡ 0 → [] ≡ flagPrinted s
   unfolding flagPrinted
   flag-none e z = rw (← e, eq-eqb n 0 z)
 
-  pub flag-some : n ≡ getD s 1 0 → (n ≡ 0 → ⊥) → bytes "&" ≡ flagPrinted s
+  pub flag-some : n ≡ getD s markedAt 0 → (n ≡ 0 → ⊥) → bytes "&" ≡ flagPrinted s
   unfolding flagPrinted
   flag-some e z = rw (← e, ne-eqb n 0 z)
 
-  pub analyte-none : n ≡ getD s 2 0 → n ≡ 0 → [] ≡ analytePrinted s
+  pub analyte-none : n ≡ getD s analytePresentAt 0 → n ≡ 0 → [] ≡ analytePrinted s
   unfolding analytePrinted
   analyte-none e z = rw (← e, eq-eqb n 0 z)
 
-  pub analyte-some : n ≡ getD s 2 0 → (n ≡ 0 → ⊥) → {m : ℕ} → m ≡ u16At (drop 4 s) → digits m ++ bytes "@" ≡ analytePrinted s
+  pub analyte-some : n ≡ getD s analytePresentAt 0 → (n ≡ 0 → ⊥) → {m : ℕ} → m ≡ u16At (drop analyteAt s) → digits m ++ bytes "@" ≡ analytePrinted s
   unfolding analytePrinted
   analyte-some e z q = rw (← e, ne-eqb n 0 z, ← q)
 
@@ -88,7 +89,7 @@ no-kind s u w k h =
       other k 9 h (omega arith) (omega arith),
     )
 
-module _ (s u t : List ℕ) {k : ℕ} {w : List ℕ} (is : k ≡ getD s 0 0) (text : w ≡ take (ionBytes s) t) where
+module _ (s u t : List ℕ) {k : ℕ} {w : List ℕ} (is : k ≡ getD s kindAt 0) (text : w ≡ take (ionBytes s) t) where
   pub kind-is : (n : ℕ) → k ≡ n → kindPrinted n s u w ≡ ionPrinted s u t
   kind-is n e = ap₂ (λ (j : ℕ) (v : List ℕ). kindPrinted j s u v) (sym e ∙ is) text
 

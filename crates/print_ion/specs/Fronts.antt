@@ -6,14 +6,15 @@ use lib.Dec.{eqb}
 use lib.ListN.{getD, drop}
 use Rattle.rules.specs.Bytes.{bytes}
 use Rattle.rules.specs.Numbers.{digits}
+use Rattle.rules.specs.Layout.{markedAt, analytePresentAt, analyteAt}
 use Rattle.slices.specs.Numbers.{u16At}
 use Rattle.print_ion.specs.Ions.{ionPrinted}
 
 unfoldable pub flagPrinted : List ℕ → List ℕ
-flagPrinted s = cond (eqb (getD s 1 0) 0) [] (bytes "&")
+flagPrinted s = cond (eqb (getD s markedAt 0) 0) [] (bytes "&")
 
 unfoldable pub analytePrinted : List ℕ → List ℕ
-analytePrinted s = cond (eqb (getD s 2 0) 0) [] (digits (u16At (drop 4 s)) ++ bytes "@")
+analytePrinted s = cond (eqb (getD s analytePresentAt 0) 0) [] (digits (u16At (drop analyteAt s)) ++ bytes "@")
 
 abbrev pub frontPrinted : List ℕ → List ℕ → List ℕ → List ℕ
 frontPrinted s u t = flagPrinted s ++ (analytePrinted s ++ ionPrinted s u t)

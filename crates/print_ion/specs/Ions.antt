@@ -6,22 +6,23 @@ use lib.Dec.{eqb}
 use lib.ListN.{getD, take, drop}
 use Rattle.rules.specs.Bytes.{bytes}
 use Rattle.rules.specs.Numbers.{digits}
+use Rattle.rules.specs.Layout.{kindAt, letterAt, positionAt, lastAt}
 use Rattle.slices.specs.Numbers.{u16At}
 use Rattle.put_formula.specs.Preferred.{printedUnits}
 use Rattle.print_ion.specs.Texts.{seriesPrinted, bracesPrinted, bracketsPrinted, ionUnits, ionBytes}
 
 unfoldable pub positionPrinted : List ℕ → List ℕ → List ℕ
-positionPrinted s w = seriesPrinted (getD s 3 0) ++ (digits (u16At (drop 6 s)) ++ bracesPrinted w)
+positionPrinted s w = seriesPrinted (getD s letterAt 0) ++ (digits (u16At (drop positionAt s)) ++ bracesPrinted w)
 
 unfoldable pub internalPrinted : List ℕ → List ℕ → List ℕ
-internalPrinted s w = bytes "m" ++ (digits (u16At (drop 6 s)) ++ (bytes ":" ++ (digits (u16At (drop 8 s)) ++ bracesPrinted w)))
+internalPrinted s w = bytes "m" ++ (digits (u16At (drop positionAt s)) ++ (bytes ":" ++ (digits (u16At (drop lastAt s)) ++ bracesPrinted w)))
 
 unfoldable pub immoniumPrinted : List ℕ → List ℕ → List ℕ
-immoniumPrinted s w = bytes "I" ++ (getD s 3 0 ∷ bracketsPrinted w)
+immoniumPrinted s w = bytes "I" ++ (getD s letterAt 0 ∷ bracketsPrinted w)
 
 -- a label of 0 is none
 unfoldable pub labelPrinted : List ℕ → List ℕ
-labelPrinted s = bytes "?" ++ cond (eqb (u16At (drop 6 s)) 0) [] (digits (u16At (drop 6 s)))
+labelPrinted s = bytes "?" ++ cond (eqb (u16At (drop positionAt s)) 0) [] (digits (u16At (drop positionAt s)))
 
 unfoldable pub composedPrinted : List ℕ → List ℕ → List ℕ
 composedPrinted s u = bytes "f{" ++ (printedUnits (ionUnits s) u ++ bytes "}")
@@ -40,4 +41,4 @@ kindPrinted k s u w =
     (cond (eqb k 9) (labelPrinted s) []))))))))
 
 abbrev pub ionPrinted : List ℕ → List ℕ → List ℕ → List ℕ
-ionPrinted s u t = kindPrinted (getD s 0 0) s u (take (ionBytes s) t)
+ionPrinted s u t = kindPrinted (getD s kindAt 0) s u (take (ionBytes s) t)

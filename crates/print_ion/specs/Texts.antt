@@ -6,6 +6,7 @@ use lib.ListN.{getD, drop}
 use Rattle.rules.specs.Bytes.{bytes}
 use Rattle.rules.specs.Ions.{seriesNames}
 use Rattle.rules.specs.Limits.{maxUnits, maxText}
+use Rattle.rules.specs.Layout.{textLengthAt, unitCountAt}
 use Rattle.slices.specs.Numbers.{u16At}
 use Rattle.print_parts.specs.Numbers.{upTo}
 
@@ -26,7 +27,7 @@ bracketsPrinted w = enclosedPrinted (code "[") w (code "]")
 
 -- how many units, and how many bytes of text; no more than the limits allow
 unfoldable pub ionUnits : List ℕ → ℕ
-ionUnits s = upTo (u16At (drop 30 s)) maxUnits
+ionUnits s = upTo (u16At (drop unitCountAt s)) maxUnits
 
 unfoldable pub ionBytes : List ℕ → ℕ
-ionBytes s = upTo (u16At (drop 28 s)) maxText
+ionBytes s = upTo (u16At (drop textLengthAt s)) maxText

@@ -5,6 +5,17 @@ ghost use Rattle.put_bytes.specs.Puts.{Put};
 ghost use Rattle.print_ion.specs.Texts.{seriesPrinted, enclosedPrinted, bracesPrinted, bracketsPrinted, ionUnits, ionBytes};
 ghost use Rattle.print_ion.specs.Ions.{positionPrinted, internalPrinted, immoniumPrinted, labelPrinted, composedPrinted, ionPrinted};
 ghost use Rattle.print_ion.specs.Fronts.{flagPrinted, analytePrinted, frontPrinted};
+use layout::ANALYTE_AT;
+use layout::ANALYTE_PRESENT_AT;
+use layout::KIND_AT;
+use layout::LAST_AT;
+use layout::LETTER_AT;
+use layout::MARKED_AT;
+use layout::POSITION_AT;
+use layout::TEXT_LENGTH_AT;
+use layout::UNIT_COUNT_AT;
+use limits::MAX_TEXT;
+use limits::MAX_UNITS;
 use numbers::put_number;
 use print_parts::at_most;
 use put_bytes::put_between;
@@ -54,13 +65,13 @@ fn put_enclosed(out: &mut [u8], to: usize, first: u8, w: &[u8], last: u8) -> usi
 pub fn ion_units(s: &[u8]) -> usize
     ensures { λ r. ⌜ r ≡ ionUnits (now (s .entry)) ⌝ }
 {
-    at_most(u16_at(rest(s, 30)), 12)
+    at_most(u16_at(rest(s, UNIT_COUNT_AT)), MAX_UNITS)
 }
 
 pub fn ion_bytes(s: &[u8]) -> usize
     ensures { λ r. ⌜ r ≡ ionBytes (now (s .entry)) ⌝ }
 {
-    at_most(u16_at(rest(s, 28)), 255)
+    at_most(u16_at(rest(s, TEXT_LENGTH_AT)), MAX_TEXT)
 }
 
 // ---- ions: s begins with the record, w is the text
@@ -69,8 +80,8 @@ pub fn ion_bytes(s: &[u8]) -> usize
 fn print_series(out: &mut [u8], to: usize, s: &[u8], w: &[u8]) -> usize
     ensures { λ r. ⌜ Put (now (out .entry)) to (positionPrinted (now (s .entry)) (now (w .entry))) (now (out .exit)) r ⌝ }
 {
-    let a = put_series(out, to, byte_of(s, 3));
-    let b = put_number(out, a, u16_at(rest(s, 6)) as u64);
+    let a = put_series(out, to, byte_of(s, LETTER_AT));
+    let b = put_number(out, a, u16_at(rest(s, POSITION_AT)) as u64);
     put_enclosed(out, b, b'{', w, b'}')
 }
 
@@ -79,9 +90,9 @@ fn print_internal(out: &mut [u8], to: usize, s: &[u8], w: &[u8]) -> usize
     ensures { λ r. ⌜ Put (now (out .entry)) to (internalPrinted (now (s .entry)) (now (w .entry))) (now (out .exit)) r ⌝ }
 {
     let a = put8(out, to, b'm');
-    let b = put_number(out, a, u16_at(rest(s, 6)) as u64);
+    let b = put_number(out, a, u16_at(rest(s, POSITION_AT)) as u64);
     let c = put8(out, b, b':');
-    let d = put_number(out, c, u16_at(rest(s, 8)) as u64);
+    let d = put_number(out, c, u16_at(rest(s, LAST_AT)) as u64);
     put_enclosed(out, d, b'{', w, b'}')
 }
 
@@ -90,7 +101,7 @@ fn print_immonium(out: &mut [u8], to: usize, s: &[u8], w: &[u8]) -> usize
     ensures { λ r. ⌜ Put (now (out .entry)) to (immoniumPrinted (now (s .entry)) (now (w .entry))) (now (out .exit)) r ⌝ }
 {
     let a = put8(out, to, b'I');
-    let b = put8(out, a, byte_of(s, 3));
+    let b = put8(out, a, byte_of(s, LETTER_AT));
     put_enclosed(out, b, b'[', w, b']')
 }
 
@@ -99,7 +110,7 @@ fn print_unknown(out: &mut [u8], to: usize, s: &[u8]) -> usize
     ensures { λ r. ⌜ Put (now (out .entry)) to (labelPrinted (now (s .entry))) (now (out .exit)) r ⌝ }
 {
     let a = put8(out, to, b'?');
-    let n = u16_at(rest(s, 6));
+    let n = u16_at(rest(s, POSITION_AT));
     if n == 0 {
         return a;
     }
@@ -135,7 +146,7 @@ fn print_ion(out: &mut [u8], to: usize, s: &[u8], u: &[u8], t: &[u8]) -> usize
     ensures { λ r. ⌜ Put (now (out .entry)) to (ionPrinted (now (s .entry)) (now (u .entry)) (now (t .entry))) (now (out .exit)) r ⌝ }
 {
     let w = first_of(t, ion_bytes(s));
-    match byte_of(s, 0) {
+    match byte_of(s, KIND_AT) {
         1 => print_series(out, to, s, w),
         2 => print_internal(out, to, s, w),
         3 => print_immonium(out, to, s, w),
@@ -154,7 +165,7 @@ fn print_ion(out: &mut [u8], to: usize, s: &[u8], u: &[u8], t: &[u8]) -> usize
 fn print_flag(out: &mut [u8], to: usize, s: &[u8]) -> usize
     ensures { λ r. ⌜ Put (now (out .entry)) to (flagPrinted (now (s .entry))) (now (out .exit)) r ⌝ }
 {
-    if byte_of(s, 1) == 0 {
+    if byte_of(s, MARKED_AT) == 0 {
         return to;
     }
     put8(out, to, b'&')
@@ -163,10 +174,10 @@ fn print_flag(out: &mut [u8], to: usize, s: &[u8]) -> usize
 fn print_analyte(out: &mut [u8], to: usize, s: &[u8]) -> usize
     ensures { λ r. ⌜ Put (now (out .entry)) to (analytePrinted (now (s .entry))) (now (out .exit)) r ⌝ }
 {
-    if byte_of(s, 2) == 0 {
+    if byte_of(s, ANALYTE_PRESENT_AT) == 0 {
         return to;
     }
-    let a = put_number(out, to, u16_at(rest(s, 4)) as u64);
+    let a = put_number(out, to, u16_at(rest(s, ANALYTE_AT)) as u64);
     put8(out, a, b'@')
 }
 

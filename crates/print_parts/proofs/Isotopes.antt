@@ -15,6 +15,7 @@ use Rattle.rules.specs.Isotopes.{Shift, shiftText, shiftMap, Specific, specific
 use Rattle.rules.specs.Isotopes as rules
 use Rattle.rules.specs.Preferred.{shortened}
 use Rattle.rules.specs.Stored.{Field, stores, isotopeRecord, specificRecord, isotopeRecords}
+use Rattle.rules.specs.Layout.{isotopeWidth, isotopeNucleonsAt, isotopeElementAt}
 use Rattle.elements.proofs.SymbolsAgree.{which-below}
 use Rattle.put_formula.specs.Preferred.{symbolText}
 use Rattle.put_formula.specs.Chains.{chain}
@@ -47,7 +48,7 @@ isotope-told x kind nucleons element k w h e =
     let s = stores (isotopeRecord x kind nucleons element) ++ k in
     let n = writtenText (shortened (x .count)) in
     ap₂ (λ (a b : List ℕ). a ++ b) (sign-told (x .sign))
-    (ap₂ (λ (a b : List ℕ). a ++ (bytes "i" ++ b)) (ap countText (word-stored (x .count .value) (drop 4 s) h) ∙ number-text (x .count)) e)
+    (ap₂ (λ (a b : List ℕ). a ++ (bytes "i" ++ b)) (ap countText (word-stored (x .count .value) (drop isotopeNucleonsAt s) h) ∙ number-text (x .count)) e)
     ∙ ap (λ (a : List ℕ). signText (x .sign) ++ a) (sym (append-assoc n (bytes "i") w))
     ∙ sym (append-assoc (signText (x .sign)) (n ++ bytes "i") w)
 
@@ -65,8 +66,8 @@ unfolding whichPrinted
 which-told x k h =
     let s = stores (specificRecord x) ++ k in
     let z : atomicNumber (x .symbol) ≤ 65535 = omega (arith, which-below (x .symbol)) in
-    ap₂ (λ (a b : List ℕ). a ++ b) (ap digits (word-stored (x .nucleons .value) (drop 6 s) h))
-    (ap symbolText (word-stored (atomicNumber (x .symbol)) (drop 8 s) z) ∙ symbol-text (x .symbol))
+    ap₂ (λ (a b : List ℕ). a ++ b) (ap digits (word-stored (x .nucleons .value) (drop isotopeElementAt s) h))
+    (ap symbolText (word-stored (atomicNumber (x .symbol)) (drop isotopeWidth s) z) ∙ symbol-text (x .symbol))
 
 specific-told : (x : Specific Number) (k : List ℕ) → SpecificOk x → isotopePrinted (stores (specificRecord x) ++ k) ≡ specificText (specificMap shortened x)
 specific-told x k ok =
@@ -85,7 +86,7 @@ specifics-told : (xs : List (Specific Number)) (k : List ℕ) → ((x : Specific
     ≡ flat specificText (map (specificMap shortened) xs)
 specifics-told xs k ok =
     ap₂ (λ (n : ℕ) (s : List ℕ). isotopesPrinted n (s ++ k)) (length-map xs specificRecord) (sym (flat-map (λ (fs : List Field). stores fs) specificRecord xs))
-    ∙ chain-spelled isotopePrinted (λ r. 8) (λ x. stores (specificRecord x)) (λ x. specificText (specificMap shortened x)) SpecificOk (λ k. Unit {0})
+    ∙ chain-spelled isotopePrinted (λ r. isotopeWidth) (λ x. stores (specificRecord x)) (λ x. specificText (specificMap shortened x)) SpecificOk (λ k. Unit {0})
     (λ x ys j h e. specific-told x (flat (λ y. stores (specificRecord y)) ys ++ j) h) (λ x ys j h e. refl) xs k (all-in xs ok) tt
     ∙ flat-map specificText (specificMap shortened) xs
 

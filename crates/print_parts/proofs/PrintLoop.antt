@@ -8,6 +8,7 @@ use lib.Dec.{eqb}
 use lib.ListN.{length, getD, drop}
 use lib.Seq.{drop-drop}
 use Rattle.rules.specs.Limits.{maxUnits}
+use Rattle.rules.specs.Layout.{lossWidth, unitWidth, contentKindAt, contentSizeAt}
 use Rattle.put_bytes.specs.Puts.{maxPlace, Put}
 use Rattle.put_bytes.proofs.PutLoop.{PutSoFar, begin, more, ends}
 use Rattle.slices.proofs.Parts.{drop-min}
@@ -15,11 +16,11 @@ use Rattle.slices.specs.Numbers.{u16At}
 use Rattle.print_parts.specs.Changes.{changeUnits, changeName, changePrinted, changesPrinted, unitBytes, nameBytes, PrintsChanges}
 
 -- no more units than the limits allow
-pub few-units : (l : List ℕ) → changeUnits l ≤ 12
+pub few-units : (l : List ℕ) → changeUnits l ≤ maxUnits
 unfolding changeUnits
-few-units l = by (eqb (getD l 1 0) 0)
+few-units l = by (eqb (getD l contentKindAt 0) 0)
   where
-    by : (b : Bool) → cond b (min (u16At (drop 4 l)) maxUnits) 0 ≤ 12
+    by : (b : Bool) → cond b (min (u16At (drop contentSizeAt l)) maxUnits) 0 ≤ maxUnits
     by true = omega arith
     by false = omega arith
 
@@ -47,18 +48,18 @@ module _ (n : ℕ) (l u t : List ℕ) where
       }
 
   -- one more
-  units-more : (m row : ℕ) {row′ : ℕ} → row′ ≡ min (row + 6) (length l)
-      → unitBytes (suc m) (drop row l) ≡ 6 * changeUnits (drop row l) + unitBytes m (drop row′ l)
+  units-more : (m row : ℕ) {row′ : ℕ} → row′ ≡ min (row + lossWidth) (length l)
+      → unitBytes (suc m) (drop row l) ≡ unitWidth * changeUnits (drop row l) + unitBytes m (drop row′ l)
   unfolding unitBytes
-  units-more m row e = ap (λ (z : List ℕ). 6 * changeUnits (drop row l) + unitBytes m z) (further l row 6 e)
+  units-more m row e = ap (λ (z : List ℕ). unitWidth * changeUnits (drop row l) + unitBytes m z) (further l row lossWidth e)
 
-  names-more : (m row : ℕ) {row′ : ℕ} → row′ ≡ min (row + 6) (length l)
+  names-more : (m row : ℕ) {row′ : ℕ} → row′ ≡ min (row + lossWidth) (length l)
       → nameBytes (suc m) (drop row l) ≡ changeName (drop row l) + nameBytes m (drop row′ l)
   unfolding nameBytes
-  names-more m row e = ap (λ (z : List ℕ). changeName (drop row l) + nameBytes m z) (further l row 6 e)
+  names-more m row e = ap (λ (z : List ℕ). changeName (drop row l) + nameBytes m z) (further l row lossWidth e)
 
-  texts-more : (m row units text : ℕ) {row′ units′ text′ : ℕ} → row′ ≡ min (row + 6) (length l)
-      → units′ ≡ min (units + 6 * changeUnits (drop row l)) (length u) → text′ ≡ min (text + changeName (drop row l)) (length t)
+  texts-more : (m row units text : ℕ) {row′ units′ text′ : ℕ} → row′ ≡ min (row + lossWidth) (length l)
+      → units′ ≡ min (units + unitWidth * changeUnits (drop row l)) (length u) → text′ ≡ min (text + changeName (drop row l)) (length t)
       → changesPrinted (suc m) (drop row l) (drop units u) (drop text t)
       ≡ changePrinted (drop row l) (drop units u) (drop text t) ++ changesPrinted m (drop row′ l) (drop units′ u) (drop text′ t)
   unfolding changesPrinted
@@ -66,21 +67,21 @@ module _ (n : ℕ) (l u t : List ℕ) where
       let r = drop row l in
       let x = drop units u in
       let y = drop text t in
-      ap (λ (z : List ℕ). changePrinted r x y ++ changesPrinted m z (drop (6 * changeUnits r) x) (drop (changeName r) y)) (further l row 6 e)
-      ∙ ap₂ (λ (v w : List ℕ). changePrinted r x y ++ changesPrinted m (drop row′ l) v w) (further u units (6 * changeUnits r) f) (further t text (changeName r) g)
+      ap (λ (z : List ℕ). changePrinted r x y ++ changesPrinted m z (drop (unitWidth * changeUnits r) x) (drop (changeName r) y)) (further l row lossWidth e)
+      ∙ ap₂ (λ (v w : List ℕ). changePrinted r x y ++ changesPrinted m (drop row′ l) v w) (further u units (unitWidth * changeUnits r) f) (further t text (changeName r) g)
 
   pub changes-turn : {d e f r x y : List ℕ} {to at at′ row units text row′ units′ text′ i k w : ℕ} → Printing n l u t d to e at row units text i → i < n
       → r ≡ drop row l → x ≡ drop units u → y ≡ drop text t → Put e at (changePrinted r x y) f at′
-      → k ≡ changeUnits r → units′ ≡ min (units + 6 * k) (length u) → w ≡ changeName r → text′ ≡ min (text + w) (length t)
-      → row′ ≡ min (row + 6) (length l) → Printing n l u t d to f at′ row′ units′ text′ (i + 1)
+      → k ≡ changeUnits r → units′ ≡ min (units + unitWidth * k) (length u) → w ≡ changeName r → text′ ≡ min (text + w) (length t)
+      → row′ ≡ min (row + lossWidth) (length l) → Printing n l u t d to f at′ row′ units′ text′ (i + 1)
   changes-turn {row = row} {units = units} {text = text} {row′ = row′} {units′ = units′} {text′ = text′} {i = i} {k = k} {w = w} p h a b c put ek eu ew et er =
       let m = n - (i + 1) in
       let now : n - i ≡ suc m = omega arith in
       let many : k ≡ changeUnits (drop row l) = ek ∙ ap changeUnits a in
       let wide : w ≡ changeName (drop row l) = ew ∙ ap changeName a in
-      let f : units′ ≡ min (units + 6 * changeUnits (drop row l)) (length u) = eu ∙ ap (λ (z : ℕ). min (units + 6 * z) (length u)) many in
+      let f : units′ ≡ min (units + unitWidth * changeUnits (drop row l)) (length u) = eu ∙ ap (λ (z : ℕ). min (units + unitWidth * z) (length u)) many in
       let g : text′ ≡ min (text + changeName (drop row l)) (length t) = et ∙ ap (λ (z : ℕ). min (text + z) (length t)) wide in
-      let us : unitBytes (n - i) (drop row l) ≡ 6 * changeUnits (drop row l) + unitBytes m (drop row′ l) =
+      let us : unitBytes (n - i) (drop row l) ≡ unitWidth * changeUnits (drop row l) + unitBytes m (drop row′ l) =
       ap (λ (z : ℕ). unitBytes z (drop row l)) now ∙ units-more m row er in
       let ns : nameBytes (n - i) (drop row l) ≡ changeName (drop row l) + nameBytes m (drop row′ l) =
       ap (λ (z : ℕ). nameBytes z (drop row l)) now ∙ names-more m row er in

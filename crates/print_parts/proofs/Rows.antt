@@ -14,6 +14,8 @@ use Rattle.rules.specs.Formulas.{FormulaUnit, unitText, unitMap}
 use Rattle.rules.specs.Losses.{Sign, minus, plus, signText}
 use Rattle.rules.specs.Preferred.{shortened, signRank}
 use Rattle.rules.specs.Stored.{Field, u8, u16, stores, unitRecord}
+use Rattle.rules.specs.Limits.{maxUnits, maxText}
+use Rattle.rules.specs.Layout.{lossWidth, unitWidth, contentSizeAt}
 use Rattle.slices.specs.Numbers.{u16At}
 use Rattle.put_formula.specs.Preferred.{printedUnits}
 use Rattle.put_formula.proofs.Chains.{AllOf, all-none, all-more}
@@ -42,7 +44,7 @@ drop-part n l m e = ap (λ (k : ℕ). drop k (l ++ m)) e ∙ drop-append-seam l 
 abbrev pub unitRows : List (FormulaUnit Number) → List ℕ
 unitRows us = flat (λ u. stores (unitRecord u)) us
 
-unit-rows : (us : List (FormulaUnit Number)) → length (unitRows us) ≡ 6 * length us
+unit-rows : (us : List (FormulaUnit Number)) → length (unitRows us) ≡ unitWidth * length us
 unit-rows [] = refl
 unit-rows (u ∷ us) = omega (arith, length-append (stores (unitRecord u)) (unitRows us), unit-length u, unit-rows us)
 
@@ -50,7 +52,7 @@ unit-rows (u ∷ us) = omega (arith, length-append (stores (unitRecord u)) (unit
 
 -- bytes are the record of a change that has these units, this name and this text, whatever follows them
 pub record Tells (row : List ℕ) (us : List (FormulaUnit Number)) (name text : List ℕ) : Type 0 where
-  pub long : 6 ≡ length row
+  pub long : lossWidth ≡ length row
   pub units : (l : List ℕ) → changeUnits (row ++ l) ≡ length us
   pub names : (l : List ℕ) → changeName (row ++ l) ≡ length name
   pub texts : (l u t : List ℕ) → changePrinted (row ++ l) (unitRows us ++ u) (name ++ t) ≡ text
@@ -70,13 +72,13 @@ module _ (sign : Sign) (count : ℕ) (h : count ≤ 65535) (c : List ℕ) (says 
   told kind size l u t w e =
       ap₂ (λ (a b : List ℕ). a ++ b) (sign-told sign)
       (ap₂ (λ (a b : List ℕ). a ++ b)
-      (ap countText (word-stored count (drop 4 (stores (changeRecord (signRank sign) kind count size) ++ l)) h) ∙ says) e)
+      (ap countText (word-stored count (drop contentSizeAt (stores (changeRecord (signRank sign) kind count size) ++ l)) h) ∙ says) e)
 
-  pub formula-told : (us : List (FormulaUnit Number)) (size : ℕ) → size ≡ length us → length us ≤ 12 → AllOf (UnitUpTo 65535) us
+  pub formula-told : (us : List (FormulaUnit Number)) (size : ℕ) → size ≡ length us → length us ≤ maxUnits → AllOf (UnitUpTo 65535) us
       → Tells (stores (changeRecord (signRank sign) 0 count size)) us [] (signText sign ++ (c ++ flat unitText (map (unitMap shortened) us)))
   unfolding changeUnits changeName contentPrinted
   formula-told us size e few a =
-      let n : (l : List ℕ) → min (u16At (size % 256 ∷ size / 256 % 256 ∷ l)) 12 ≡ length us = λ l. omega (arith, word-stored size l (omega arith)) in
+      let n : (l : List ℕ) → min (u16At (size % 256 ∷ size / 256 % 256 ∷ l)) maxUnits ≡ length us = λ l. omega (arith, word-stored size l (omega arith)) in
       record {
         long = refl;
         units = n;
@@ -86,11 +88,11 @@ module _ (sign : Sign) (count : ℕ) (h : count ≤ 65535) (c : List ℕ) (says 
             (ap (λ (m : ℕ). printedUnits m (unitRows us ++ u)) (n l) ∙ printed-read us u a);
       }
 
-  pub name-told : (name : List ℕ) (size : ℕ) → size ≡ length name → length name ≤ 255
+  pub name-told : (name : List ℕ) (size : ℕ) → size ≡ length name → length name ≤ maxText
       → Tells (stores (changeRecord (signRank sign) 1 count size)) [] name (signText sign ++ (c ++ inBrackets name))
   unfolding changeUnits changeName contentPrinted
   name-told name size e short =
-      let n : (l : List ℕ) → min (u16At (size % 256 ∷ size / 256 % 256 ∷ l)) 255 ≡ length name = λ l. omega (arith, word-stored size l (omega arith)) in
+      let n : (l : List ℕ) → min (u16At (size % 256 ∷ size / 256 % 256 ∷ l)) maxText ≡ length name = λ l. omega (arith, word-stored size l (omega arith)) in
       record {
         long = refl;
         units = λ l. refl;
@@ -109,7 +111,7 @@ module _ (sign : Sign) (count : ℕ) (h : count ≤ 65535) (c : List ℕ) (says 
 -- n changes whose records l begins with, and what they have
 pub record Printed (n : ℕ) (l u t : List ℕ) (us : List (FormulaUnit Number)) (w text : List ℕ) : Type 0 where
   pub texts : changesPrinted n l u t ≡ text
-  pub units : unitBytes n l ≡ 6 * length us
+  pub units : unitBytes n l ≡ unitWidth * length us
   pub names : nameBytes n l ≡ length w
 
 -- the first and the others, each as bytes laid before what follows
@@ -117,18 +119,18 @@ more-printed : (n : ℕ) (r l u t : List ℕ) (us vs : List (FormulaUnit Number)
     → Printed n l u t vs names many → Printed (suc n) (r ++ l) (unitRows us ++ u) (w ++ t) (us ++ vs) (w ++ names) (one ++ many)
 unfolding changesPrinted unitBytes nameBytes
 more-printed n r l u t us vs w names one many p q =
-    let dl = drop-part 6 r l (p .long) in
+    let dl = drop-part lossWidth r l (p .long) in
     let k = p .units l in
     let m = p .names l in
-    let du : drop (6 * changeUnits (r ++ l)) (unitRows us ++ u) ≡ u = drop-part (6 * changeUnits (r ++ l)) (unitRows us) u (omega (arith, unit-rows us, k)) in
+    let du : drop (unitWidth * changeUnits (r ++ l)) (unitRows us ++ u) ≡ u = drop-part (unitWidth * changeUnits (r ++ l)) (unitRows us) u (omega (arith, unit-rows us, k)) in
     let dt : drop (changeName (r ++ l)) (w ++ t) ≡ t = drop-part (changeName (r ++ l)) w t m in
     record {
       texts =
           ap₂ (λ (a b : List ℕ). a ++ b) (p .texts l u t)
-          (ap (λ (z : List ℕ). changesPrinted n z (drop (6 * changeUnits (r ++ l)) (unitRows us ++ u)) (drop (changeName (r ++ l)) (w ++ t))) dl
+          (ap (λ (z : List ℕ). changesPrinted n z (drop (unitWidth * changeUnits (r ++ l)) (unitRows us ++ u)) (drop (changeName (r ++ l)) (w ++ t))) dl
           ∙ ap₂ (changesPrinted n l) du dt ∙ q .texts);
       units =
-          ap (λ (z : List ℕ). 6 * changeUnits (r ++ l) + unitBytes n z) dl ∙ omega (arith, k, q .units, length-append us vs);
+          ap (λ (z : List ℕ). unitWidth * changeUnits (r ++ l) + unitBytes n z) dl ∙ omega (arith, k, q .units, length-append us vs);
       names =
           ap (λ (z : List ℕ). changeName (r ++ l) + nameBytes n z) dl ∙ omega (arith, m, q .names, length-append w names);
     }

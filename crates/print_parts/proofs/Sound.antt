@@ -14,9 +14,10 @@ use Rattle.rules.specs.Isotopes.{Isotopes, no-isotope, plain-isotope, average-i
 use Rattle.rules.specs.Annotations.{Deviation, Annotation}
 use Rattle.rules.specs.House.{deviationRule}
 use Rattle.rules.specs.Stored.{Field, signed, specificRecord, isotopeRecords}
+use Rattle.rules.specs.Layout.{isotopeWidths}
 use Rattle.rules.proofs.OneRecord.{Fits}
 use Rattle.rules.proofs.Bounds.{Bounded}
-use Rattle.rules.proofs.FitParts.{UnitFits, isotopeWidths}
+use Rattle.rules.proofs.FitParts.{UnitFits}
 use Rattle.rules.proofs.FitDecimals.{DeviationFits}
 use Rattle.rules.proofs.FitAnnotations.{InRange}
 use Rattle.put_formula.proofs.PutUnits.{UnitUpTo}

@@ -12,6 +12,7 @@ use Rattle.rules.specs.Losses.{Sign, signText, Lost, lost-formula, lost-name, l
 use Rattle.rules.specs.Adducts.{Added, added-formula, electron, addedMap, addedText, Item, itemText, itemMap}
 use Rattle.rules.specs.Preferred.{shortened, signRank, countOr1}
 use Rattle.rules.specs.Stored.{stores, lostKind, lostUnits, lostName, lossRecord, addedKind, addedUnits, itemRecord}
+use Rattle.rules.specs.Limits.{maxUnits, maxText}
 use Rattle.put_formula.proofs.Chains.{flat-map}
 use Rattle.put_formula.proofs.PutUnits.{UnitUpTo}
 use Rattle.print_count.specs.Heads.{countText}
@@ -21,25 +22,25 @@ use Rattle.print_parts.proofs.Rows.{all-in, unitRows, Tells, changeReco
 -- numbers, units and name fit the fields of the record
 pub record LossOk (l : Loss Number) : Type 0 where
   pub count : countOr1 (l .count) ≤ 65535
-  pub few : length (lostUnits (l .what)) ≤ 12
+  pub few : length (lostUnits (l .what)) ≤ maxUnits
   pub units : (u : FormulaUnit Number) → In u (lostUnits (l .what)) → UnitUpTo 65535 u
-  pub name : length (lostName (l .what)) ≤ 255
+  pub name : length (lostName (l .what)) ≤ maxText
 
 pub record ItemOk (x : Item Number) : Type 0 where
   pub count : x .count .value ≤ 65535
-  pub few : length (addedUnits (x .what)) ≤ 12
+  pub few : length (addedUnits (x .what)) ≤ maxUnits
   pub units : (u : FormulaUnit Number) → In u (addedUnits (x .what)) → UnitUpTo 65535 u
 
 -- ---- one
 
 module _ (sign : Sign) (count : ℕ) (h : count ≤ 65535) (c : List ℕ) (says : countText count ≡ c) where
-  lost-told : (x : Lost Number) → length (lostUnits x) ≤ 12 → ((u : FormulaUnit Number) → In u (lostUnits x) → UnitUpTo 65535 u) → length (lostName x) ≤ 255
+  lost-told : (x : Lost Number) → length (lostUnits x) ≤ maxUnits → ((u : FormulaUnit Number) → In u (lostUnits x) → UnitUpTo 65535 u) → length (lostName x) ≤ maxText
       → Tells (stores (changeRecord (signRank sign) (lostKind x) count (length (lostUnits x) + length (lostName x)))) (lostUnits x) (lostName x)
       (signText sign ++ (c ++ lostText (lostMap shortened x)))
   lost-told (lost-formula f) few units short = formula-told sign count h c says (items f) (length (items f) + 0) (omega arith) few (all-in (items f) units)
   lost-told (lost-name n) few units short = name-told sign count h c says (n .bytes) (0 + length (n .bytes)) (omega arith) short
 
-  added-told : (x : Added Number) → length (addedUnits x) ≤ 12 → ((u : FormulaUnit Number) → In u (addedUnits x) → UnitUpTo 65535 u)
+  added-told : (x : Added Number) → length (addedUnits x) ≤ maxUnits → ((u : FormulaUnit Number) → In u (addedUnits x) → UnitUpTo 65535 u)
       → Tells (stores (changeRecord (signRank sign) (addedKind x) count (length (addedUnits x)))) (addedUnits x) []
       (signText sign ++ (c ++ addedText (addedMap shortened x)))
   added-told (added-formula f) few units = formula-told sign count h c says (items f) (length (items f)) refl few (all-in (items f) units)

@@ -16,27 +16,29 @@ use Rattle.rules.specs.Annotations as rules
 use Rattle.rules.specs.House.{deviationRule}
 use Rattle.rules.specs.Preferred.{countOr1}
 use Rattle.rules.specs.Stored.{stores, flag, present, valueOr0, deviationKind, signed, annotationRecord}
+use Rattle.rules.specs.Limits.{maxCharge, maxPlaces, maxDigits}
+use Rattle.rules.specs.Layout.{chargeAt, deviationKindAt, deviationPlacesAt, confidencePresentAt, confidencePlacesAt, deviationAt, confidenceAt, textLengthAt}
 use Rattle.slices.specs.Numbers.{u32At, u64At}
 use Rattle.print_parts.specs.Tails.{chargePrinted, signedSize, signedPrinted, deviationPrinted, confidencePrinted, tailPrinted}
 use Rattle.slices.proofs.StoredNumbers.{quad-stored, oct-stored}
 
 -- numbers fit the fields of the record, and no `-` stands before 0
 pub record TailOk (a : Annotation Number) : Type 0 where
-  pub charge : countOr1 (a .charge) ≤ 255
-  pub size : valueOr0 (λ d. d .size .value) (a .deviation) < 10 ^ 12
-  pub places : valueOr0 (λ d. d .size .places) (a .deviation) ≤ 9
+  pub charge : countOr1 (a .charge) ≤ maxCharge
+  pub size : valueOr0 (λ d. d .size .value) (a .deviation) < 10 ^ maxDigits
+  pub places : valueOr0 (λ d. d .size .places) (a .deviation) ≤ maxPlaces
   pub sign : T (deviationRule (a .deviation))
   pub share : valueOr0 (λ d. d .value) (a .confidence) < 2 ^ 32
-  pub decimals : valueOr0 (λ d. d .places) (a .confidence) ≤ 9
+  pub decimals : valueOr0 (λ d. d .places) (a .confidence) ≤ maxPlaces
 
 -- ---- from the fields alone
 
-charge-told : (s : List ℕ) (c : Opt (From 2)) → getD s 10 0 ≡ countOr1 c → chargePrinted s ≡ optText rules.chargeText c
+charge-told : (s : List ℕ) (c : Opt (From 2)) → getD s chargeAt 0 ≡ countOr1 c → chargePrinted s ≡ optText rules.chargeText c
 unfolding chargePrinted
 charge-told s silent e = rw e
 charge-told s (written n) e = let h : 1 < n .value = omega (arith, leb→le 2 (n .value) (n .least)) in rw (e, lt-leb (n .value) 1 h)
 
-signed-told : (m : Bool) (v places : ℕ) → v < 10 ^ 12 → T (not m || leb 1 v)
+signed-told : (m : Bool) (v places : ℕ) → v < 10 ^ maxDigits → T (not m || leb 1 v)
     → signedPrinted (signed m v) places ≡ flagText (bytes "-") m ++ decimalText (record { value = v; places = places })
 unfolding signedPrinted
 signed-told true v places h g =
@@ -54,8 +56,8 @@ kind-told : (ppm : Bool) (w : List ℕ) → cond (eqb (1 + flag ppm) 0) [] (byte
 kind-told true w = refl
 kind-told false w = refl
 
-deviation-told : (s : List ℕ) (x : Opt Deviation) → getD s 11 0 ≡ deviationKind x → getD s 12 0 ≡ valueOr0 (λ d. d .size .places) x
-    → u64At (drop 16 s) ≡ valueOr0 (λ d. signed (d .minus) (d .size .value)) x → valueOr0 (λ d. d .size .value) x < 10 ^ 12 → T (deviationRule x)
+deviation-told : (s : List ℕ) (x : Opt Deviation) → getD s deviationKindAt 0 ≡ deviationKind x → getD s deviationPlacesAt 0 ≡ valueOr0 (λ d. d .size .places) x
+    → u64At (drop deviationAt s) ≡ valueOr0 (λ d. signed (d .minus) (d .size .value)) x → valueOr0 (λ d. d .size .value) x < 10 ^ maxDigits → T (deviationRule x)
     → deviationPrinted s ≡ optText rules.deviationText x
 unfolding deviationPrinted
 deviation-told s silent k p v h g = rw k
@@ -67,8 +69,8 @@ deviation-told s (written d) k p v h g =
     ∙ ap (λ (w : List ℕ). bytes "/" ++ (w ++ flagText (bytes "ppm") (d .ppm))) (signed-told (d .minus) (d .size .value) (d .size .places) h g)
     ∙ ap (λ (w : List ℕ). bytes "/" ++ w) (append-assoc minus size (flagText (bytes "ppm") (d .ppm))))
 
-confidence-told : (s : List ℕ) (x : Opt Decimal) → getD s 13 0 ≡ present x → getD s 14 0 ≡ valueOr0 (λ d. d .places) x
-    → u32At (drop 24 s) ≡ valueOr0 (λ d. d .value) x → confidencePrinted s ≡ optText rules.confidenceText x
+confidence-told : (s : List ℕ) (x : Opt Decimal) → getD s confidencePresentAt 0 ≡ present x → getD s confidencePlacesAt 0 ≡ valueOr0 (λ d. d .places) x
+    → u32At (drop confidenceAt s) ≡ valueOr0 (λ d. d .value) x → confidencePrinted s ≡ optText rules.confidenceText x
 unfolding confidencePrinted
 confidence-told s silent k p v = rw k
 confidence-told s (written d) k p v = rw (k, p, v)
@@ -87,11 +89,11 @@ present-kept : {A : Type 0} (x : Opt A) → present x % 256 ≡ present x
 present-kept silent = refl
 present-kept (written x) = refl
 
-signed-kept : (x : Opt Deviation) → valueOr0 (λ d. d .size .value) x < 10 ^ 12 → T (deviationRule x) → valueOr0 (λ d. signed (d .minus) (d .size .value)) x < 2 ^ 64
+signed-kept : (x : Opt Deviation) → valueOr0 (λ d. d .size .value) x < 10 ^ maxDigits → T (deviationRule x) → valueOr0 (λ d. signed (d .minus) (d .size .value)) x < 2 ^ 64
 signed-kept silent h g = omega arith
 signed-kept (written d) h g = by (d .minus) (d .size .value) h g
   where
-    by : (m : Bool) (v : ℕ) → v < 10 ^ 12 → T (not m || leb 1 v) → signed m v < 2 ^ 64
+    by : (m : Bool) (v : ℕ) → v < 10 ^ maxDigits → T (not m || leb 1 v) → signed m v < 2 ^ 64
     by true v h g = let some = leb→le 1 v g in omega arith
     by false v h g = omega arith
 
@@ -108,6 +110,6 @@ tail-printed a k ok =
     ap₂ (λ (x y : List ℕ). x ++ y) (charge-told s (a .charge) (byte-kept (countOr1 (a .charge)) (ok .charge)))
     (ap₂ (λ (x y : List ℕ). x ++ y)
     (deviation-told s d (kind-kept d) (byte-kept (valueOr0 (λ d. d .size .places) d) (omega (arith, ok .places)))
-    (oct-stored (valueOr0 (λ d. signed (d .minus) (d .size .value)) d) (drop 24 s) (signed-kept d (ok .size) (ok .sign))) (ok .size) (ok .sign))
+    (oct-stored (valueOr0 (λ d. signed (d .minus) (d .size .value)) d) (drop confidenceAt s) (signed-kept d (ok .size) (ok .sign))) (ok .size) (ok .sign))
     (confidence-told s c (present-kept c) (byte-kept (valueOr0 (λ d. d .places) c) (omega (arith, ok .decimals)))
-    (quad-stored (valueOr0 (λ d. d .value) c) (drop 28 s) (ok .share))))
+    (quad-stored (valueOr0 (λ d. d .value) c) (drop textLengthAt s) (ok .share))))

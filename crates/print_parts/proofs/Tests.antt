@@ -11,6 +11,7 @@ use Rattle.rules.specs.Numbers.{digits}
 use Rattle.rules.specs.Texts.{inBrackets}
 use Rattle.rules.specs.Limits.{maxUnits, maxText}
 use Rattle.rules.specs.Decimals.{decimalText}
+use Rattle.rules.specs.Layout.{chargeAt, deviationKindAt, deviationPlacesAt, confidencePresentAt, confidencePlacesAt, deviationAt, confidenceAt, signAt, contentKindAt, countAt, contentSizeAt, isotopeKindAt, isotopeNucleonsAt, isotopeElementAt}
 use Rattle.slices.specs.Numbers.{u16At}
 use Rattle.put_formula.specs.Preferred.{symbolText, printedUnits}
 use Rattle.print_count.specs.Heads.{signBytes, countText, headText}
@@ -21,42 +22,42 @@ use Rattle.print_parts.specs.Tails.{chargePrinted, signedSize, signedPri
 
 -- ---- losses and adduct items
 
-module _ (l : List ℕ) {kind : ℕ} (is : kind ≡ getD l 1 0) where
-  at-word : {t : List ℕ} {w n : ℕ} (m : ℕ) → t ≡ drop 4 l → w ≡ u16At t → n ≡ min w m → n ≡ min (u16At (drop 4 l)) m
+module _ (l : List ℕ) {kind : ℕ} (is : kind ≡ getD l contentKindAt 0) where
+  at-word : {t : List ℕ} {w n : ℕ} (m : ℕ) → t ≡ drop contentSizeAt l → w ≡ u16At t → n ≡ min w m → n ≡ min (u16At (drop contentSizeAt l)) m
   at-word m e p q = q ∙ ap (λ (v : ℕ). min v m) (p ∙ ap u16At e)
 
-  pub units-some : {t : List ℕ} {w n : ℕ} → kind ≡ 0 → t ≡ drop 4 l → w ≡ u16At t → n ≡ min w maxUnits → n ≡ changeUnits l
+  pub units-some : {t : List ℕ} {w n : ℕ} → kind ≡ 0 → t ≡ drop contentSizeAt l → w ≡ u16At t → n ≡ min w maxUnits → n ≡ changeUnits l
   unfolding changeUnits
-  units-some h e p q = rw (eq-eqb (getD l 1 0) 0 (sym is ∙ h)) (at-word maxUnits e p q)
+  units-some h e p q = rw (eq-eqb (getD l contentKindAt 0) 0 (sym is ∙ h)) (at-word maxUnits e p q)
 
   pub units-none : (kind ≡ 0 → ⊥) → 0 ≡ changeUnits l
   unfolding changeUnits
-  units-none h = rw (ne-eqb (getD l 1 0) 0 (λ z. h (is ∙ z)))
+  units-none h = rw (ne-eqb (getD l contentKindAt 0) 0 (λ z. h (is ∙ z)))
 
-  pub name-some : {t : List ℕ} {w n : ℕ} → kind ≡ 1 → t ≡ drop 4 l → w ≡ u16At t → n ≡ min w maxText → n ≡ changeName l
+  pub name-some : {t : List ℕ} {w n : ℕ} → kind ≡ 1 → t ≡ drop contentSizeAt l → w ≡ u16At t → n ≡ min w maxText → n ≡ changeName l
   unfolding changeName
-  name-some h e p q = rw (eq-eqb (getD l 1 0) 1 (sym is ∙ h)) (at-word maxText e p q)
+  name-some h e p q = rw (eq-eqb (getD l contentKindAt 0) 1 (sym is ∙ h)) (at-word maxText e p q)
 
   pub name-none : (kind ≡ 1 → ⊥) → 0 ≡ changeName l
   unfolding changeName
-  name-none h = rw (ne-eqb (getD l 1 0) 1 (λ z. h (is ∙ z)))
+  name-none h = rw (ne-eqb (getD l contentKindAt 0) 1 (λ z. h (is ∙ z)))
 
   module _ (u t : List ℕ) where
     pub what-units : {n : ℕ} → kind ≡ 0 → n ≡ changeUnits l → printedUnits n u ≡ contentPrinted l u t
     unfolding contentPrinted
-    what-units h e = rw (eq-eqb (getD l 1 0) 0 (sym is ∙ h), e)
+    what-units h e = rw (eq-eqb (getD l contentKindAt 0) 0 (sym is ∙ h), e)
 
     pub what-name : {n : ℕ} {w : List ℕ} → (kind ≡ 0 → ⊥) → kind ≡ 1 → n ≡ changeName l → w ≡ take n t → inBrackets w ≡ contentPrinted l u t
     unfolding contentPrinted
-    what-name g h e q = rw (ne-eqb (getD l 1 0) 0 (λ z. g (is ∙ z)), eq-eqb (getD l 1 0) 1 (sym is ∙ h), q, e)
+    what-name g h e q = rw (ne-eqb (getD l contentKindAt 0) 0 (λ z. g (is ∙ z)), eq-eqb (getD l contentKindAt 0) 1 (sym is ∙ h), q, e)
 
     pub what-electron : (kind ≡ 0 → ⊥) → (kind ≡ 1 → ⊥) → bytes "e" ≡ contentPrinted l u t
     unfolding contentPrinted
-    what-electron g h = rw (ne-eqb (getD l 1 0) 0 (λ z. g (is ∙ z)), ne-eqb (getD l 1 0) 1 (λ z. h (is ∙ z)))
+    what-electron g h = rw (ne-eqb (getD l contentKindAt 0) 0 (λ z. g (is ∙ z)), ne-eqb (getD l contentKindAt 0) 1 (λ z. h (is ∙ z)))
 
 -- sign and count, of a loss, an item or an isotope
-module _ (s : List ℕ) {t : List ℕ} {sign count : ℕ} (a : sign ≡ getD s 0 0) (e : t ≡ drop 2 s) (b : count ≡ u16At t) where
-  opening : (w : List ℕ) → headText sign count ++ w ≡ signBytes (getD s 0 0) ++ (countText (u16At (drop 2 s)) ++ w)
+module _ (s : List ℕ) {t : List ℕ} {sign count : ℕ} (a : sign ≡ getD s signAt 0) (e : t ≡ drop countAt s) (b : count ≡ u16At t) where
+  opening : (w : List ℕ) → headText sign count ++ w ≡ signBytes (getD s signAt 0) ++ (countText (u16At (drop countAt s)) ++ w)
   opening w = append-assoc (signBytes sign) (countText count) w ∙ ap₂ (λ (x y : ℕ). signBytes x ++ (countText y ++ w)) a (b ∙ ap u16At e)
 
   pub change-made : (u t : List ℕ) → headText sign count ++ contentPrinted s u t ≡ changePrinted s u t
@@ -69,32 +70,32 @@ module _ (s : List ℕ) {t : List ℕ} {sign count : ℕ} (a : sign ≡ getD s 0
 
 -- ---- isotopes
 
-module _ (s : List ℕ) {kind : ℕ} (is : kind ≡ getD s 1 0) where
+module _ (s : List ℕ) {kind : ℕ} (is : kind ≡ getD s isotopeKindAt 0) where
   pub which-plain : kind ≡ 0 → [] ≡ whichPrinted s
   unfolding whichPrinted
-  which-plain h = rw (eq-eqb (getD s 1 0) 0 (sym is ∙ h))
+  which-plain h = rw (eq-eqb (getD s isotopeKindAt 0) 0 (sym is ∙ h))
 
   pub which-average : (kind ≡ 0 → ⊥) → kind ≡ 1 → bytes "A" ≡ whichPrinted s
   unfolding whichPrinted
-  which-average g h = rw (ne-eqb (getD s 1 0) 0 (λ z. g (is ∙ z)), eq-eqb (getD s 1 0) 1 (sym is ∙ h))
+  which-average g h = rw (ne-eqb (getD s isotopeKindAt 0) 0 (λ z. g (is ∙ z)), eq-eqb (getD s isotopeKindAt 0) 1 (sym is ∙ h))
 
-  pub which-specific : {t r : List ℕ} {a b : ℕ} → (kind ≡ 0 → ⊥) → (kind ≡ 1 → ⊥) → t ≡ drop 4 s → a ≡ u16At t → r ≡ drop 6 s → b ≡ u16At r
+  pub which-specific : {t r : List ℕ} {a b : ℕ} → (kind ≡ 0 → ⊥) → (kind ≡ 1 → ⊥) → t ≡ drop isotopeNucleonsAt s → a ≡ u16At t → r ≡ drop isotopeElementAt s → b ≡ u16At r
       → digits a ++ symbolText b ≡ whichPrinted s
   unfolding whichPrinted
   which-specific g h e p f q =
-      rw (ne-eqb (getD s 1 0) 0 (λ z. g (is ∙ z)), ne-eqb (getD s 1 0) 1 (λ z. h (is ∙ z)))
+      rw (ne-eqb (getD s isotopeKindAt 0) 0 (λ z. g (is ∙ z)), ne-eqb (getD s isotopeKindAt 0) 1 (λ z. h (is ∙ z)))
       (ap₂ (λ (m n : ℕ). digits m ++ symbolText n) (p ∙ ap u16At e) (q ∙ ap u16At f))
 
 -- ---- charge, deviation, confidence
 
 module _ (s : List ℕ) where
-  pub charge-one : {n : ℕ} → n ≡ getD s 10 0 → n ≤ 1 → [] ≡ chargePrinted s
+  pub charge-one : {n : ℕ} → n ≡ getD s chargeAt 0 → n ≤ 1 → [] ≡ chargePrinted s
   unfolding chargePrinted
-  charge-one e h = rw (le-leb (getD s 10 0) 1 (omega arith))
+  charge-one e h = rw (le-leb (getD s chargeAt 0) 1 (omega arith))
 
-  pub charge-more : {n : ℕ} → n ≡ getD s 10 0 → 1 < n → bytes "^" ++ digits n ≡ chargePrinted s
+  pub charge-more : {n : ℕ} → n ≡ getD s chargeAt 0 → 1 < n → bytes "^" ++ digits n ≡ chargePrinted s
   unfolding chargePrinted
-  charge-more e h = rw (lt-leb (getD s 10 0) 1 (omega arith)) (ap (λ (m : ℕ). bytes "^" ++ digits m) e)
+  charge-more e h = rw (lt-leb (getD s chargeAt 0) 1 (omega arith)) (ap (λ (m : ℕ). bytes "^" ++ digits m) e)
 
 pub size-plus : (v : ℕ) → v < 9223372036854775808 → v ≡ signedSize v
 size-plus v h = rw (lt-ltb v 9223372036854775808 h)
@@ -115,34 +116,34 @@ module _ (v places : ℕ) {size : ℕ} (is : size ≡ signedSize v) where
       ap (λ (n : ℕ). bytes "-" ++ decimalText (record { value = n; places = places })) is
       ∙ ap (λ (b : Bool). cond b [] (bytes "-") ++ decimalText (record { value = signedSize v; places = places })) (sym (le-ltb v 9223372036854775808 h))
 
-module _ (s : List ℕ) {kind : ℕ} (is : kind ≡ getD s 11 0) where
+module _ (s : List ℕ) {kind : ℕ} (is : kind ≡ getD s deviationKindAt 0) where
   pub deviation-none : kind ≡ 0 → [] ≡ deviationPrinted s
   unfolding deviationPrinted
-  deviation-none h = rw (eq-eqb (getD s 11 0) 0 (sym is ∙ h))
+  deviation-none h = rw (eq-eqb (getD s deviationKindAt 0) 0 (sym is ∙ h))
 
-  pub deviation-plain : {t : List ℕ} {v p : ℕ} → (kind ≡ 0 → ⊥) → kind ≡ 1 → t ≡ drop 16 s → v ≡ u64At t → p ≡ getD s 12 0
+  pub deviation-plain : {t : List ℕ} {v p : ℕ} → (kind ≡ 0 → ⊥) → kind ≡ 1 → t ≡ drop deviationAt s → v ≡ u64At t → p ≡ getD s deviationPlacesAt 0
       → bytes "/" ++ signedPrinted v p ≡ deviationPrinted s
   unfolding deviationPrinted
   deviation-plain {t} {v} {p} g h e q f =
-      rw (ne-eqb (getD s 11 0) 0 (λ z. g (is ∙ z)), eq-eqb (getD s 11 0) 1 (sym is ∙ h))
+      rw (ne-eqb (getD s deviationKindAt 0) 0 (λ z. g (is ∙ z)), eq-eqb (getD s deviationKindAt 0) 1 (sym is ∙ h))
       (ap₂ (λ (m n : ℕ). bytes "/" ++ signedPrinted m n) (q ∙ ap u64At e) f
-      ∙ ap (λ (w : List ℕ). bytes "/" ++ w) (sym (append-nil (signedPrinted (u64At (drop 16 s)) (getD s 12 0)))))
+      ∙ ap (λ (w : List ℕ). bytes "/" ++ w) (sym (append-nil (signedPrinted (u64At (drop deviationAt s)) (getD s deviationPlacesAt 0)))))
 
-  pub deviation-ppm : {t : List ℕ} {v p : ℕ} → (kind ≡ 0 → ⊥) → (kind ≡ 1 → ⊥) → t ≡ drop 16 s → v ≡ u64At t → p ≡ getD s 12 0
+  pub deviation-ppm : {t : List ℕ} {v p : ℕ} → (kind ≡ 0 → ⊥) → (kind ≡ 1 → ⊥) → t ≡ drop deviationAt s → v ≡ u64At t → p ≡ getD s deviationPlacesAt 0
       → bytes "/" ++ (signedPrinted v p ++ bytes "ppm") ≡ deviationPrinted s
   unfolding deviationPrinted
   deviation-ppm g h e q f =
-      rw (ne-eqb (getD s 11 0) 0 (λ z. g (is ∙ z)), ne-eqb (getD s 11 0) 1 (λ z. h (is ∙ z)))
+      rw (ne-eqb (getD s deviationKindAt 0) 0 (λ z. g (is ∙ z)), ne-eqb (getD s deviationKindAt 0) 1 (λ z. h (is ∙ z)))
       (ap₂ (λ (m n : ℕ). bytes "/" ++ (signedPrinted m n ++ bytes "ppm")) (q ∙ ap u64At e) f)
 
-module _ (s : List ℕ) {kind : ℕ} (is : kind ≡ getD s 13 0) where
+module _ (s : List ℕ) {kind : ℕ} (is : kind ≡ getD s confidencePresentAt 0) where
   pub confidence-none : kind ≡ 0 → [] ≡ confidencePrinted s
   unfolding confidencePrinted
-  confidence-none h = rw (eq-eqb (getD s 13 0) 0 (sym is ∙ h))
+  confidence-none h = rw (eq-eqb (getD s confidencePresentAt 0) 0 (sym is ∙ h))
 
-  pub confidence-some : {t : List ℕ} {v p : ℕ} → (kind ≡ 0 → ⊥) → t ≡ drop 24 s → v ≡ u32At t → p ≡ getD s 14 0
+  pub confidence-some : {t : List ℕ} {v p : ℕ} → (kind ≡ 0 → ⊥) → t ≡ drop confidenceAt s → v ≡ u32At t → p ≡ getD s confidencePlacesAt 0
       → bytes "*" ++ decimalText (record { value = v; places = p }) ≡ confidencePrinted s
   unfolding confidencePrinted
   confidence-some g e q f =
-      rw (ne-eqb (getD s 13 0) 0 (λ z. g (is ∙ z)))
+      rw (ne-eqb (getD s confidencePresentAt 0) 0 (λ z. g (is ∙ z)))
       (ap₂ (λ (m n : ℕ). bytes "*" ++ decimalText (record { value = m; places = n })) (q ∙ ap u32At e) f)

@@ -8,6 +8,7 @@ use lib.ListN.{length, getD, take, drop}
 use Rattle.rules.specs.Bytes.{bytes}
 use Rattle.rules.specs.Texts.{inBrackets}
 use Rattle.rules.specs.Limits.{maxUnits, maxText}
+use Rattle.rules.specs.Layout.{lossWidth, unitWidth, signAt, contentKindAt, countAt, contentSizeAt}
 use Rattle.put_bytes.specs.Puts.{Put}
 use Rattle.slices.specs.Numbers.{u16At}
 use Rattle.put_formula.specs.Preferred.{printedUnits}
@@ -17,31 +18,31 @@ use Rattle.print_parts.specs.Numbers.{upTo}
 
 -- how many units, and how many bytes of a name; no more than the limits allow
 unfoldable pub changeUnits : List ℕ → ℕ
-changeUnits l = cond (eqb (getD l 1 0) 0) (upTo (u16At (drop 4 l)) maxUnits) 0
+changeUnits l = cond (eqb (getD l contentKindAt 0) 0) (upTo (u16At (drop contentSizeAt l)) maxUnits) 0
 
 unfoldable pub changeName : List ℕ → ℕ
-changeName l = cond (eqb (getD l 1 0) 1) (upTo (u16At (drop 4 l)) maxText) 0
+changeName l = cond (eqb (getD l contentKindAt 0) 1) (upTo (u16At (drop contentSizeAt l)) maxText) 0
 
 unfoldable pub contentPrinted : List ℕ → List ℕ → List ℕ → List ℕ
 contentPrinted l u t =
-    cond (eqb (getD l 1 0) 0) (printedUnits (changeUnits l) u) (cond (eqb (getD l 1 0) 1) (inBrackets (take (changeName l) t)) (bytes "e"))
+    cond (eqb (getD l contentKindAt 0) 0) (printedUnits (changeUnits l) u) (cond (eqb (getD l contentKindAt 0) 1) (inBrackets (take (changeName l) t)) (bytes "e"))
 
 unfoldable pub changePrinted : List ℕ → List ℕ → List ℕ → List ℕ
-changePrinted l u t = signBytes (getD l 0 0) ++ (countText (u16At (drop 2 l)) ++ contentPrinted l u t)
+changePrinted l u t = signBytes (getD l signAt 0) ++ (countText (u16At (drop countAt l)) ++ contentPrinted l u t)
 
 -- n of them
 unfoldable pub changesPrinted : ℕ → List ℕ → List ℕ → List ℕ → List ℕ
 changesPrinted zero l u t = []
-changesPrinted (suc n) l u t = changePrinted l u t ++ changesPrinted n (drop 6 l) (drop (6 * changeUnits l) u) (drop (changeName l) t)
+changesPrinted (suc n) l u t = changePrinted l u t ++ changesPrinted n (drop lossWidth l) (drop (unitWidth * changeUnits l) u) (drop (changeName l) t)
 
 -- how many bytes of units, and of names, n of them have
 unfoldable pub unitBytes : ℕ → List ℕ → ℕ
 unitBytes zero l = 0
-unitBytes (suc n) l = 6 * changeUnits l + unitBytes n (drop 6 l)
+unitBytes (suc n) l = unitWidth * changeUnits l + unitBytes n (drop lossWidth l)
 
 unfoldable pub nameBytes : ℕ → List ℕ → ℕ
 nameBytes zero l = 0
-nameBytes (suc n) l = changeName l + nameBytes n (drop 6 l)
+nameBytes (suc n) l = changeName l + nameBytes n (drop lossWidth l)
 
 -- output d is e after n of them are printed at a place, as far as u and t go
 pub record PrintsChanges (n : ℕ) (l u t d : List ℕ) (to : ℕ) (e : List ℕ) (r : PrintedTo) : Type 0 where

@@ -9,6 +9,27 @@ ghost use Rattle.slices.specs.Numbers.{u32At, u64At};
 ghost use Rattle.print_parts.specs.Changes.{changeUnits, changeName, contentPrinted, changePrinted, PrintsChanges};
 ghost use Rattle.print_parts.specs.Isotopes.{whichPrinted, isotopePrinted, isotopesPrinted};
 ghost use Rattle.print_parts.specs.Tails.{chargePrinted, signedSize, signedPrinted, deviationPrinted, confidencePrinted, tailPrinted};
+use layout::CHARGE_AT;
+use layout::CONFIDENCE_AT;
+use layout::CONFIDENCE_PLACES_AT;
+use layout::CONFIDENCE_PRESENT_AT;
+use layout::CONTENT_KIND_AT;
+use layout::CONTENT_SIZE_AT;
+use layout::COUNT_AT;
+use layout::DEVIATION_AT;
+use layout::DEVIATION_KIND_AT;
+use layout::DEVIATION_PLACES_AT;
+use layout::ISOTOPE_ELEMENT_AT;
+use layout::ISOTOPE_KIND_AT;
+use layout::ISOTOPE_NUCLEONS_AT;
+use layout::ISOTOPE_SHIFT_AT;
+use layout::ISOTOPE_SIGN_AT;
+use layout::ISOTOPE_SIZE;
+use layout::LOSS_SIZE;
+use layout::SIGN_AT;
+use layout::UNIT_SIZE;
+use limits::MAX_TEXT;
+use limits::MAX_UNITS;
 use numbers::put_number;
 use numbers::put_pointed;
 use print_count::put_head;
@@ -51,8 +72,8 @@ pub fn at_most(n: u16, most: usize) -> usize
 pub fn units_of(l: &[u8]) -> usize
     ensures { λ r. ⌜ r ≡ changeUnits (now (l .entry)) ⌝ }
 {
-    if byte_of(l, 1) == 0 {
-        return at_most(u16_at(rest(l, 4)), 12);
+    if byte_of(l, CONTENT_KIND_AT) == 0 {
+        return at_most(u16_at(rest(l, CONTENT_SIZE_AT)), MAX_UNITS);
     }
     0
 }
@@ -61,8 +82,8 @@ pub fn units_of(l: &[u8]) -> usize
 pub fn name_of(l: &[u8]) -> usize
     ensures { λ r. ⌜ r ≡ changeName (now (l .entry)) ⌝ }
 {
-    if byte_of(l, 1) == 1 {
-        return at_most(u16_at(rest(l, 4)), 255);
+    if byte_of(l, CONTENT_KIND_AT) == 1 {
+        return at_most(u16_at(rest(l, CONTENT_SIZE_AT)), MAX_TEXT);
     }
     0
 }
@@ -71,7 +92,7 @@ pub fn name_of(l: &[u8]) -> usize
 fn print_content(out: &mut [u8], to: usize, l: &[u8], u: &[u8], t: &[u8]) -> usize
     ensures { λ r. ⌜ Put (now (out .entry)) to (contentPrinted (now (l .entry)) (now (u .entry)) (now (t .entry))) (now (out .exit)) r ⌝ }
 {
-    let kind = byte_of(l, 1);
+    let kind = byte_of(l, CONTENT_KIND_AT);
     if kind == 0 {
         return print_units(out, to, u, units_of(l));
     }
@@ -85,7 +106,12 @@ fn print_content(out: &mut [u8], to: usize, l: &[u8], u: &[u8], t: &[u8]) -> usi
 pub fn print_change(out: &mut [u8], to: usize, l: &[u8], u: &[u8], t: &[u8]) -> usize
     ensures { λ r. ⌜ Put (now (out .entry)) to (changePrinted (now (l .entry)) (now (u .entry)) (now (t .entry))) (now (out .exit)) r ⌝ }
 {
-    let a = put_head(out, to, byte_of(l, 0), u16_at(rest(l, 2)) as u32);
+    let a = put_head(
+        out,
+        to,
+        byte_of(l, SIGN_AT),
+        u16_at(rest(l, COUNT_AT)) as u32,
+    );
     print_content(out, a, l, u, t)
 }
 
@@ -101,9 +127,9 @@ pub fn print_changes(out: &mut [u8], to: usize, l: &[u8], u: &[u8], t: &[u8], n:
     while i < n {
         let r = rest(l, row);
         at = print_change(out, at, r, rest(u, units), rest(t, text));
-        units = advance(units, 6 * units_of(r), u.len());
+        units = advance(units, UNIT_SIZE * units_of(r), u.len());
         text = advance(text, name_of(r), t.len());
-        row = advance(row, 6, l.len());
+        row = advance(row, LOSS_SIZE, l.len());
         i += 1;
     }
     PrintedTo {
@@ -119,22 +145,27 @@ pub fn print_changes(out: &mut [u8], to: usize, l: &[u8], u: &[u8], t: &[u8], n:
 fn print_which(out: &mut [u8], to: usize, s: &[u8]) -> usize
     ensures { λ r. ⌜ Put (now (out .entry)) to (whichPrinted (now (s .entry))) (now (out .exit)) r ⌝ }
 {
-    let kind = byte_of(s, 1);
+    let kind = byte_of(s, ISOTOPE_KIND_AT);
     if kind == 0 {
         return to;
     }
     if kind == 1 {
         return put8(out, to, b'A');
     }
-    let a = put_number(out, to, u16_at(rest(s, 4)) as u64);
-    put_symbol(out, a, u16_at(rest(s, 6)))
+    let a = put_number(out, to, u16_at(rest(s, ISOTOPE_NUCLEONS_AT)) as u64);
+    put_symbol(out, a, u16_at(rest(s, ISOTOPE_ELEMENT_AT)))
 }
 
 // The isotope whose record a part begins with.
 fn print_isotope(out: &mut [u8], to: usize, s: &[u8]) -> usize
     ensures { λ r. ⌜ Put (now (out .entry)) to (isotopePrinted (now (s .entry))) (now (out .exit)) r ⌝ }
 {
-    let a = put_head(out, to, byte_of(s, 0), u16_at(rest(s, 2)) as u32);
+    let a = put_head(
+        out,
+        to,
+        byte_of(s, ISOTOPE_SIGN_AT),
+        u16_at(rest(s, ISOTOPE_SHIFT_AT)) as u32,
+    );
     let b = put8(out, a, b'i');
     print_which(out, b, s)
 }
@@ -148,7 +179,7 @@ pub fn print_isotopes(out: &mut [u8], to: usize, s: &[u8], n: usize) -> usize
     let mut i: usize = 0;
     while i < n {
         at = print_isotope(out, at, rest(s, from));
-        from = advance(from, 8, s.len());
+        from = advance(from, ISOTOPE_SIZE, s.len());
         i += 1;
     }
     at
@@ -159,7 +190,7 @@ pub fn print_isotopes(out: &mut [u8], to: usize, s: &[u8], n: usize) -> usize
 fn print_charge(out: &mut [u8], to: usize, s: &[u8]) -> usize
     ensures { λ r. ⌜ Put (now (out .entry)) to (chargePrinted (now (s .entry))) (now (out .exit)) r ⌝ }
 {
-    let charge = byte_of(s, 10);
+    let charge = byte_of(s, CHARGE_AT);
     if charge <= 1 {
         return to;
     }
@@ -192,12 +223,17 @@ fn print_signed(out: &mut [u8], to: usize, v: u64, places: u8) -> usize
 fn print_deviation(out: &mut [u8], to: usize, s: &[u8]) -> usize
     ensures { λ r. ⌜ Put (now (out .entry)) to (deviationPrinted (now (s .entry))) (now (out .exit)) r ⌝ }
 {
-    let kind = byte_of(s, 11);
+    let kind = byte_of(s, DEVIATION_KIND_AT);
     if kind == 0 {
         return to;
     }
     let a = put8(out, to, b'/');
-    let b = print_signed(out, a, u64_at(rest(s, 16)), byte_of(s, 12));
+    let b = print_signed(
+        out,
+        a,
+        u64_at(rest(s, DEVIATION_AT)),
+        byte_of(s, DEVIATION_PLACES_AT),
+    );
     if kind == 1 {
         return b;
     }
@@ -207,11 +243,16 @@ fn print_deviation(out: &mut [u8], to: usize, s: &[u8]) -> usize
 fn print_confidence(out: &mut [u8], to: usize, s: &[u8]) -> usize
     ensures { λ r. ⌜ Put (now (out .entry)) to (confidencePrinted (now (s .entry))) (now (out .exit)) r ⌝ }
 {
-    if byte_of(s, 13) == 0 {
+    if byte_of(s, CONFIDENCE_PRESENT_AT) == 0 {
         return to;
     }
     let a = put8(out, to, b'*');
-    put_pointed(out, a, u32_at(rest(s, 24)) as u64, byte_of(s, 14))
+    put_pointed(
+        out,
+        a,
+        u32_at(rest(s, CONFIDENCE_AT)) as u64,
+        byte_of(s, CONFIDENCE_PLACES_AT),
+    )
 }
 
 // What stands behind the adduct.

@@ -5,6 +5,7 @@ use mathlib.Core.List.{List}
 use native.Mathlib.Omega.{arith}
 use lib.ListN.{length, drop, length-drop}
 use lib.Seq.{drop-drop}
+use Rattle.rules.specs.Limits.{maxUnits}
 use Rattle.slices.proofs.Parts.{drop-min}
 use Rattle.print_ion.specs.Texts.{ionUnits}
 
@@ -25,7 +26,7 @@ pub three-drops : (s : List ℕ) (a b n : ℕ) → drop (a + b + n) s ≡ drop n
 three-drops s a b n = sym (drop-drop n (a + b) s) ∙ ap (drop n) (sym (drop-drop b a s))
 
 -- no more units than the limits allow
-pub few-units : (s : List ℕ) → ionUnits s ≤ 12
+pub few-units : (s : List ℕ) → ionUnits s ≤ maxUnits
 unfolding ionUnits
 few-units s = omega arith
 

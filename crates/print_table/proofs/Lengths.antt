@@ -23,11 +23,12 @@ use Rattle.rules.specs.Isotopes.{Shift, shiftText, shiftMap, Specific, specific
 use Rattle.rules.specs.Isotopes.{Isotopes, no-isotope, plain-isotope, average-isotope, specific-isotopes, isotopesText, isotopesMap}
 use Rattle.rules.specs.Adducts.{Added, added-formula, electron, addedText, addedMap, Item, itemText, adductText, itemMap}
 use Rattle.rules.specs.Preferred.{shortened, countOr1}
-use Rattle.rules.specs.Limits.{maxLosses, maxIsotopes, maxItems, maxUnits, maxText, maxPlaces}
+use Rattle.rules.specs.Limits.{maxLosses, maxIsotopes, maxItems, maxUnits, maxText, maxPlaces, maxDigits}
 use Rattle.rules.specs.Stored.{Field, valueOr0, number, bytesOf, ionFields, lostUnits, lostName, specificRecord, isotopeRecords, addedUnits}
+use Rattle.rules.specs.Layout.{isotopeWidths}
 use Rattle.rules.proofs.Bounds.{Small}
 use Rattle.rules.proofs.OneRecord.{Fits}
-use Rattle.rules.proofs.FitParts.{UnitFits, LossFits, isotopeWidths, ItemFits}
+use Rattle.rules.proofs.FitParts.{UnitFits, LossFits, ItemFits}
 use Rattle.rules.proofs.FitIons.{IonFits}
 use Rattle.numbers.proofs.Bounds.{digits-below}
 
@@ -83,7 +84,7 @@ point-length zero v = omega arith
 point-length (suc p) v = omega (arith, last-length (suc p) v)
 
 -- 12 digits before the point, the point, 9 behind it
-pub decimal-short : (d : Decimal) → d .places ≤ maxPlaces → d .value < 10 ^ 12 → length (decimalText d) ≤ 22
+pub decimal-short : (d : Decimal) → d .places ≤ maxPlaces → d .value < 10 ^ maxDigits → length (decimalText d) ≤ 22
 decimal-short d h g =
     let w = whole (d .places) (d .value) in
     omega (

@@ -17,6 +17,8 @@ use Rattle.rules.specs.Adducts.{Item, itemText, itemMap, adductText}
 use Rattle.rules.specs.Annotations.{Annotation, annotationMap, flagText, analyteText, annotationText}
 use Rattle.rules.specs.Preferred.{shortened}
 use Rattle.rules.specs.Stored.{stores, ionFields, unitRecord, lostUnits, lostName, lossRecord, isotopeRecords, addedUnits, itemRecord, annotationRecord, annotationUnits, annotationTexts}
+use Rattle.rules.specs.Limits.{maxLosses, maxIsotopes, maxItems}
+use Rattle.rules.specs.Layout.{lossWidth, isotopeWidth, itemWidth, unitWidth}
 use Rattle.rules.proofs.Lengths.{unit-length, loss-length, each-isotope, item-length, section-length}
 use Rattle.rules.proofs.Bounds.{Bounded}
 use Rattle.rules.proofs.FitAnnotations.{InRange}
@@ -45,8 +47,8 @@ rows-apart f [] ys k = refl
 rows-apart f (x ∷ xs) ys k =
     append-assoc (f x) (flat f (xs ++ ys)) k ∙ ap (λ (w : List ℕ). f x ++ w) (rows-apart f xs ys k) ∙ sym (append-assoc (f x) (flat f xs) (flat f ys ++ k))
 
-unit-rows : (us : List (FormulaUnit Number)) → length (unitRows us) ≡ 6 * length us
-unit-rows us = section-length unitRecord 6 us (λ u i. unit-length u)
+unit-rows : (us : List (FormulaUnit Number)) → length (unitRows us) ≡ unitWidth * length us
+unit-rows us = section-length unitRecord unitWidth us (λ u i. unit-length u)
 
 -- ---- adducts
 
@@ -101,19 +103,19 @@ module _ (a : Annotation Number) (q : StoredParts) where
 -- an annotation within the limits
 module _ (a : Annotation Number) (q : StoredParts) (b : Bounded a) (r : InRange a) where
   losses-are : lossesIn (laid a q) ≡ length (a .losses)
-  losses-are = row-kept (length (a .losses)) 8 (b .losses) (omega arith)
+  losses-are = row-kept (length (a .losses)) maxLosses (b .losses) (omega arith)
 
   isotopes-are : isotopesIn (laid a q) ≡ length (isotopeRecords (a .isotopes))
-  isotopes-are = row-kept (length (isotopeRecords (a .isotopes))) 4 (b .isotopes) (omega arith)
+  isotopes-are = row-kept (length (isotopeRecords (a .isotopes))) maxIsotopes (b .isotopes) (omega arith)
 
   items-are : itemsIn (laid a q) ≡ length (a .adduct)
-  items-are = row-kept (length (a .adduct)) 4 (b .adduct) (omega arith)
+  items-are = row-kept (length (a .adduct)) maxItems (b .adduct) (omega arith)
 
   -- what is left partsBehind the ion, and partsBehind the losses
   units-after-ion : unitsBehindIon (laid a q) ≡ unitsAfterIon a q
   units-after-ion =
       let us = ionFields (a .ion) .units in
-      ap₂ (λ (n : ℕ) (l : List ℕ). drop n l) (ap (λ (n : ℕ). 6 * n) (ion-units-stored a (q .notes) (b .ion .few)) ∙ sym (unit-rows us)) (units-laid a q)
+      ap₂ (λ (n : ℕ) (l : List ℕ). drop n l) (ap (λ (n : ℕ). unitWidth * n) (ion-units-stored a (q .notes) (b .ion .few)) ∙ sym (unit-rows us)) (units-laid a q)
       ∙ drop-append-seam (unitRows us) (unitsAfterIon a q)
 
   text-after-ion : textBehindIon (laid a q) ≡ textAfterIon a q
@@ -173,10 +175,10 @@ module _ (a : Annotation Number) (q : StoredParts) (b : Bounded a) (r : InRange 
   pub behind-laid : partsBehind (laid a q) ≡ q
   unfolding partsBehind
   behind-laid =
-      let losses-left = drop-row (length (a .losses)) (flat (λ l. stores (lossRecord l)) (a .losses)) (q .losses) 6 losses-are (section-length lossRecord 6 (a .losses) (λ l i. loss-length l)) in
-      let isotopes-left = drop-row (length (isotopeRecords (a .isotopes))) (flat (λ fs. stores fs) (isotopeRecords (a .isotopes))) (q .isotopes) 8 isotopes-are
-      (section-length (λ x. x) 8 (isotopeRecords (a .isotopes)) (each-isotope (a .isotopes))) in
-      let items-left = drop-row (length (a .adduct)) (flat (λ x. stores (itemRecord x)) (a .adduct)) (q .items) 6 items-are (section-length itemRecord 6 (a .adduct) (λ x i. item-length x)) in
+      let losses-left = drop-row (length (a .losses)) (flat (λ l. stores (lossRecord l)) (a .losses)) (q .losses) lossWidth losses-are (section-length lossRecord lossWidth (a .losses) (λ l i. loss-length l)) in
+      let isotopes-left = drop-row (length (isotopeRecords (a .isotopes))) (flat (λ fs. stores fs) (isotopeRecords (a .isotopes))) (q .isotopes) isotopeWidth isotopes-are
+      (section-length (λ x. x) isotopeWidth (isotopeRecords (a .isotopes)) (each-isotope (a .isotopes))) in
+      let items-left = drop-row (length (a .adduct)) (flat (λ x. stores (itemRecord x)) (a .adduct)) (q .items) itemWidth items-are (section-length itemRecord itemWidth (a .adduct) (λ x i. item-length x)) in
       let units-left : drop (unitBytes (itemsIn (laid a q)) (laid a q .items)) (unitsBehindLosses (laid a q)) ≡ q .units =
       ap₂ (λ (n : ℕ) (l : List ℕ). drop n l)
       (ap (λ (n : ℕ). unitBytes n (laid a q .items)) items-are ∙ added .units ∙ sym (unit-rows (itemUnits a))) units-after-losses

@@ -13,6 +13,7 @@ use Rattle.rules.specs.Fields.{Table}
 use Rattle.rules.specs.Preferred.{shortened, preferred}
 use Rattle.rules.specs.Answers.{Sound}
 use Rattle.rules.specs.Stored.{stored}
+use Rattle.rules.specs.Limits.{maxAnnotations}
 use Rattle.rules.proofs.Bounds.{Bounded, table-few, table-bounded}
 use Rattle.rules.proofs.FitAnnotations.{InRange, table-in-range}
 use Rattle.counts.specs.declared.Counts.{Counts}
@@ -56,7 +57,7 @@ pub table-printed : (t : Table) → Sound t → printedTable (stored t) ≡ pref
 unfolding printedTable
 table-printed t s =
     let counts = counts-stored t s in
-    let few : min (length t) 16 ≡ length t = omega (arith, table-few t s) in
-    ap₂ (annotationsPrinted 0) (ap (λ (n : Counts). min (n .annotations) 16) counts ∙ few)
+    let few : min (length t) maxAnnotations ≡ length t = omega (arith, table-few t s) in
+    ap₂ (annotationsPrinted 0) (ap (λ (n : Counts). min (n .annotations) maxAnnotations) counts ∙ few)
     (ap (λ (n : Counts). storedPartsAt (stored t) (startsOf n)) counts ∙ parts-stored t s)
     ∙ line-printed t (others t) (λ a i. (table-bounded t s a i, table-in-range t s a i))

@@ -1,5 +1,5 @@
 -- The sections of a stored table are where its header says. Assumes nothing.
-use Prim.Native.Nat.{ℕ}
+use Prim.Native.Nat.{ℕ, _+_}
 use mathlib.Core.Path.{_≡_, refl, sym, ap, ap₂, _∙_}
 use mathlib.Core.List.{List, [], _∷_, _++_, append-assoc, map}
 use native.Mathlib.Omega.{arith}
@@ -10,6 +10,7 @@ use Rattle.rules.specs.Annotations.{Annotation}
 use Rattle.rules.specs.Fields.{Table}
 use Rattle.rules.specs.Answers.{Sound}
 use Rattle.rules.specs.Stored.{Field, stores, lossRecord, isotopeRecords, itemRecord, unitRecord, annotationRecord, annotationUnits, annotationTexts, section, header, stored}
+use Rattle.rules.specs.Layout.{annotationPairAt, lossPairAt, isotopePairAt, itemPairAt, unitPairAt, textPairAt, annotationSection, lossSection, isotopeSection, itemSection, unitSection, textSection}
 use Rattle.rules.proofs.Lengths.{lossesOf, isotopesOf, itemsOf, unitsOf, textsOf, stored-length}
 use Rattle.rules.proofs.Sizes.{sizes-fit}
 use Rattle.store_sections.specs.Pages.{joined, begins}
@@ -38,12 +39,12 @@ from-begins w (l ∷ ls) =
 abbrev partsFrom : List (List ℕ) → StoredParts
 partsFrom ls =
     record {
-      notes = getD ls 0 [];
-      losses = getD ls 1 [];
-      isotopes = getD ls 2 [];
-      items = getD ls 3 [];
-      units = getD ls 4 [];
-      text = getD ls 5 [];
+      notes = getD ls annotationSection [];
+      losses = getD ls lossSection [];
+      isotopes = getD ls isotopeSection [];
+      items = getD ls itemSection [];
+      units = getD ls unitSection [];
+      text = getD ls textSection [];
     }
 
 -- each section before what is left behind it
@@ -62,7 +63,7 @@ sectioned t q =
 abbrev pub others : Table → StoredParts
 others t =
     let ls = tails (bytesIn t) in
-    record { notes = getD ls 1 []; losses = getD ls 2 []; isotopes = getD ls 3 []; items = getD ls 4 []; units = getD ls 5 []; text = [] }
+    record { notes = getD ls lossSection []; losses = getD ls isotopeSection []; isotopes = getD ls itemSection []; items = getD ls unitSection []; units = getD ls textSection []; text = [] }
 
 pub parts-stored : (t : Table) → Sound t → storedPartsAt (stored t) (startsOf (countsOf t)) ≡ sectioned t (others t)
 parts-stored t s =
@@ -86,10 +87,10 @@ pub counts-stored : (t : Table) → Sound t → countsAt (stored t) ≡ countsOf
 counts-stored t s =
     let size = sizes-fit t s in
     let is = stored-length t in
-    let annotations = word-stored (length t) (drop 6 (stored t)) (omega arith) in
-    let losses = word-stored (length (lossesOf t)) (drop 10 (stored t)) (omega arith) in
-    let isotopes = word-stored (length (isotopesOf t)) (drop 14 (stored t)) (omega arith) in
-    let items = word-stored (length (itemsOf t)) (drop 18 (stored t)) (omega arith) in
-    let units = word-stored (length (unitsOf t)) (drop 22 (stored t)) (omega arith) in
-    let text = word-stored (length (textsOf t)) (drop 26 (stored t)) (omega arith) in
+    let annotations = word-stored (length t) (drop (annotationPairAt + 2) (stored t)) (omega arith) in
+    let losses = word-stored (length (lossesOf t)) (drop (lossPairAt + 2) (stored t)) (omega arith) in
+    let isotopes = word-stored (length (isotopesOf t)) (drop (isotopePairAt + 2) (stored t)) (omega arith) in
+    let items = word-stored (length (itemsOf t)) (drop (itemPairAt + 2) (stored t)) (omega arith) in
+    let units = word-stored (length (unitsOf t)) (drop (unitPairAt + 2) (stored t)) (omega arith) in
+    let text = word-stored (length (textsOf t)) (drop (textPairAt + 2) (stored t)) (omega arith) in
     λ i. record { annotations = annotations i; losses = losses i; isotopes = isotopes i; items = items i; units = units i; text = text i }

@@ -17,7 +17,7 @@ use Rattle.rules.specs.Annotations.{Deviation, Annotation, flagText, analyteTex
 use Rattle.rules.specs.Lines.{nextText}
 use Rattle.rules.specs.Fields.{Table}
 use Rattle.rules.specs.Preferred.{shortened, countOr1, preferred}
-use Rattle.rules.specs.Limits.{maxPosition, maxCharge}
+use Rattle.rules.specs.Limits.{maxPosition, maxCharge, maxAnnotations}
 use Rattle.rules.specs.Stored.{valueOr0}
 use Rattle.rules.specs.Answers.{Sound}
 use Rattle.rules.proofs.Bounds.{Bounded, table-few, table-bounded}
@@ -93,7 +93,7 @@ annotation-short a r b =
 -- ---- a line
 
 -- at most 16 annotations, each with a comma
-joined-short : (t : Table) → length t ≤ 16 → ((a : Annotation Number) → In a t → length (annotationText (annotationMap shortened a)) ≤ 4095)
+joined-short : (t : Table) → length t ≤ maxAnnotations → ((a : Annotation Number) → In a t → length (annotationText (annotationMap shortened a)) ≤ 4095)
     → length (preferred t) ≤ 65536
 joined-short [] few h = omega arith
 joined-short (a ∷ t) few h =

@@ -7,6 +7,8 @@ use native.Mathlib.Numerals.{add-one}
 use lib.ListN.{length, drop}
 use borrow.Author.Tests.{eq-eqb, ne-eqb}
 use Rattle.rules.specs.Bytes.{bytes}
+use Rattle.rules.specs.Limits.{maxLosses, maxIsotopes, maxItems}
+use Rattle.rules.specs.Layout.{annotationWidth, lossWidth, isotopeWidth, itemWidth, unitWidth, lossCountAt, isotopeCountAt, itemCountAt}
 use Rattle.put_bytes.specs.Puts.{maxPlace, Put}
 use Rattle.put_bytes.proofs.Putting.{put-none, put-then, put-as}
 use Rattle.put_bytes.proofs.PutLoop.{PutSoFar, begin, more, ends}
@@ -45,16 +47,16 @@ adduct-some n x u t z p q r =
 module _ (table : List ℕ) (c : Cursors) where
   -- the parts of the annotation, one after the other, in the order of the text
   pub annotation-printed : {s fu ft ll lu lt si xx xu xt d d1 d2 d3 d4 e : List ℕ} {to a b end nl ni nx iu ib u t v w ka kl ki kx ku kt : ℕ} {l x : PrintedTo}
-      → s ≡ drop (c .annotations) table → nl ≡ rowOf s 32 8 → ni ≡ rowOf s 33 4 → nx ≡ rowOf s 34 4
+      → s ≡ drop (c .annotations) table → nl ≡ rowOf s lossCountAt maxLosses → ni ≡ rowOf s isotopeCountAt maxIsotopes → nx ≡ rowOf s itemCountAt maxItems
       → fu ≡ drop (c .units) table → ft ≡ drop (c .text) table → Put d to (frontPrinted s fu ft) d1 a
-      → iu ≡ ionUnits s → u ≡ min (c .units + 6 * iu) (length table) → ib ≡ ionBytes s → t ≡ min (c .text + ib) (length table)
+      → iu ≡ ionUnits s → u ≡ min (c .units + unitWidth * iu) (length table) → ib ≡ ionBytes s → t ≡ min (c .text + ib) (length table)
       → ll ≡ drop (c .losses) table → lu ≡ drop u table → lt ≡ drop t table → PrintsChanges nl ll lu lt d1 a d2 l
       → v ≡ min (u + l .units) (length table) → w ≡ min (t + l .text) (length table)
       → si ≡ drop (c .isotopes) table → Put d2 (l .to) (isotopesPrinted ni si) d3 b
       → xx ≡ drop (c .items) table → xu ≡ drop v table → xt ≡ drop w table → PrintsAdduct nx xx xu xt d3 b d4 x
       → Put d4 (x .to) (tailPrinted s) e end
-      → ka ≡ min (c .annotations + 36) (length table) → kl ≡ min (c .losses + 6 * nl) (length table)
-      → ki ≡ min (c .isotopes + 8 * ni) (length table) → kx ≡ min (c .items + 6 * nx) (length table)
+      → ka ≡ min (c .annotations + annotationWidth) (length table) → kl ≡ min (c .losses + lossWidth * nl) (length table)
+      → ki ≡ min (c .isotopes + isotopeWidth * ni) (length table) → kx ≡ min (c .items + itemWidth * nx) (length table)
       → ku ≡ min (v + x .units) (length table) → kt ≡ min (w + x .text) (length table)
       → PrintsAnnotation table c d to e
       (record { to = end; cursors = record { annotations = ka; losses = kl; isotopes = ki; items = kx; units = ku; text = kt } })
@@ -66,29 +68,29 @@ module _ (table : List ℕ) (c : Cursors) where
       let losses-text = nameBytes (lossesIn p) (p .losses) in
       let items-units = unitBytes (itemsIn p) (p .items) in
       let items-text = nameBytes (itemsIn p) (p .items) in
-      let nl-is : nl ≡ lossesIn p = el ∙ ap (λ (z : List ℕ). rowOf z 32 8) notes in
-      let ni-is : ni ≡ isotopesIn p = ei ∙ ap (λ (z : List ℕ). rowOf z 33 4) notes in
-      let nx-is : nx ≡ itemsIn p = ex ∙ ap (λ (z : List ℕ). rowOf z 34 4) notes in
+      let nl-is : nl ≡ lossesIn p = el ∙ ap (λ (z : List ℕ). rowOf z lossCountAt maxLosses) notes in
+      let ni-is : ni ≡ isotopesIn p = ei ∙ ap (λ (z : List ℕ). rowOf z isotopeCountAt maxIsotopes) notes in
+      let nx-is : nx ≡ itemsIn p = ex ∙ ap (λ (z : List ℕ). rowOf z itemCountAt maxItems) notes in
       let u-is : drop u table ≡ unitsBehindIon p =
-      ahead-drop table (c .units) (6 * iu) eu ∙ ap (λ (n : ℕ). drop (6 * n) (p .units)) (eiu ∙ ap ionUnits notes) in
+      ahead-drop table (c .units) (unitWidth * iu) eu ∙ ap (λ (n : ℕ). drop (unitWidth * n) (p .units)) (eiu ∙ ap ionUnits notes) in
       let t-is : drop t table ≡ textBehindIon p = ahead-drop table (c .text) ib et ∙ ap (λ (n : ℕ). drop n (p .text)) (eib ∙ ap ionBytes notes) in
       let losses-are = same-of (λ n p q r. PrintsChanges n p q r d1 a d2 l) losses nl-is ell (elu ∙ u-is) (elt ∙ t-is) in
       let v-is = ahead-part table u losses-units (unitsBehindIon p) ev u-is (losses-are .units) in
       let w-is = ahead-part table t losses-text (textBehindIon p) ew t-is (losses-are .text) in
       let adduct-is = same-of (λ n p q r. PrintsAdduct n p q r d3 b d4 x) adduct nx-is exx (exu ∙ v-is) (ext ∙ w-is) in
-      let u-at = eu ∙ ap (λ (n : ℕ). further table (c .units) (6 * n)) (eiu ∙ ap ionUnits notes) in
+      let u-at = eu ∙ ap (λ (n : ℕ). further table (c .units) (unitWidth * n)) (eiu ∙ ap ionUnits notes) in
       let t-at = et ∙ ap (λ (n : ℕ). further table (c .text) n) (eib ∙ ap ionBytes notes) in
       let v-at =
-      ahead-on table (c .units) (6 * ionUnits (p .notes)) losses-units u-at (losses-are .units ∙ ap (λ (z : List ℕ). min losses-units (length z)) (sym u-is)) ev
+      ahead-on table (c .units) (unitWidth * ionUnits (p .notes)) losses-units u-at (losses-are .units ∙ ap (λ (z : List ℕ). min losses-units (length z)) (sym u-is)) ev
       in
       let w-at =
       ahead-on table (c .text) (ionBytes (p .notes)) losses-text t-at (losses-are .text ∙ ap (λ (z : List ℕ). min losses-text (length z)) (sym t-is)) ew
       in
-      let losses-on = kl ∙ ap (λ (n : ℕ). further table (c .losses) (6 * n)) nl-is in
-      let isotopes-on = ki ∙ ap (λ (n : ℕ). further table (c .isotopes) (8 * n)) ni-is in
-      let items-on = kx ∙ ap (λ (n : ℕ). further table (c .items) (6 * n)) nx-is in
+      let losses-on = kl ∙ ap (λ (n : ℕ). further table (c .losses) (lossWidth * n)) nl-is in
+      let isotopes-on = ki ∙ ap (λ (n : ℕ). further table (c .isotopes) (isotopeWidth * n)) ni-is in
+      let items-on = kx ∙ ap (λ (n : ℕ). further table (c .items) (itemWidth * n)) nx-is in
       let units-on =
-      ahead-on table (c .units) (6 * ionUnits (p .notes) + losses-units) items-units v-at
+      ahead-on table (c .units) (unitWidth * ionUnits (p .notes) + losses-units) items-units v-at
       (adduct-is .units ∙ ap (λ (z : List ℕ). min items-units (length z)) (sym v-is)) ku
       in
       let text-on =
@@ -112,11 +114,11 @@ parts-behind table c =
     let losses-text = nameBytes (lossesIn p) (p .losses) in
     let items-units = unitBytes (itemsIn p) (p .items) in
     let items-text = nameBytes (itemsIn p) (p .items) in
-    let notes = ahead-drop table (c .annotations) 36 refl in
-    let losses = ahead-drop table (c .losses) (6 * lossesIn p) refl in
-    let isotopes = ahead-drop table (c .isotopes) (8 * isotopesIn p) refl in
-    let items = ahead-drop table (c .items) (6 * itemsIn p) refl in
-    let units = ahead-drop table (c .units) (unitsIn p) refl ∙ three-drops (p .units) (6 * ionUnits (p .notes)) losses-units items-units in
+    let notes = ahead-drop table (c .annotations) annotationWidth refl in
+    let losses = ahead-drop table (c .losses) (lossWidth * lossesIn p) refl in
+    let isotopes = ahead-drop table (c .isotopes) (isotopeWidth * isotopesIn p) refl in
+    let items = ahead-drop table (c .items) (itemWidth * itemsIn p) refl in
+    let units = ahead-drop table (c .units) (unitsIn p) refl ∙ three-drops (p .units) (unitWidth * ionUnits (p .notes)) losses-units items-units in
     let text = ahead-drop table (c .text) (textIn p) refl ∙ three-drops (p .text) (ionBytes (p .notes)) losses-text items-text in
     λ i. record { notes = notes i; losses = losses i; isotopes = isotopes i; items = items i; units = units i; text = text i }
 

@@ -7,6 +7,7 @@ use lib.Dec.{eqb}
 use lib.ListN.{length, getD, drop}
 use Rattle.rules.specs.Bytes.{bytes}
 use Rattle.rules.specs.Limits.{maxLosses, maxIsotopes, maxItems}
+use Rattle.rules.specs.Layout.{annotationWidth, lossWidth, isotopeWidth, itemWidth, unitWidth, lossCountAt, isotopeCountAt, itemCountAt}
 use Rattle.put_bytes.specs.Puts.{Put}
 use Rattle.store_sections.specs.declared.Cursors.{Cursors}
 use Rattle.print_parts.specs.declared.PrintedTo.{PrintedTo}
@@ -24,13 +25,13 @@ abbrev pub rowOf : List ℕ → ℕ → ℕ → ℕ
 rowOf s i most = upTo (getD s i 0) most
 
 abbrev pub lossesIn : StoredParts → ℕ
-lossesIn p = rowOf (p .notes) 32 maxLosses
+lossesIn p = rowOf (p .notes) lossCountAt maxLosses
 
 abbrev pub isotopesIn : StoredParts → ℕ
-isotopesIn p = rowOf (p .notes) 33 maxIsotopes
+isotopesIn p = rowOf (p .notes) isotopeCountAt maxIsotopes
 
 abbrev pub itemsIn : StoredParts → ℕ
-itemsIn p = rowOf (p .notes) 34 maxItems
+itemsIn p = rowOf (p .notes) itemCountAt maxItems
 
 -- the adduct of n items
 unfoldable pub adductPrinted : ℕ → List ℕ → List ℕ → List ℕ → List ℕ
@@ -43,7 +44,7 @@ pub record PrintsAdduct (n : ℕ) (x u t d : List ℕ) (to : ℕ) (e : List ℕ)
 
 -- units and text partsBehind those of the ion, and partsBehind those of the losses
 abbrev pub unitsBehindIon : StoredParts → List ℕ
-unitsBehindIon p = drop (6 * ionUnits (p .notes)) (p .units)
+unitsBehindIon p = drop (unitWidth * ionUnits (p .notes)) (p .units)
 
 abbrev pub textBehindIon : StoredParts → List ℕ
 textBehindIon p = drop (ionBytes (p .notes)) (p .text)
@@ -65,17 +66,17 @@ annotationPrinted p =
 unfoldable pub partsBehind : StoredParts → StoredParts
 partsBehind p =
     record {
-      notes = drop 36 (p .notes);
-      losses = drop (6 * lossesIn p) (p .losses);
-      isotopes = drop (8 * isotopesIn p) (p .isotopes);
-      items = drop (6 * itemsIn p) (p .items);
+      notes = drop annotationWidth (p .notes);
+      losses = drop (lossWidth * lossesIn p) (p .losses);
+      isotopes = drop (isotopeWidth * isotopesIn p) (p .isotopes);
+      items = drop (itemWidth * itemsIn p) (p .items);
       units = drop (unitBytes (itemsIn p) (p .items)) (unitsBehindLosses p);
       text = drop (nameBytes (itemsIn p) (p .items)) (textBehindLosses p);
     }
 
 -- how many bytes of units and of text the annotation has: its ion, its losses and its adduct items
 abbrev pub unitsIn : StoredParts → ℕ
-unitsIn p = 6 * ionUnits (p .notes) + unitBytes (lossesIn p) (p .losses) + unitBytes (itemsIn p) (p .items)
+unitsIn p = unitWidth * ionUnits (p .notes) + unitBytes (lossesIn p) (p .losses) + unitBytes (itemsIn p) (p .items)
 
 abbrev pub textIn : StoredParts → ℕ
 textIn p = ionBytes (p .notes) + nameBytes (lossesIn p) (p .losses) + nameBytes (itemsIn p) (p .items)
@@ -88,10 +89,10 @@ further table at n = min (at + n) (length table)
 unfoldable pub cursorsBehind : List ℕ → Cursors → Cursors
 cursorsBehind table c =
     record {
-      annotations = further table (c .annotations) 36;
-      losses = further table (c .losses) (6 * lossesIn (storedPartsAt table c));
-      isotopes = further table (c .isotopes) (8 * isotopesIn (storedPartsAt table c));
-      items = further table (c .items) (6 * itemsIn (storedPartsAt table c));
+      annotations = further table (c .annotations) annotationWidth;
+      losses = further table (c .losses) (lossWidth * lossesIn (storedPartsAt table c));
+      isotopes = further table (c .isotopes) (isotopeWidth * isotopesIn (storedPartsAt table c));
+      items = further table (c .items) (itemWidth * itemsIn (storedPartsAt table c));
       units = further table (c .units) (unitsIn (storedPartsAt table c));
       text = further table (c .text) (textIn (storedPartsAt table c));
     }

@@ -2,6 +2,7 @@
 use Prim.Native.Nat.{ℕ}
 use mathlib.Core.List.{List}
 use lib.ListN.{drop}
+use Rattle.rules.specs.Layout.{annotationPairAt, lossPairAt, isotopePairAt, itemPairAt, unitPairAt, textPairAt}
 use Rattle.slices.specs.Numbers.{u16At}
 use Rattle.counts.specs.declared.Counts.{Counts}
 use Rattle.store_sections.specs.declared.Cursors.{Cursors}
@@ -30,10 +31,10 @@ storedPartsAt table c =
 abbrev pub countsAt : List ℕ → Counts
 countsAt table =
     record {
-      annotations = u16At (drop 4 table);
-      losses = u16At (drop 8 table);
-      isotopes = u16At (drop 12 table);
-      items = u16At (drop 16 table);
-      units = u16At (drop 20 table);
-      text = u16At (drop 24 table);
+      annotations = u16At (drop annotationPairAt table);
+      losses = u16At (drop lossPairAt table);
+      isotopes = u16At (drop isotopePairAt table);
+      items = u16At (drop itemPairAt table);
+      units = u16At (drop unitPairAt table);
+      text = u16At (drop textPairAt table);
     }

@@ -6,6 +6,7 @@ use lib.Dec.{eqb}
 use lib.ListN.{drop}
 use Rattle.rules.specs.Bytes.{bytes}
 use Rattle.rules.specs.Limits.{maxAnnotations}
+use Rattle.rules.specs.Layout.{annotationPairAt}
 use Rattle.slices.specs.Numbers.{u16At}
 use Rattle.store_sections.specs.Headers.{startsOf}
 use Rattle.print_parts.specs.Numbers.{upTo}
@@ -22,4 +23,4 @@ annotationsPrinted i zero p = []
 annotationsPrinted i (suc n) p = commaPrinted i ++ (annotationPrinted p ++ annotationsPrinted (suc i) n (partsBehind p))
 
 unfoldable pub printedTable : List ℕ → List ℕ
-printedTable table = annotationsPrinted 0 (upTo (u16At (drop 4 table)) maxAnnotations) (storedPartsAt table (startsOf (countsAt table)))
+printedTable table = annotationsPrinted 0 (upTo (u16At (drop annotationPairAt table)) maxAnnotations) (storedPartsAt table (startsOf (countsAt table)))

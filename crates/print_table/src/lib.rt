@@ -6,6 +6,24 @@ ghost use Rattle.print_table.specs.Parts.{countsAt};
 ghost use Rattle.print_table.specs.Annotations.{rowOf, PrintsAdduct, PrintsAnnotation};
 ghost use Rattle.print_table.specs.Tables.{commaPrinted, printedTable};
 use counts::Counts;
+use layout::ANNOTATION_PAIR_AT;
+use layout::ANNOTATION_SIZE;
+use layout::ISOTOPE_COUNT_AT;
+use layout::ISOTOPE_PAIR_AT;
+use layout::ISOTOPE_SIZE;
+use layout::ITEM_COUNT_AT;
+use layout::ITEM_PAIR_AT;
+use layout::ITEM_SIZE;
+use layout::LOSS_COUNT_AT;
+use layout::LOSS_PAIR_AT;
+use layout::LOSS_SIZE;
+use layout::TEXT_PAIR_AT;
+use layout::UNIT_PAIR_AT;
+use layout::UNIT_SIZE;
+use limits::MAX_ANNOTATIONS;
+use limits::MAX_ISOTOPES;
+use limits::MAX_ITEMS;
+use limits::MAX_LOSSES;
 use print_ion::ion_bytes;
 use print_ion::ion_units;
 use print_ion::print_front;
@@ -63,11 +81,11 @@ pub fn print_annotation(out: &mut [u8], to: usize, table: &[u8], c: Cursors) -> 
 {
     let all = table.len();
     let s = rest(table, c.annotations);
-    let losses = row_of(s, 32, 8);
-    let isotopes = row_of(s, 33, 4);
-    let items = row_of(s, 34, 4);
+    let losses = row_of(s, LOSS_COUNT_AT, MAX_LOSSES);
+    let isotopes = row_of(s, ISOTOPE_COUNT_AT, MAX_ISOTOPES);
+    let items = row_of(s, ITEM_COUNT_AT, MAX_ITEMS);
     let a = print_front(out, to, s, rest(table, c.units), rest(table, c.text));
-    let u = advance(c.units, 6 * ion_units(s), all);
+    let u = advance(c.units, UNIT_SIZE * ion_units(s), all);
     let t = advance(c.text, ion_bytes(s), all);
     let l = print_changes(
         out,
@@ -92,10 +110,10 @@ pub fn print_annotation(out: &mut [u8], to: usize, table: &[u8], c: Cursors) -> 
     Printed {
         to: end,
         cursors: Cursors {
-            annotations: advance(c.annotations, 36, all),
-            losses: advance(c.losses, 6 * losses, all),
-            isotopes: advance(c.isotopes, 8 * isotopes, all),
-            items: advance(c.items, 6 * items, all),
+            annotations: advance(c.annotations, ANNOTATION_SIZE, all),
+            losses: advance(c.losses, LOSS_SIZE * losses, all),
+            isotopes: advance(c.isotopes, ISOTOPE_SIZE * isotopes, all),
+            items: advance(c.items, ITEM_SIZE * items, all),
             units: advance(v, x.units, all),
             text: advance(w, x.text, all),
         },
@@ -117,12 +135,12 @@ pub fn counts_at(table: &[u8]) -> Counts
     ensures { λ r. ⌜ r ≡ countsAt (now (table .entry)) ⌝ }
 {
     Counts {
-        annotations: u16_at(rest(table, 4)) as usize,
-        losses: u16_at(rest(table, 8)) as usize,
-        isotopes: u16_at(rest(table, 12)) as usize,
-        items: u16_at(rest(table, 16)) as usize,
-        units: u16_at(rest(table, 20)) as usize,
-        text: u16_at(rest(table, 24)) as usize,
+        annotations: u16_at(rest(table, ANNOTATION_PAIR_AT)) as usize,
+        losses: u16_at(rest(table, LOSS_PAIR_AT)) as usize,
+        isotopes: u16_at(rest(table, ISOTOPE_PAIR_AT)) as usize,
+        items: u16_at(rest(table, ITEM_PAIR_AT)) as usize,
+        units: u16_at(rest(table, UNIT_PAIR_AT)) as usize,
+        text: u16_at(rest(table, TEXT_PAIR_AT)) as usize,
     }
 }
 
@@ -130,7 +148,7 @@ pub fn counts_at(table: &[u8]) -> Counts
 pub fn print_table(out: &mut [u8], to: usize, table: &[u8]) -> usize
     ensures { λ r. ⌜ Put (now (out .entry)) to (printedTable (now (table .entry))) (now (out .exit)) r ⌝ }
 {
-    let n = at_most(u16_at(rest(table, 4)), 16);
+    let n = at_most(u16_at(rest(table, ANNOTATION_PAIR_AT)), MAX_ANNOTATIONS);
     let mut c = starts(counts_at(table));
     let mut at = to;
     let mut i: usize = 0;

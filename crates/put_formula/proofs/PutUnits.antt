@@ -17,6 +17,7 @@ use Rattle.rules.specs.Texts.{firstIn, inBrackets}
 use Rattle.rules.specs.Preferred.{shortened}
 use Rattle.rules.specs.Fields.{filled}
 use Rattle.rules.specs.Stored.{u16, stores, unitRecord}
+use Rattle.rules.specs.Layout.{unitWidth}
 use Rattle.elements.specs.Numbers.{spelled}
 use Rattle.elements.specs.Symbols.{small}
 use Rattle.elements.proofs.SymbolsAgree.{which-below, letters-symbol, word-symbol, spelt-symbol}
@@ -165,14 +166,14 @@ unit-stored (plain s c) k h =
 unit-stored (labelled a s c) k h =
     labelled-fields (storedUnit (stores (unitRecord (labelled a s c)) ++ k)) s (word-kept (atomicNumber s) (symbol-kept s)) a c (word-kept (a .value) (h .0)) (word-kept (c .value) (h .1))
 
-record-long : (u : FormulaUnit Number) → 6 ≡ length (stores (unitRecord u))
+record-long : (u : FormulaUnit Number) → unitWidth ≡ length (stores (unitRecord u))
 record-long (plain s c) = refl
 record-long (labelled a s c) = refl
 
 pub printed-read : (us : List (FormulaUnit Number)) (k : List ℕ) → AllOf (UnitUpTo 65535) us
     → printedUnits (length us) (flat (λ u. stores (unitRecord u)) us ++ k) ≡ flat unitText (map (unitMap shortened) us)
 printed-read us k a =
-    chain-spelled (λ r. preferredUnit (storedUnit r)) (λ r. 6) (λ u. stores (unitRecord u)) (λ u. unitText (unitMap shortened u)) (UnitUpTo 65535) (λ k. Unit {0})
+    chain-spelled (λ r. preferredUnit (storedUnit r)) (λ r. unitWidth) (λ u. stores (unitRecord u)) (λ u. unitText (unitMap shortened u)) (UnitUpTo 65535) (λ k. Unit {0})
     (λ u us k h e. unit-stored u (flat (λ u. stores (unitRecord u)) us ++ k) h)
     (λ u us k h e. record-long u) us k a tt
     ∙ flat-map unitText (unitMap shortened) us

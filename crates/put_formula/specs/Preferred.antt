@@ -6,6 +6,7 @@ use lib.Dec.{eqb, leb}
 use lib.ListN.{take}
 use Rattle.rules.specs.Numbers.{digits}
 use Rattle.rules.specs.Texts.{inBrackets}
+use Rattle.rules.specs.Layout.{unitWidth}
 use Rattle.elements.specs.Numbers.{word, lettersOf}
 use Rattle.read_formula.specs.declared.UnitRead.{UnitRead}
 use Rattle.read_formula.specs.declared.UnitSpan.{UnitSpan}
@@ -41,4 +42,4 @@ abbrev pub preferredUnits : ℕ → List ℕ → List ℕ
 preferredUnits n s = chain keptUnit unitSize n s
 
 abbrev pub printedUnits : ℕ → List ℕ → List ℕ
-printedUnits n t = chain (λ r. preferredUnit (storedUnit r)) (λ r. 6) n t
+printedUnits n t = chain (λ r. preferredUnit (storedUnit r)) (λ r. unitWidth) n t

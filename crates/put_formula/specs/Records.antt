@@ -3,6 +3,7 @@ use Prim.Native.Nat.{ℕ, _+_, _*_}
 use mathlib.Core.List.{List, [], _∷_}
 use lib.ListN.{getD, drop}
 use Rattle.rules.specs.Stored.{u16, stores}
+use Rattle.rules.specs.Layout.{unitWidth, unitElementAt, atomCountAt}
 use Rattle.slices.specs.Numbers.{u16At}
 use Rattle.read_formula.specs.declared.UnitRead.{UnitRead}
 use Rattle.read_formula.specs.Units.{unitOf}
@@ -19,4 +20,4 @@ recordsOf n s = chain (λ r. recordOf (unitOf r)) unitSize n s
 
 -- the unit whose record bytes begin with
 unfoldable pub storedUnit : List ℕ → UnitRead
-storedUnit t = record { nucleons = u16At t; element = u16At (drop 2 t); count = u16At (drop 4 t); «count_at» = 4; len = 6 }
+storedUnit t = record { nucleons = u16At t; element = u16At (drop unitElementAt t); count = u16At (drop atomCountAt t); «count_at» = atomCountAt; len = unitWidth }

@@ -6,6 +6,9 @@ ghost use Rattle.put_formula.specs.Records.{recordOf, recordsOf, storedU
 ghost use Rattle.slices.specs.Numbers.{u16At};
 ghost use Rattle.put_formula.specs.Preferred.{symbolText, plainText, labelledText, preferredUnit, keptOf, preferredUnits, printedUnits};
 use elements::letters_of;
+use layout::ATOM_COUNT_AT;
+use layout::UNIT_ELEMENT_AT;
+use layout::UNIT_SIZE;
 use numbers::put_number;
 use put_bytes::put_le;
 use put_bytes::put_run;
@@ -132,14 +135,14 @@ pub fn stored_unit(t: &[u8]) -> UnitRead
     ensures { λ r. ⌜ r ≡ storedUnit (now (t .entry)) ⌝ }
 {
     let nucleons = u16_at(t);
-    let element = u16_at(rest(t, 2));
-    let count = u16_at(rest(t, 4));
+    let element = u16_at(rest(t, UNIT_ELEMENT_AT));
+    let count = u16_at(rest(t, ATOM_COUNT_AT));
     UnitRead {
         nucleons: nucleons as u32,
         element,
         count: count as u32,
-        count_at: 4,
-        len: 6,
+        count_at: ATOM_COUNT_AT,
+        len: UNIT_SIZE,
     }
 }
 
@@ -153,7 +156,7 @@ pub fn print_units(out: &mut [u8], at: usize, t: &[u8], n: usize) -> usize
     while i < n {
         let u = stored_unit(rest(t, from));
         to = put_unit(out, to, u);
-        from = advance(from, 6, t.len());
+        from = advance(from, UNIT_SIZE, t.len());
         i += 1;
     }
     to

@@ -12,14 +12,16 @@ use counts::sum;
 use faults::Fault;
 use faults::check_count;
 use faults::check_number;
+use limits::MAX_ANNOTATIONS;
+use limits::MAX_ITEMS;
+use limits::MAX_LOSSES;
+use limits::MAX_POSITION;
+use limits::ONE;
 use numbers::billionths;
 use numbers::read_number;
-use read_changes::MAX_ITEMS;
-use read_changes::MAX_LOSSES;
 use read_changes::Row;
 use read_changes::read_changes;
 use read_ion::IonRead;
-use read_ion::MAX_POSITION;
 use read_ion::ion;
 use read_isotopes::isotopes;
 use read_opening::begins_sign;
@@ -32,12 +34,6 @@ use slices::begins_in;
 use slices::begins_with;
 use slices::minus_or_zero;
 use slices::rest;
-
-// How many annotations a line may have.
-pub const MAX_ANNOTATIONS: usize = 16;
-
-// 1 in billionths.
-pub const ONE: u64 = 1000000000;
 
 // What stands before the ion: 1 for `&`, 1 for an analyte, and its number.
 pub struct PrefixRead {

@@ -6,7 +6,7 @@ ghost use Rattle.read_changes.specs.Rows.{changesOf};
 use faults::Fault;
 use faults::check_count;
 use faults::check_number;
-use read_formula::MAX_COUNT;
+use limits::MAX_COUNT;
 use read_formula::begins_unit;
 use read_formula::formula;
 use read_opening::Head;
@@ -17,11 +17,6 @@ use slices::advance;
 use slices::begins_with;
 use slices::minus_or_zero;
 use slices::rest;
-
-// How many losses, and how many adduct items, an annotation may have.
-pub const MAX_LOSSES: usize = 8;
-
-pub const MAX_ITEMS: usize = 4;
 
 // A loss or an adduct item. Kind 0: a formula of `size` units; 1: a name of `size` bytes; 2: an electron. The formula, or the bracket
 // before the name, begins `start` bytes behind the sign.

@@ -14,18 +14,14 @@ use elements::symbol_len;
 use faults::Fault;
 use faults::check_count;
 use faults::check_number;
+use limits::MAX_COUNT;
+use limits::MAX_UNITS;
 use numbers::Number;
 use numbers::read_number;
 use slices::begins_in;
 use slices::begins_with;
 use slices::minus_or_zero;
 use slices::rest;
-
-// How many units a formula may have.
-pub const MAX_UNITS: usize = 12;
-
-// The most that a count or a nucleon number may be.
-pub const MAX_COUNT: u32 = 999;
 
 // A unit: its numbers, as read_number tells them, where its count stands, and how many bytes it has. A silent count is 1, and a unit
 // without nucleon number has 0 nucleons.

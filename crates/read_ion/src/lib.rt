@@ -6,6 +6,7 @@ ghost use Rattle.read_ion.specs.Kinds.{withText, seriesOf, internalOf, o
 ghost use Rattle.read_ion.specs.Ions.{ionOf};
 use faults::Fault;
 use faults::check_number;
+use limits::MAX_POSITION;
 use numbers::read_number;
 use read_formula::formula;
 use read_opening::Enclosed;
@@ -16,9 +17,6 @@ use slices::begins_with;
 use slices::byte_of;
 use slices::minus_or_zero;
 use slices::rest;
-
-// The most that a position, an end of an internal ion, or a label may be.
-pub const MAX_POSITION: u32 = 65535;
 
 // An ion. Letter: series 1 to 13, or the letter of an immonium ion. Position: position, start or label; last: the end of an internal
 // ion. It has so many units, or bytes of text: the formula, or the brace or bracket before the text, begins at `start`.

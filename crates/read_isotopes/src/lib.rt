@@ -9,13 +9,14 @@ use elements::read_element;
 use faults::Fault;
 use faults::check_count;
 use faults::check_number;
+use limits::MAX_COUNT;
+use limits::MAX_ISOTOPES;
 use numbers::read_number;
 use print_count::Respelled;
 use print_count::put_head;
 use put_bytes::put_le;
 use put_bytes::put_run;
 use put_bytes::put8;
-use read_formula::MAX_COUNT;
 use read_opening::Head;
 use read_opening::begins_isotope;
 use read_opening::read_head;
@@ -25,9 +26,6 @@ use slices::begins_with;
 use slices::minus_or_zero;
 use slices::part;
 use slices::rest;
-
-// How many isotopes an annotation may have.
-pub const MAX_ISOTOPES: usize = 4;
 
 // An isotope. Kind 0: plain; 1: average, `A` behind the `i`; 2: specific, with nucleon number and symbol behind the `i`.
 pub struct IsotopeRead {

@@ -17,12 +17,9 @@ isRead a table = eqb (a .number) 0 && sameBytes (take (a .size) (a .out)) table
 unfoldable pub readsTo : Verdict → List ℕ → List ℕ → List ℕ → Bool
 readsTo v scratch line table = allBytes line && isRead (anyOver scratch v line) table
 
--- enough bytes for most tables, and for all
+-- enough bytes for most tables
 abbrev pub few : ℕ
 few = 1024
-
-abbrev pub largest : ℕ
-largest = 43596
 
 abbrev pub zeros : ℕ → List ℕ
 zeros n = replicate n 0

@@ -7,10 +7,12 @@ ghost use Rattle.scan_line.specs.Steps.{scannedBy};
 ghost use Rattle.read_line.specs.Stores.{StoresNext, StoresLine};
 ghost use Rattle.read_line.specs.Readings.{ReadsSpelled, anyOver, readOf};
 ghost use Rattle.read_line.specs.Same.{sameBytes};
-ghost use Rattle.read_line.specs.Back.{readsTo, few, largest, zeros};
+ghost use Rattle.rules.specs.Largest.{maxAnyTable};
+ghost use Rattle.read_line.specs.Back.{readsTo, few, zeros};
 use answers::Answer;
-use answers::MAX_LINE;
 use answers::refuse;
+use limits::MAX_ANY_TABLE;
+use limits::MAX_LINE;
 use measure_line::first_refusal;
 use measure_line::read_at;
 use measure_line::total;
@@ -29,9 +31,6 @@ use store_sections::size_of;
 
 // Bytes that suffice for most tables.
 pub const FEW: usize = 1024;
-
-// Bytes that suffice for every table.
-pub const TABLE: usize = 43596;
 
 // How far storing has come.
 pub struct StoredTo {
@@ -158,8 +157,8 @@ pub fn reads_to_few(machine: &[u8], line: &[u8], table: &[u8]) -> bool
 
 // Whether a line of any length reads to a table.
 pub fn reads_to(machine: &[u8], line: &[u8], table: &[u8]) -> bool
-    ensures { λ r. ⌜ r ≡ readsTo (scannedBy (now (machine .entry)) (now (line .entry))) (zeros largest) (now (line .entry)) (now (table .entry)) ⌝ }
+    ensures { λ r. ⌜ r ≡ readsTo (scannedBy (now (machine .entry)) (now (line .entry))) (zeros maxAnyTable) (now (line .entry)) (now (table .entry)) ⌝ }
 {
-    let mut scratch = [0u8; TABLE];
+    let mut scratch = [0u8; MAX_ANY_TABLE];
     reads_into(machine, line, table, &mut scratch)
 }

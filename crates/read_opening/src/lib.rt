@@ -8,6 +8,7 @@ ghost use Rattle.faults.specs.Faults.{join};
 ghost use Rattle.read_opening.specs.Heads.{signOf, headOf, behind, beginsSign, beginsChange, beginsIsotope};
 ghost use Rattle.read_opening.specs.Enclosed.{longMark, enclosedOf, textOf, nameOf};
 use faults::Fault;
+use limits::MAX_TEXT;
 use numbers::read_number;
 use read_formula::or_one;
 use slices::advance;
@@ -16,9 +17,6 @@ use slices::minus_or_zero;
 use slices::rest;
 use texts::name_len;
 use texts::text_len;
-
-// How many bytes a text or a name may have.
-pub const MAX_TEXT: usize = 255;
 
 // A sign, 0 for `-` and 1 for `+`, and a count, as read_number tells it; a silent count is 1.
 pub struct Head {

@@ -7,6 +7,7 @@ ghost use Rattle.read_tail.specs.Decimals.{noPart, partOf, sizeAt, confi
 use faults::Fault;
 use faults::check_number;
 use faults::check_refusal;
+use limits::MAX_CHARGE;
 use numbers::Decimal;
 use numbers::MadeDecimal;
 use numbers::read_decimal;
@@ -14,9 +15,6 @@ use numbers::read_number;
 use slices::begins_with;
 use slices::minus_or_zero;
 use slices::rest;
-
-// The most that a charge may be.
-pub const MAX_CHARGE: u32 = 255;
 
 // A charge: its number, as read_number tells it, how many bytes it has, and the first broken limit. A silent charge is 1.
 pub struct ChargeRead {

@@ -26,6 +26,7 @@ use Rattle.rules.specs.Limits.{unitMarks, formulaPart, ionParts, lostPar
 use Rattle.rules.specs.Limits.{annotationParts, annotationMarks, nextMarks, lineMarks}
 use Rattle.rules.specs.Answers.{Sound}
 use Rattle.rules.specs.Stored.{bytesOf, ionFields, lostUnits, lostName, specificRecord, isotopeRecords, addedUnits}
+use Rattle.rules.specs.Layout.{unitWidth}
 use Rattle.rules.proofs.Totals.{in-map, perm-length, perm-in}
 use Rattle.rules.proofs.Keeps.{kept-left, kept-right, kept-tail, kept-part, not-past, not-many, row-each, row-few}
 
@@ -54,7 +55,7 @@ formula-few f at k = omega (arith, row-few unitText unitMarks maxUnits unit-coun
 pub record Small (units : List (FormulaUnit Number)) (text : List ℕ) : Type 0 where
   pub few : length units ≤ maxUnits
   pub short : length text ≤ maxText
-  pub weight : 6 * length units + length text ≤ maxText
+  pub weight : unitWidth * length units + length text ≤ maxText
 
 small-text : (w : List ℕ) → length w ≤ maxText → Small [] w
 small-text w h = record { few = omega arith; short = h; weight = omega arith }

@@ -24,13 +24,14 @@ use Rattle.rules.specs.House.{isEmpty, ionRule, deviationRule, confidenc
 use Rattle.rules.specs.Preferred.{countOr1}
 use Rattle.rules.specs.Stored.{Field, present, valueOr0, isotopeRecords, annotationRecord}
 use Rattle.rules.specs.Answers.{Sound}
+use Rattle.rules.specs.Layout.{isotopeWidths, annotationWidths}
 use Rattle.rules.proofs.OneAnswer.{written-not-silent}
 use Rattle.rules.proofs.Totals.{in-map, perm-in}
 use Rattle.rules.proofs.Keeps.{kept-tail, kept-part, not-past, row-each}
 use Rattle.rules.proofs.Bounds.{Bounded, each-in, line-each}
 use Rattle.rules.proofs.OneRecord.{Fits}
 use Rattle.rules.proofs.FitDecimals.{flag-small, DeviationFits, deviation-fits, ConfidenceFits, confidence-fits}
-use Rattle.rules.proofs.FitParts.{LossFits, loss-fits, isotopeWidths, isotopes-fit, ItemFits, item-fits}
+use Rattle.rules.proofs.FitParts.{LossFits, loss-fits, isotopes-fit, ItemFits, item-fits}
 use Rattle.rules.proofs.FitIons.{IonFits, ion-fits}
 
 -- ---- an annotation
@@ -118,10 +119,6 @@ table-in-range t s a i =
     same-in-range (c .2 .fields) (kept-in-range (k .0) (c .0) (k .1) (k .2) (rules-each 0 (s .spelling) (s .rules) (c .0) (c .1)))
 
 -- ---- the record of an annotation
-
--- kind, flags, letter; analyte, position, end; charge, deviation, confidence; their values; how many of each part
-abbrev pub annotationWidths : List ℕ
-annotationWidths = 1 ∷ 1 ∷ 1 ∷ 1 ∷ 2 ∷ 2 ∷ 2 ∷ 1 ∷ 1 ∷ 1 ∷ 1 ∷ 1 ∷ 1 ∷ 8 ∷ 4 ∷ 2 ∷ 2 ∷ 1 ∷ 1 ∷ 1 ∷ 1 ∷ []
 
 present-small : {A : Type 0} (x : Opt A) → present x ≤ 1
 present-small silent = omega arith

@@ -27,7 +27,7 @@ kept-true false h = h tt
 decimal-places : (d : Decimal) → T (fits d) → d .places ≤ maxPlaces
 decimal-places d t = leb→le (d .places) maxPlaces (and-0 (leb (d .places) maxPlaces) (leb (digitCount d) maxDigits) t)
 
-decimal-size : (d : Decimal) → T (fits d) → d .value < 10 ^ 12
+decimal-size : (d : Decimal) → T (fits d) → d .value < 10 ^ maxDigits
 decimal-size d t = decimal-below d (leb→le (digitCount d) maxDigits (and-1 (leb (d .places) maxPlaces) (leb (digitCount d) maxDigits) t))
 
 -- ---- deviations
@@ -39,7 +39,7 @@ sizeOf x = valueOr0 (λ d. d .size .value) x
 pub record DeviationFits (x : Opt Deviation) : Type 0 where
   pub kind : deviationKind x ≤ 2
   pub places : valueOr0 (λ d. d .size .places) x ≤ maxPlaces
-  pub size : sizeOf x < 10 ^ 12
+  pub size : sizeOf x < 10 ^ maxDigits
   pub value : valueOr0 (λ d. signed (d .minus) (d .size .value)) x < 2 ^ 64
 
 pub flag-small : (b : Bool) → flag b ≤ 1
@@ -47,7 +47,7 @@ flag-small true = omega arith
 flag-small false = omega arith
 
 -- no `-` before 0
-signed-fits : (m : Bool) (n : ℕ) → n < 10 ^ 12 → T (not m || leb 1 n) → signed m n < 2 ^ 64
+signed-fits : (m : Bool) (n : ℕ) → n < 10 ^ maxDigits → T (not m || leb 1 n) → signed m n < 2 ^ 64
 signed-fits true n h t = let g = leb→le 1 n t in omega arith
 signed-fits false n h t = omega arith
 
@@ -63,7 +63,7 @@ deviation-fits (written d) at k t =
 
 pub record ConfidenceFits (x : Opt Decimal) : Type 0 where
   pub places : valueOr0 (λ d. d .places) x ≤ maxPlaces
-  pub value : valueOr0 (λ d. d .value) x ≤ 10 ^ 9
+  pub value : valueOr0 (λ d. d .value) x ≤ 10 ^ maxPlaces
 
 -- at most 1, and so at most a billion of its last places
 pub confidence-fits : (x : Opt Decimal) (at : ℕ) → Kept (optPart confidencePart x .marks at) → T (leb (confidenceOf x) one) → ConfidenceFits x

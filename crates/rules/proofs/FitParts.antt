@@ -17,6 +17,7 @@ use Rattle.rules.specs.Fields.{filled}
 use Rattle.rules.specs.Limits.{maxCount, bare, part, optPart, numberPart, unitMarks, formulaPart, lostPart, lossParts, lossMarks, shiftMarks, specificMarks, isotopesMarks, addedPart, itemParts, itemMarks}
 use Rattle.rules.specs.Preferred.{signRank, countOr1}
 use Rattle.rules.specs.Stored.{Field, unitRecord, lostKind, lostUnits, lossRecord, specificRecord, isotopeRecords, addedKind, addedUnits, itemRecord}
+use Rattle.rules.specs.Layout.{unitWidths, lossWidths, isotopeWidths, itemWidths}
 use Rattle.rules.proofs.Totals.{in-none, in-cons, in-map}
 use Rattle.rules.proofs.Keeps.{kept-tail, kept-part, not-past, row-each}
 use Rattle.rules.proofs.Bounds.{loss-small, item-few}
@@ -45,10 +46,6 @@ symbol-small s = let h = ltb→lt (s .which) (length symbols) (s .known) in omeg
 
 -- ---- units
 
--- nucleons, atomic number, count
-abbrev pub unitWidths : List ℕ
-unitWidths = 2 ∷ 2 ∷ 2 ∷ []
-
 abbrev pub UnitFits : FormulaUnit Number → Type 0
 UnitFits u = Fits unitWidths (unitRecord u)
 
@@ -69,10 +66,6 @@ formula-fits f at k =
     in-map (unitMap filled) UnitFits (items f) (λ v j. let c = row-each unitText unitMarks 0 (items f) at k v j in unit-fits (c .0) v (c .1) (c .2))
 
 -- ---- losses
-
--- sign, kind, count, units or name bytes
-abbrev pub lossWidths : List ℕ
-lossWidths = 1 ∷ 1 ∷ 2 ∷ 2 ∷ []
 
 pub record LossFits (l : Loss Number) : Type 0 where
   pub self : Fits lossWidths (lossRecord l)
@@ -97,10 +90,6 @@ loss-fits i l at k =
     }
 
 -- ---- isotopes
-
--- sign, kind, n, nucleons, atomic number
-abbrev pub isotopeWidths : List ℕ
-isotopeWidths = 1 ∷ 1 ∷ 2 ∷ 2 ∷ 2 ∷ []
 
 shift-within : (x : Shift Written) (at : ℕ) → Kept (shiftMarks x at) → filled (x .count) .value ≤ maxCount
 shift-within x at k =
@@ -136,10 +125,6 @@ isotopes-fit (specific-isotopes xs) at k =
     (λ x j. specific-fits (each x j .0) x (each x j .1) (each x j .2)))
 
 -- ---- adduct items
-
--- sign, kind, count, units
-abbrev pub itemWidths : List ℕ
-itemWidths = 1 ∷ 1 ∷ 2 ∷ 2 ∷ []
 
 pub record ItemFits (x : Item Number) : Type 0 where
   pub self : Fits itemWidths (itemRecord x)

@@ -84,9 +84,9 @@ digits-of-value d =
     value-append 0 (digits w) l ∙ ap (λ (x : ℕ). valueFrom x l) (digits-value w) ∙ value-back (d .places) (d .value)
 
 -- a decimal within its bound of digits
-pub decimal-below : (d : Decimal) → digitCount d ≤ maxDigits → d .value < 10 ^ 12
+pub decimal-below : (d : Decimal) → digitCount d ≤ maxDigits → d .value < 10 ^ maxDigits
 decimal-below d h =
     let w = whole (d .places) (d .value) in
     let t = all-append (digits w) (lastDigits (d .places) (d .value)) (digits-all w) (last-digits (d .places) (d .value)) in
     let b = value-below maxDigits 0 1 (digitsOf d) t (omega (arith, digits-of-length d)) (omega arith) in
-    subst (λ (v : ℕ). v < 10 ^ 12) (digits-of-value d) b
+    subst (λ (v : ℕ). v < 10 ^ maxDigits) (digits-of-value d) b

@@ -16,6 +16,7 @@ use Rattle.rules.specs.Fields.{Table}
 use Rattle.rules.specs.Stored.{little, Field, stores, unitRecord, lossRecord}
 use Rattle.rules.specs.Stored.{isotopeRecord, specificRecord, isotopeRecords, itemRecord, annotationRecord}
 use Rattle.rules.specs.Stored.{annotationUnits, annotationTexts, section, sections, headerSize, counts, body, header, stored}
+use Rattle.rules.specs.Layout.{annotationWidth, lossWidth, isotopeWidth, itemWidth, unitWidth}
 use Rattle.rules.proofs.Totals.{total, length-flat, length-flat-each, in-none, in-map, in-flat}
 
 -- ---- records
@@ -29,28 +30,28 @@ stores-length [] = refl
 stores-length (f ∷ fs) =
     omega (arith, length-append (little (f .width) (f .value)) (stores fs), little-length (f .width) (f .value), stores-length fs)
 
-pub unit-length : (u : FormulaUnit Number) → length (stores (unitRecord u)) ≡ 6
+pub unit-length : (u : FormulaUnit Number) → length (stores (unitRecord u)) ≡ unitWidth
 unit-length (plain s c) = refl
 unit-length (labelled a s c) = refl
 
-pub loss-length : (l : Loss Number) → length (stores (lossRecord l)) ≡ 6
+pub loss-length : (l : Loss Number) → length (stores (lossRecord l)) ≡ lossWidth
 loss-length l = refl
 
-pub isotope-length : (x : Shift Number) (kind nucleons element : ℕ) → length (stores (isotopeRecord x kind nucleons element)) ≡ 8
+pub isotope-length : (x : Shift Number) (kind nucleons element : ℕ) → length (stores (isotopeRecord x kind nucleons element)) ≡ isotopeWidth
 isotope-length x kind nucleons element = refl
 
-pub each-isotope : (x : Isotopes Number) (fs : List Field) → In fs (isotopeRecords x) → length (stores fs) ≡ 8
+pub each-isotope : (x : Isotopes Number) (fs : List Field) → In fs (isotopeRecords x) → length (stores fs) ≡ isotopeWidth
 each-isotope no-isotope fs i = absurd (in-none i)
 each-isotope (plain-isotope x) fs here = refl
 each-isotope (plain-isotope x) fs (later i) = absurd (in-none i)
 each-isotope (average-isotope x) fs here = refl
 each-isotope (average-isotope x) fs (later i) = absurd (in-none i)
-each-isotope (specific-isotopes xs) fs i = in-map specificRecord (λ fs. length (stores fs) ≡ 8) (items xs) (λ x j. refl) fs i
+each-isotope (specific-isotopes xs) fs i = in-map specificRecord (λ fs. length (stores fs) ≡ isotopeWidth) (items xs) (λ x j. refl) fs i
 
-pub item-length : (x : Item Number) → length (stores (itemRecord x)) ≡ 6
+pub item-length : (x : Item Number) → length (stores (itemRecord x)) ≡ itemWidth
 item-length x = refl
 
-pub annotation-length : (a : Annotation Number) → length (stores (annotationRecord a)) ≡ 36
+pub annotation-length : (a : Annotation Number) → length (stores (annotationRecord a)) ≡ annotationWidth
 annotation-length a = refl
 
 pub header-length : (t : Table) → length (stores (header t)) ≡ headerSize
@@ -78,28 +79,29 @@ unitsOf t = flat annotationUnits t
 abbrev pub textsOf : Table → List ℕ
 textsOf t = flat annotationTexts t
 
-pub annotations-length : (t : Table) → length (section annotationRecord t .bytes) ≡ 36 * length t
-annotations-length t = section-length annotationRecord 36 t (λ a i. annotation-length a)
+pub annotations-length : (t : Table) → length (section annotationRecord t .bytes) ≡ annotationWidth * length t
+annotations-length t = section-length annotationRecord annotationWidth t (λ a i. annotation-length a)
 
-pub losses-length : (t : Table) → length (section lossRecord (lossesOf t) .bytes) ≡ 6 * length (lossesOf t)
-losses-length t = section-length lossRecord 6 (lossesOf t) (λ l i. loss-length l)
+pub losses-length : (t : Table) → length (section lossRecord (lossesOf t) .bytes) ≡ lossWidth * length (lossesOf t)
+losses-length t = section-length lossRecord lossWidth (lossesOf t) (λ l i. loss-length l)
 
-pub isotopes-length : (t : Table) → length (section (λ x. x) (isotopesOf t) .bytes) ≡ 8 * length (isotopesOf t)
+pub isotopes-length : (t : Table) → length (section (λ x. x) (isotopesOf t) .bytes) ≡ isotopeWidth * length (isotopesOf t)
 isotopes-length t =
-    let eight = in-flat (λ a. isotopeRecords (a .isotopes)) (λ fs. length (stores fs) ≡ 8) t (λ a i. each-isotope (a .isotopes)) in
-    section-length (λ x. x) 8 (isotopesOf t) eight
+    let each = in-flat (λ a. isotopeRecords (a .isotopes)) (λ fs. length (stores fs) ≡ isotopeWidth) t (λ a i. each-isotope (a .isotopes)) in
+    section-length (λ x. x) isotopeWidth (isotopesOf t) each
 
-pub items-length : (t : Table) → length (section itemRecord (itemsOf t) .bytes) ≡ 6 * length (itemsOf t)
-items-length t = section-length itemRecord 6 (itemsOf t) (λ x i. item-length x)
+pub items-length : (t : Table) → length (section itemRecord (itemsOf t) .bytes) ≡ itemWidth * length (itemsOf t)
+items-length t = section-length itemRecord itemWidth (itemsOf t) (λ x i. item-length x)
 
-pub units-length : (t : Table) → length (section unitRecord (unitsOf t) .bytes) ≡ 6 * length (unitsOf t)
-units-length t = section-length unitRecord 6 (unitsOf t) (λ u i. unit-length u)
+pub units-length : (t : Table) → length (section unitRecord (unitsOf t) .bytes) ≡ unitWidth * length (unitsOf t)
+units-length t = section-length unitRecord unitWidth (unitsOf t) (λ u i. unit-length u)
 
 -- the bytes after the header
 abbrev pub bodySize : Table → ℕ
 bodySize t =
-    36 * length t
-    + (6 * length (lossesOf t) + (8 * length (isotopesOf t) + (6 * length (itemsOf t) + (6 * length (unitsOf t) + length (textsOf t)))))
+    annotationWidth * length t
+    + (lossWidth * length (lossesOf t) + (isotopeWidth * length (isotopesOf t)
+    + (itemWidth * length (itemsOf t) + (unitWidth * length (unitsOf t) + length (textsOf t)))))
 
 pub body-length : (t : Table) → length (body t) ≡ bodySize t
 body-length t =
@@ -113,8 +115,8 @@ stored-length t = omega (arith, body-length t)
 -- the bytes of the table that are an annotation's
 abbrev pub weight : Annotation Number → ℕ
 weight a =
-    36 + (6 * length (a .losses) + (8 * length (isotopeRecords (a .isotopes))
-    + (6 * length (a .adduct) + (6 * length (annotationUnits a) + length (annotationTexts a)))))
+    annotationWidth + (lossWidth * length (a .losses) + (isotopeWidth * length (isotopeRecords (a .isotopes))
+    + (itemWidth * length (a .adduct) + (unitWidth * length (annotationUnits a) + length (annotationTexts a)))))
 
 pub body-weight : (t : Table) → bodySize t ≡ total weight t
 body-weight [] = refl

@@ -19,6 +19,7 @@ pub mod RisesParts
 pub mod Rises
 pub mod FirstBroken
 pub mod StrayStays
+pub mod Widths
 pub mod Bounds
 pub mod Lengths
 pub mod Sizes

@@ -13,6 +13,7 @@ use Rattle.rules.specs.Annotations.{Deviation, Annotation}
 use Rattle.rules.specs.Fields.{Table}
 use Rattle.rules.specs.Stored.{present, valueOr0, ionFields, lostUnits, lostName, lossRecord, isotopeRecords, addedUnits, itemRecord}
 use Rattle.rules.specs.Stored.{deviationKind, signed, annotationRecord}
+use Rattle.rules.specs.Limits.{maxDigits}
 use Rattle.rules.proofs.Keys.{count-one}
 use Rattle.rules.proofs.Lengths.{lossesOf, isotopesOf, itemsOf, unitsOf, textsOf}
 use Rattle.rules.proofs.Cuts.{cut, cut-map}
@@ -28,13 +29,13 @@ analyte-one : (x y : Opt ℕ) → present x ≡ present y → valueOr0 (λ n. n)
 analyte-one x y p e = there-one (λ n. n) (λ n. n) (λ m n d f. d) x y p e e
 
 -- a number of at most 12 digits is not another one's complement
-signed-one : (x y : Bool) (m n : ℕ) → m < 10 ^ 12 → n < 10 ^ 12 → signed x m ≡ signed y n → (x ≡ y) × (m ≡ n)
+signed-one : (x y : Bool) (m n : ℕ) → m < 10 ^ maxDigits → n < 10 ^ maxDigits → signed x m ≡ signed y n → (x ≡ y) × (m ≡ n)
 signed-one true true m n h g e = (refl, omega arith)
 signed-one true false m n h g e = absurd (omega arith)
 signed-one false true m n h g e = absurd (omega arith)
 signed-one false false m n h g e = (refl, e)
 
-deviation-one : (x y : Opt Deviation) → sizeOf x < 10 ^ 12 → sizeOf y < 10 ^ 12 → deviationKind x ≡ deviationKind y
+deviation-one : (x y : Opt Deviation) → sizeOf x < 10 ^ maxDigits → sizeOf y < 10 ^ maxDigits → deviationKind x ≡ deviationKind y
     → valueOr0 (λ d. d .size .places) x ≡ valueOr0 (λ d. d .size .places) y
     → valueOr0 (λ d. signed (d .minus) (d .size .value)) x ≡ valueOr0 (λ d. signed (d .minus) (d .size .value)) y → x ≡ y
 deviation-one silent silent h g k p e = refl
@@ -73,7 +74,7 @@ texts-along : (a : Annotation Number) (t : Table) → textsOf (a ∷ t) ≡ ionF
 texts-along a t = append-assoc (ionFields (a .ion) .text) (flat (λ l. lostName (l .what)) (a .losses)) (textsOf t)
 
 -- the numbers below are places of fields in the record
-annotation-one : (a b : Annotation Number) (t u : Table) → sizeOf (a .deviation) < 10 ^ 12 → sizeOf (b .deviation) < 10 ^ 12
+annotation-one : (a b : Annotation Number) (t u : Table) → sizeOf (a .deviation) < 10 ^ maxDigits → sizeOf (b .deviation) < 10 ^ maxDigits
     → annotationRecord a ≡ annotationRecord b → SameParts (a ∷ t) (b ∷ u) → (a ≡ b) × SameParts t u
 annotation-one a b t u h g e p =
     let ls = cut-map lossRecord (a .losses) (lossesOf t) (b .losses) (lossesOf u) (ap (valueAt 17) e) (p .losses) in
@@ -103,8 +104,8 @@ annotation-one a b t u h g e p =
     } in
     (one, record { losses = ls .1; isotopes = is .1; items = xs .1; units = x .1; texts = l .2 })
 
-pub table-one : (t u : Table) → ((a : Annotation Number) → In a t → sizeOf (a .deviation) < 10 ^ 12)
-    → ((a : Annotation Number) → In a u → sizeOf (a .deviation) < 10 ^ 12)
+pub table-one : (t u : Table) → ((a : Annotation Number) → In a t → sizeOf (a .deviation) < 10 ^ maxDigits)
+    → ((a : Annotation Number) → In a u → sizeOf (a .deviation) < 10 ^ maxDigits)
     → map annotationRecord t ≡ map annotationRecord u → SameParts t u → t ≡ u
 table-one [] [] h g e p = refl
 table-one [] (b ∷ u) h g e p = absurd (nil≢cons e)

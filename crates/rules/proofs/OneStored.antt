@@ -15,6 +15,8 @@ use Rattle.rules.specs.Fields.{Table}
 use Rattle.rules.specs.Stored.{Field, stores, ionFields, lostUnits, lossRecord, isotopeRecords, addedUnits, itemRecord, unitRecord}
 use Rattle.rules.specs.Stored.{annotationRecord, annotationUnits, Section, section, sections, headerSize, counts, body, header, stored}
 use Rattle.rules.specs.Answers.{Sound}
+use Rattle.rules.specs.Layout.{unitWidths, lossWidths, isotopeWidths, itemWidths, annotationWidths}
+use Rattle.rules.specs.Largest.{maxAnyTable}
 use Rattle.rules.proofs.Totals.{in-append, in-flat}
 use Rattle.rules.proofs.Bounds.{table-bounded}
 use Rattle.rules.proofs.Lengths.{lossesOf, isotopesOf, itemsOf, unitsOf, textsOf, annotations-length, losses-length, isotopes-length, items-length, units-length}
@@ -23,8 +25,8 @@ use Rattle.rules.proofs.Cuts.{cut, map-one}
 use Rattle.rules.proofs.OneRecord.{Fits, stores-one, records-one}
 use Rattle.rules.proofs.OnePart.{valueAt, unit-one}
 use Rattle.rules.proofs.OneAnnotation.{table-one}
-use Rattle.rules.proofs.FitParts.{UnitFits, unitWidths, lossWidths, isotopeWidths, itemWidths}
-use Rattle.rules.proofs.FitAnnotations.{table-in-range, annotationWidths, annotation-fits}
+use Rattle.rules.proofs.FitParts.{UnitFits}
+use Rattle.rules.proofs.FitAnnotations.{table-in-range, annotation-fits}
 
 -- ---- the header
 
@@ -33,7 +35,7 @@ abbrev countWidths : List Section → List ℕ
 countWidths [] = []
 countWidths (s ∷ ss) = 2 ∷ 2 ∷ countWidths ss
 
-counts-fit : (at : ℕ) (ss : List Section) → ((f : Field) → In f (counts at ss) → f .value ≤ 43596) → Fits (countWidths ss) (counts at ss)
+counts-fit : (at : ℕ) (ss : List Section) → ((f : Field) → In f (counts at ss) → f .value ≤ maxAnyTable) → Fits (countWidths ss) (counts at ss)
 counts-fit at [] h = tt
 counts-fit at (s ∷ ss) h =
     let rest = counts-fit (at + length (s .bytes)) ss (λ f i. h f (later (later i))) in

@@ -10,28 +10,26 @@ use Rattle.rules.specs.Losses.{Loss}
 use Rattle.rules.specs.Annotations.{Annotation}
 use Rattle.rules.specs.Fields.{Table}
 use Rattle.rules.specs.Limits.{maxUnits, maxText}
+use Rattle.rules.specs.Layout.{unitWidth}
+use Rattle.rules.specs.Largest.{maxAnnotationBytes, maxAnyTable}
 use Rattle.rules.specs.Answers.{Sound}
 use Rattle.rules.specs.Stored.{Field, ionFields, lostUnits, lostName, addedUnits, Section, sections, headerSize, counts, header, stored}
 use Rattle.rules.proofs.Totals.{total, length-flat, total-le, total-add, total-times, in-none, in-cons}
 use Rattle.rules.proofs.Bounds.{Small, Bounded, table-few, table-bounded}
 use Rattle.rules.proofs.Lengths.{annotations-length, losses-length, isotopes-length, items-length, units-length, weight, stored-weight}
 
--- of an annotation: 36 + 255 + 8 * (6 + 255) + 4 * 8 + 4 * (6 + 12 * 6)
-abbrev pub maxWeight : ℕ
-maxWeight = 2723
-
 -- the units and name bytes of all losses
 losses-weigh : (ls : List (Loss Number)) → ((l : Loss Number) → In l ls → Small (lostUnits (l .what)) (lostName (l .what)))
-    → 6 * total (λ l. length (lostUnits (l .what))) ls + total (λ l. length (lostName (l .what))) ls ≤ maxText * length ls
+    → unitWidth * total (λ l. length (lostUnits (l .what))) ls + total (λ l. length (lostName (l .what))) ls ≤ maxText * length ls
 losses-weigh ls h =
     omega (
       arith,
-      total-le (λ l. 6 * length (lostUnits (l .what)) + length (lostName (l .what))) maxText ls (λ l i. h l i .weight),
-      total-add (λ l. 6 * length (lostUnits (l .what))) (λ l. length (lostName (l .what))) ls,
-      total-times 6 (λ l. length (lostUnits (l .what))) ls,
+      total-le (λ l. unitWidth * length (lostUnits (l .what)) + length (lostName (l .what))) maxText ls (λ l i. h l i .weight),
+      total-add (λ l. unitWidth * length (lostUnits (l .what))) (λ l. length (lostName (l .what))) ls,
+      total-times unitWidth (λ l. length (lostUnits (l .what))) ls,
     )
 
-pub weight-fits : (a : Annotation Number) → Bounded a → weight a ≤ maxWeight
+pub weight-fits : (a : Annotation Number) → Bounded a → weight a ≤ maxAnnotationBytes
 weight-fits a h =
     let u = ionFields (a .ion) .units in
     let lu = flat (λ l. lostUnits (l .what)) (a .losses) in
@@ -53,10 +51,9 @@ weight-fits a h =
       length-flat (λ l. lostName (l .what)) (a .losses),
     )
 
--- 28 + 16 * 2723
-pub sizes-fit : (t : Table) → Sound t → length (stored t) ≤ 43596
+pub sizes-fit : (t : Table) → Sound t → length (stored t) ≤ maxAnyTable
 sizes-fit t s =
-    omega (arith, stored-weight t, total-le weight maxWeight t (λ a i. weight-fits a (table-bounded t s a i)), table-few t s)
+    omega (arith, stored-weight t, total-le weight maxAnnotationBytes t (λ a i. weight-fits a (table-bounded t s a i)), table-few t s)
 
 -- ---- the header
 
@@ -75,8 +72,8 @@ sections-full t =
     in-cons P (omega (arith, annotations-length t)) (in-cons P (omega (arith, losses-length t)) (in-cons P (omega (arith, isotopes-length t))
     (in-cons P (omega (arith, items-length t)) (in-cons P (omega (arith, units-length t)) (in-cons P (omega arith) (λ s i. absurd (in-none i)))))))
 
-pub header-fits : (t : Table) → Sound t → (f : Field) → In f (header t) → f .value ≤ 43596
+pub header-fits : (t : Table) → Sound t → (f : Field) → In f (header t) → f .value ≤ maxAnyTable
 header-fits t s =
-    let P : Field → Type 0 = λ f. f .value ≤ 43596 in
+    let P : Field → Type 0 = λ f. f .value ≤ maxAnyTable in
     let past = counts-le headerSize (sections t) (sections-full t) in
     in-cons P (omega arith) (in-cons P (omega (arith, sizes-fit t s)) (λ f i. omega (arith, sizes-fit t s, past f i, length-flat (λ s. s .bytes) (sections t))))

@@ -15,4 +15,6 @@ pub mod Fields
 pub mod Limits
 pub mod House
 pub mod Stored
+pub mod Layout
+pub mod Largest
 pub mod Answers

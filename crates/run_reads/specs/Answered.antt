@@ -1,6 +1,7 @@
 -- What is printed for a line of the input, and where it waits to be written. Assumes nothing.
 use mathlib.Core.Bool.{Bool}
 use mathlib.Core.List.{List}
+use Rattle.rules.specs.Largest.{maxTable}
 use Rattle.answers.specs.declared.Answer.{Answer}
 use Rattle.io_lines.specs.declared.Stream.{Stream}
 use Rattle.run_program.specs.Waits.{Waits}

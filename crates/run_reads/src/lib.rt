@@ -13,15 +13,13 @@ use io_answers::size_in;
 use io_lines::Stream;
 use io_lines::next_line;
 use io_lines::room;
+use limits::MAX_TABLE;
 use read_line::read_by;
 use run_program::finish;
 use slices::part;
 
-// How many bytes a table needs at most.
-pub const TABLE: usize = 21340;
-
 // The longest answer: three numbers of at most 20 digits, each with a blank; the table; a line feed.
-const ANSWER: usize = 64 + 2 * TABLE;
+const ANSWER: usize = 64 + 2 * MAX_TABLE;
 
 // All lines, for the program of this name. Where they are sized, each begins with the length of its output, a number of at most 21,340, and a blank; else the output
 // is as long as any table needs.
@@ -29,7 +27,7 @@ pub fn answer_lines(name: &[u8], sized: bool) {
     let machine = scan_line::machine();
     let mut buf = io::large_buffer();
     let mut out = io::large_buffer();
-    let mut table = [0u8; TABLE];
+    let mut table = [0u8; MAX_TABLE];
     all(name, &machine, &mut buf, &mut out, &mut table, sized);
 }
 

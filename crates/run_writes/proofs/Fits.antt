@@ -9,11 +9,12 @@ use lib.ListN.{length, take}
 use borrow.Author.Tests.{ltb-false}
 use Rattle.rules.specs.Limits.{maxLine}
 use Rattle.rules.specs.Answers.{Answer, refuses, gives}
+use Rattle.rules.specs.Largest.{maxAnyTable}
 use Rattle.scan_line.specs.Steps.{scannedBy}
 use Rattle.print_table.specs.Tables.{printedTable}
 use Rattle.io_hex.specs.Hexes.{spelled, unhexed}
 use Rattle.answers.specs.Delivered.{lineOver}
-use Rattle.read_line.specs.Back.{readsTo, few, largest, zeros}
+use Rattle.read_line.specs.Back.{readsTo, few, zeros}
 use Rattle.write_table.specs.Writings.{foundOf, foundIn, longestPrinted, writtenOf}
 use Rattle.run_writes.specs.Answered.{hexOf}
 
@@ -47,7 +48,7 @@ unfolding writtenOf
 written-fits machine table room =
     let w = printedTable table in
     either (ltb few (length w) || ltb few (length table))
-    (found-fits machine longestPrinted (zeros largest) w table room)
+    (found-fits machine longestPrinted (zeros maxAnyTable) w table room)
     (found-fits machine few (zeros few) w table room)
 
 pub hex-fits : (machine digits : List ℕ) (tableRoom room : ℕ) → Fits room (hexOf machine digits tableRoom room)

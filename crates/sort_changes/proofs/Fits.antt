@@ -125,7 +125,7 @@ units-short (u ∷ us) h =
 
 record WhatFits (w : What) : Type 0 where
   units : AllOf UnitTold (whatUnits w)
-  short : length (whatKey w) ≤ 257
+  short : length (whatKey w) ≤ maxText + 2
 
 what-fits : (w : What) (at : ℕ) → Kept (whatPart w .marks at) → WhatFits w
 what-fits (a-formula x) at k =
@@ -154,7 +154,7 @@ change-fits bound i x at k =
 -- ---- rows
 
 module _ {A : Type 0} {m : ℕ} (of : A → Spelled m) (text : A → List ℕ) (bound : ℕ) (marks : ℕ → A → ℕ → List Mark)
-    (marks-of : (i : ℕ) (x : A) (at : ℕ) → marks i x at ≡ changeMarks bound i (of x) at) (eight : bound ≤ 8) where
+    (marks-of : (i : ℕ) (x : A) (at : ℕ) → marks i x at ≡ changeMarks bound i (of x) at) (few : bound ≤ maxLosses) where
   row-counted : (i : ℕ) (x : A) (at : ℕ) → Kept (marks i x at) → i < bound
   row-counted i x at k = not-many bound i at _ (subst (λ (l : List Mark). Kept l) (marks-of i x at) k)
 

@@ -7,6 +7,7 @@ use native.Mathlib.Decide.{decLe}
 use lib.ListN.{length, drop, replicate}
 use lib.Seq.{sets, take-append-seam, drop-append-add}
 use borrow.Author.Tests.{lt-ltb, le-ltb}
+use Rattle.rules.specs.Limits.{maxLosses}
 use Rattle.lang.specs.Order.{insert}
 use Rattle.put_bytes.specs.Puts.{maxPlace, Put}
 use Rattle.put_bytes.proofs.Putting.{put-as}
@@ -21,30 +22,30 @@ use Rattle.sort_changes.specs.Gathered.{Got, kept, slotFrom, slotOf, cha
 
 -- ---- a slot more, where there is room
 
--- the first of the eight
+-- the first of all slots
 pub held-slots : (l : List Slot) → slotsOf (heldIn l) ≡ l
-held-slots l = take-append-seam l (replicate (8 - length l) blank)
+held-slots l = take-append-seam l (replicate (maxLosses - length l) blank)
 
 held-with : (keys : List ℕ) (l : List Slot) (y : Slot) → withSlot keys (heldIn l) y ≡ heldIn (kept keys y l)
-held-with keys l y = by (decLe 8 (length l))
+held-with keys l y = by (decLe maxLosses (length l))
   where
-    by : Dec (8 ≤ length l) → withSlot keys (heldIn l) y ≡ heldIn (kept keys y l)
-    by (yes h) = rw (le-ltb (length l) 8 h) (with-full keys (heldIn l) y h)
+    by : Dec (maxLosses ≤ length l) → withSlot keys (heldIn l) y ≡ heldIn (kept keys y l)
+    by (yes h) = rw (le-ltb (length l) maxLosses h) (with-full keys (heldIn l) y h)
     by (no h) =
         let m = insert (slotLe keys) y l in
-        let g : length l < 8 = omega arith in
-        let e : 8 - length l ≡ suc (8 - (length l + 1)) = omega arith in
+        let g : length l < maxLosses = omega arith in
+        let e : maxLosses - length l ≡ suc (maxLosses - (length l + 1)) = omega arith in
         let count : length l + 1 ≡ length m = sym (insert-length keys y l) in
-        let rest : drop (length l + 1) (l ++ replicate (8 - length l) blank) ≡ replicate (8 - length m) blank =
-        drop-append-add l (replicate (8 - length l) blank) 1 ∙ ap (λ (n : ℕ). drop 1 (replicate n blank)) e ∙ ap (λ (n : ℕ). replicate (8 - n) blank) count
+        let rest : drop (length l + 1) (l ++ replicate (maxLosses - length l) blank) ≡ replicate (maxLosses - length m) blank =
+        drop-append-add l (replicate (maxLosses - length l) blank) 1 ∙ ap (λ (n : ℕ). drop 1 (replicate n blank)) e ∙ ap (λ (n : ℕ). replicate (maxLosses - n) blank) count
         in
-        let all : insertedAt keys y (length l) (l ++ replicate (8 - length l) blank) ≡ m ++ replicate (8 - length m) blank =
+        let all : insertedAt keys y (length l) (l ++ replicate (maxLosses - length l) blank) ≡ m ++ replicate (maxLosses - length m) blank =
         ap₂ (λ (s r : List Slot). insert (slotLe keys) y s ++ r) (held-slots l) rest
         in
-        let z : record { n = length l + 1; at = insertedAt keys y (length l) (l ++ replicate (8 - length l) blank) } ≡ heldIn m =
+        let z : record { n = length l + 1; at = insertedAt keys y (length l) (l ++ replicate (maxLosses - length l) blank) } ≡ heldIn m =
         λ j. record { n = count j; at = all j }
         in
-        rw (lt-ltb (length l) 8 g) (with-room keys (heldIn l) y g ∙ z)
+        rw (lt-ltb (length l) maxLosses g) (with-room keys (heldIn l) y g ∙ z)
 
 -- ---- what the code does
 

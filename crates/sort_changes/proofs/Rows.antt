@@ -12,6 +12,7 @@ use Rattle.rules.specs.Formulas.{FormulaUnit, unitMap}
 use Rattle.rules.specs.Fields.{filled}
 use Rattle.rules.specs.Preferred.{rank}
 use Rattle.rules.specs.Stored.{Field, stores, unitRecord}
+use Rattle.rules.specs.Layout.{unitSection, textSection}
 use Rattle.rules.proofs.Bounds.{each-length}
 use Rattle.put_formula.proofs.Chains.{flat-map}
 use Rattle.sort_slots.specs.declared.Slot.{Slot}
@@ -79,10 +80,10 @@ pub record StoredRow {B : Type 0} (before : B → B → Bool) (fields : B → Li
   pub n : length (gathered noKeys all .slots) ≡ length bs
   pub len : gathered noKeys all .at ≡ long
   pub own : bytesOf j (changeEvents j all) ≡ flat (λ b. stores (fields b)) ls
-  pub units-are : bytesOf 4 (changeEvents j all) ≡ flat (λ u. stores (unitRecord u)) (flat units ls)
-  pub text : bytesOf 5 (changeEvents j all) ≡ flat name ls
+  pub units-are : bytesOf unitSection (changeEvents j all) ≡ flat (λ u. stores (unitRecord u)) (flat units ls)
+  pub text : bytesOf textSection (changeEvents j all) ≡ flat name ls
   -- every other section gets nothing
-  pub others : (i : ℕ) → eqb i j ≡ false → eqb i 4 ≡ false → eqb i 5 ≡ false → bytesOf i (changeEvents j all) ≡ []
+  pub others : (i : ℕ) → eqb i j ≡ false → eqb i unitSection ≡ false → eqb i textSection ≡ false → bytesOf i (changeEvents j all) ≡ []
 
 -- things of a type A, spelled so; each means one of a type B, which has a key
 module _ {A B : Type 0} {m : ℕ} (of : A → Spelled m) (fill : A → B) (key : B → List ℕ) (key-of : (a : A) → changeKey (of a) ≡ key (fill a)) (j : ℕ) where
@@ -124,7 +125,7 @@ module _ {A B : Type 0} {m : ℕ} (of : A → Spelled m) (fill : A → B) (key :
             ∙ each-flat (StandsAs all keys) (slotSpelled keys) (λ a. changeSpelled (of a)) (slot-spelled all keys) (r .stand);
       }
 
-  module _ (h : j < 4) (fields : B → List Field) (units : B → List (FormulaUnit Number)) (name : B → List ℕ)
+  module _ (h : j < unitSection) (fields : B → List Field) (units : B → List (FormulaUnit Number)) (name : B → List ℕ)
       (fields-of : (a : A) → stores (changeRecord (of a)) ≡ stores (fields (fill a)))
       (units-of : (a : A) → map (unitMap filled) (whatUnits (of a .what)) ≡ units (fill a))
       (name-of : (a : A) → whatName (of a .what) ≡ name (fill a)) where
@@ -147,10 +148,10 @@ module _ {A B : Type 0} {m : ℕ} (of : A → Spelled m) (fill : A → B) (key :
               ap (bytesOf j) (r .events) ∙ bytes-each j f (λ a. stores (fields (fill a))) (λ a. bytes-record j h (of a) ∙ fields-of a) l
               ∙ flat-map (λ b. stores (fields b)) fill l;
           units-are =
-              ap (bytesOf 4) (r .events) ∙ bytes-each 4 f (λ a. unitBytes (units (fill a))) (λ a. bytes-units j h (of a) ∙ ap unitBytes (units-of a)) l
+              ap (bytesOf unitSection) (r .events) ∙ bytes-each unitSection f (λ a. unitBytes (units (fill a))) (λ a. bytes-units j h (of a) ∙ ap unitBytes (units-of a)) l
               ∙ flat-map (λ b. unitBytes (units b)) fill l ∙ flat-flat (λ u. stores (unitRecord u)) units (map fill l);
           text =
-              ap (bytesOf 5) (r .events) ∙ bytes-each 5 f (λ a. name (fill a)) (λ a. bytes-name j h (of a) ∙ name-of a) l
+              ap (bytesOf textSection) (r .events) ∙ bytes-each textSection f (λ a. name (fill a)) (λ a. bytes-name j h (of a) ∙ name-of a) l
               ∙ flat-map name fill l;
           others = λ i e p q. ap (bytesOf i) (r .events) ∙ bytes-none i f (λ a. bytes-other j h (of a) i e p q) l;
         }

@@ -16,6 +16,8 @@ use Rattle.rules.specs.Losses.{signText}
 use Rattle.rules.specs.Preferred.{signRank, key, shortened}
 use Rattle.rules.specs.Fields.{filled}
 use Rattle.rules.specs.Stored.{Field, u8, u16, stores, unitRecord}
+use Rattle.rules.specs.Limits.{maxText}
+use Rattle.rules.specs.Layout.{unitSection, textSection}
 use Rattle.print_count.specs.Heads.{headText}
 use Rattle.faults.specs.declared.Fault.{Fault}
 use Rattle.faults.specs.Faults.{fault}
@@ -64,8 +66,8 @@ abbrev pub changeRecord : {m : ℕ} → Spelled m → List Field
 changeRecord x = u8 (signRank (x .sign)) ∷ u8 (whatKind (x .what)) ∷ u16 (countValue (x .count)) ∷ u16 (whatSize (x .what)) ∷ []
 
 abbrev pub whatEvents : What → List Event
-whatEvents (a-formula x) = (4, flat (λ u. stores (unitRecord u)) (map (unitMap filled) (items x))) ∷ []
-whatEvents (a-name n) = (5, n .bytes) ∷ []
+whatEvents (a-formula x) = (unitSection, flat (λ u. stores (unitRecord u)) (map (unitMap filled) (items x))) ∷ []
+whatEvents (a-name n) = (textSection, n .bytes) ∷ []
 whatEvents an-electron = []
 
 abbrev pub spelledEvents : {m : ℕ} → ℕ → Spelled m → List Event
@@ -75,7 +77,7 @@ spelledEvents j x = (j, stores (changeRecord x)) ∷ whatEvents (x .what)
 pub record ChangeFits {m : ℕ} (x : Spelled m) : Type 0 where
   pub count : countValue (x .count) ≤ 1000000
   pub units : AllOf UnitTold (whatUnits (x .what))
-  pub short : length (whatKey (x .what)) ≤ 257
+  pub short : length (whatKey (x .what)) ≤ maxText + 2
 
 -- ---- behind sign and count
 
@@ -96,11 +98,11 @@ module _ (k : List ℕ) (e : EndsFormula k) where
   what-key an-electron n a h = ap (λ (i : ℕ). take i (bytes "e" ++ k)) h
 
   what-events : (w : What) → AllOf UnitTold (whatUnits w)
-      → cond (eqb (whatKind w) 0) ((4, recordsOf (whatSize w) (contentText w ++ k)) ∷ [])
-      (cond (eqb (whatKind w) 1) ((5, take (whatSize w) (drop 1 (contentText w ++ k))) ∷ []) []) ≡ whatEvents w
-  what-events (a-formula x) a = ap (only 4) (records-read (items x) k a (ends-units k e))
+      → cond (eqb (whatKind w) 0) ((unitSection, recordsOf (whatSize w) (contentText w ++ k)) ∷ [])
+      (cond (eqb (whatKind w) 1) ((textSection, take (whatSize w) (drop 1 (contentText w ++ k))) ∷ []) []) ≡ whatEvents w
+  what-events (a-formula x) a = ap (only unitSection) (records-read (items x) k a (ends-units k e))
   what-events (a-name n) a =
-      ap (only 5)
+      ap (only textSection)
       (ap (take (length (n .bytes))) (append-assoc (n .bytes) (93 ∷ []) k) ∙ take-append-seam (n .bytes) (93 ∷ k))
   what-events an-electron a = refl
 
@@ -141,5 +143,5 @@ module _ {m : ℕ} (x : Spelled m) (k : List ℕ) (e : EndsFormula k) where
   unfolding slotEvents
   events-told j all y es ek ec ez er a =
       (λ i. (j, stores (u8 (es i) ∷ u8 (ek i) ∷ u16 (ec i) ∷ u16 (ez i) ∷ []))
-      ∷ cond (eqb (ek i) 0) ((4, recordsOf (ez i) (er i)) ∷ []) (cond (eqb (ek i) 1) ((5, take (ez i) (drop 1 (er i))) ∷ []) []))
+      ∷ cond (eqb (ek i) 0) ((unitSection, recordsOf (ez i) (er i)) ∷ []) (cond (eqb (ek i) 1) ((textSection, take (ez i) (drop 1 (er i))) ∷ []) []))
       ∙ ap (λ (l : List Event). (j, stores (changeRecord x)) ∷ l) (what-events k e (x .what) a)

@@ -14,6 +14,7 @@ use Rattle.lang.specs.Walk.{Walked}
 use Rattle.lang.proofs.Walks.{walk-ends}
 use Rattle.rules.specs.Numbers.{numberText}
 use Rattle.rules.specs.Preferred.{signRank}
+use Rattle.rules.specs.Limits.{maxLosses, maxText}
 use Rattle.rules.proofs.Totals.{perm-length}
 use Rattle.put_bytes.specs.Puts.{maxPlace}
 use Rattle.faults.specs.declared.Fault.{Fault}
@@ -36,7 +37,7 @@ use Rattle.sort_slots.proofs.AllInserted.{feed-perm}
 use Rattle.sort_slots.proofs.Kept.{Common, common-sets, text-kept, all-end-by, ends-last, feed-kept, each-kept}
 use Rattle.sort_changes.specs.Keys.{keyText}
 use Rattle.sort_changes.specs.Gathered.{Got, kept, slotOf, gotWith, changeHere, gatherOne, gotNone, gathered}
-use Rattle.sort_changes.specs.Events.{slotEvents, noKeys}
+use Rattle.sort_changes.specs.Events.{slotEvents, keysSize, noKeys}
 use Rattle.sort_changes.proofs.Gathers.{gatherFrom, gather-on}
 use Rattle.sort_changes.proofs.SlotHolds.{whatKey, countValue, spelledEvents, ChangeFits, count-told, behind-head, start-within, here-told, key-told, events-told}
 
@@ -57,7 +58,7 @@ record Next {m : ℕ} (j : ℕ) (all : List ℕ) (a b : Got) (y : Slot) (x : Spe
   stands : Stands j all (b .keys) y x
   room : length (b .keys) ≡ length (a .keys)
   later : a .used ≤ b .used
-  used : b .used ≤ a .used + 257
+  used : b .used ≤ a .used + (maxText + 2)
   at : b .at ≡ a .at + length (changeText x)
 
 -- bytes that were stored are there
@@ -69,7 +70,7 @@ text-there l i t h =
 
 module _ {m : ℕ} (j : ℕ) (all : List ℕ) (a : Got) (x : Spelled m) (k : List ℕ) (e : EndsFormula k) (f : ChangeFits x)
     (here : drop (a .at) all ≡ changeText x ++ k) (long : a .at + length (changeText x ++ k) ≡ length all)
-    (room : a .used + 257 ≤ length (a .keys)) (small : length (a .keys) ≤ maxPlace) where
+    (room : a .used + (maxText + 2) ≤ length (a .keys)) (small : length (a .keys) ≤ maxPlace) where
   one-is : (g : Fault) → changeHere (changeText x ++ k) ≡ changeRead x g → gatherOne (length all) a (changeText x ++ k) ≡ gotWith (length all) a (changeRead x g) (whatKey (x .what))
   unfolding gatherOne
   one-is g p =
@@ -122,8 +123,8 @@ pub record Fed {m : ℕ} (j : ℕ) (all : List ℕ) (a : Got) (ys : List Slot) (
   pub slots : a .slots ≡ feed (a .keys) ys
   pub ends : AllEndBy (a .used) ys
   pub each : Each (Stands j all (a .keys)) ys ds
-  pub room : length (a .keys) ≡ 2056
-  pub used : a .used ≤ 257 * length ys
+  pub room : length (a .keys) ≡ keysSize
+  pub used : a .used ≤ (maxText + 2) * length ys
 
 each-last : {A B : Type 0} (R : A → B → Type 0) {l : List A} {n : List B} {a : A} {b : B} → Each R l n → R a b → Each R (l ++ (a ∷ [])) (n ++ (b ∷ []))
 each-last R none r = next r none
@@ -136,13 +137,13 @@ module _ {m : ℕ} {j : ℕ} {all : List ℕ} where
   pub fed-count : {a : Got} {ys : List Slot} {ds : List (Spelled m)} → Fed j all a ys ds → length (a .slots) ≡ length ys
   fed-count {a} {ys} f = ap length (f .slots) ∙ sym (perm-length (feed-perm (a .keys) ys))
 
-  fed-next : {a b : Got} {ys : List Slot} {ds : List (Spelled m)} {y : Slot} {x : Spelled m} → Fed j all a ys ds → Next j all a b y x → length ys < 8
+  fed-next : {a b : Got} {ys : List Slot} {ds : List (Spelled m)} {y : Slot} {x : Spelled m} → Fed j all a ys ds → Next j all a b y x → length ys < maxLosses
       → Fed j all b (ys ++ (y ∷ [])) (ds ++ (x ∷ []))
   fed-next {a} {b} {ys} {ds} {y} {x} f n h =
-      let z : length (a .slots) < 8 = omega (arith, fed-count f) in
+      let z : length (a .slots) < maxLosses = omega (arith, fed-count f) in
       record {
         slots =
-            n .slots ∙ ap (λ (t : Bool). cond t (insert (slotLe (b .keys)) y (a .slots)) (a .slots)) (lt-ltb (length (a .slots)) 8 z)
+            n .slots ∙ ap (λ (t : Bool). cond t (insert (slotLe (b .keys)) y (a .slots)) (a .slots)) (lt-ltb (length (a .slots)) maxLosses z)
             ∙ ap (insert (slotLe (b .keys)) y) (f .slots ∙ feed-kept (n .common) (f .ends)) ∙ sym (fed-last (slotLe (b .keys)) ys y);
         ends = ends-last (all-end-by (n .later) (f .ends)) (n .ends);
         each =
@@ -169,7 +170,7 @@ pub record After {m : ℕ} (j : ℕ) (all : List ℕ) (b : Got) (ds : List (Spel
   pub at-is : b .at ≡ at
 
 module _ {m : ℕ} (j : ℕ) (all : List ℕ) (k : List ℕ) (e : EndsChanges k) where
-  fed-walk : (xs : List (Spelled m)) (a : Got) (ys : List Slot) (ds : List (Spelled m)) → Fed j all a ys ds → length ys + length xs ≤ 8 → AllOf ChangeFits xs
+  fed-walk : (xs : List (Spelled m)) (a : Got) (ys : List Slot) (ds : List (Spelled m)) → Fed j all a ys ds → length ys + length xs ≤ maxLosses → AllOf ChangeFits xs
       → drop (a .at) all ≡ flat changeText xs ++ k → a .at + length (flat changeText xs ++ k) ≡ length all
       → After j all (gatherFrom (length all) (flat changeText xs ++ k) a .known) (ds ++ xs) (a .at + length (flat changeText xs))
   fed-walk [] a ys ds f n h here long =
@@ -208,7 +209,7 @@ module _ {m : ℕ} (j : ℕ) (all : List ℕ) (k : List ℕ) (e : EndsChanges k)
 
 -- no more than there are slots, and each fits
 pub record RowFits {m : ℕ} (xs : List (Spelled m)) : Type 0 where
-  pub few : length xs ≤ 8
+  pub few : length xs ≤ maxLosses
   pub each : AllOf ChangeFits xs
 
 pub gathered-fed : {m : ℕ} (j : ℕ) (xs : List (Spelled m)) (k : List ℕ) → EndsChanges k → RowFits xs
@@ -217,6 +218,6 @@ unfolding gathered
 gathered-fed j xs k e h =
     let all = flat changeText xs ++ k in
     let n = h .few in
-    let f : Fed j all (gotNone noKeys) [] [] = record { slots = refl; ends = none-ends; each = none; room = length-replicate {A = ℕ} 2056 0; used = omega arith } in
+    let f : Fed j all (gotNone noKeys) [] [] = record { slots = refl; ends = none-ends; each = none; room = length-replicate {A = ℕ} keysSize 0; used = omega arith } in
     let z = fed-walk j all k e xs (gotNone noKeys) [] [] f (omega arith) (h .each) refl (omega arith) in
     record { read = z .read; fed = z .fed; at-is = z .at-is ∙ omega arith }

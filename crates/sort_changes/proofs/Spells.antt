@@ -4,6 +4,7 @@ use mathlib.Core.Path.{_≡_, refl, sym, ap, ap₂, _∙_}
 use mathlib.Core.Bool.{Bool, true, false, cond}
 use mathlib.Core.List.{List, [], _++_}
 use lib.ListN.{length, getD, drop}
+use Rattle.rules.specs.Limits.{maxLosses}
 use Rattle.lang.specs.Parts.{flat}
 use Rattle.put_bytes.specs.Puts.{maxPlace, Put}
 use Rattle.put_bytes.proofs.Putting.{put-none, put-then, put-as}
@@ -36,23 +37,23 @@ slot-put keys x a q b = put-then a (put-as b q)
 
 -- the first i of the slots are spelled from d and a place on
 pub record Spelling (keys : List ℕ) (slots : Slots) (d : List ℕ) (to : ℕ) (e : List ℕ) (p i : ℕ) : Type 0 where
-  pub eight : length (slots .at) ≡ 8
+  pub size : length (slots .at) ≡ maxLosses
   pub going : PutSoFar d to (slotsSpelled keys slots) e p (flat (slotSpelled keys) (drop i (slotsOf slots)))
 
 module _ {keys : List ℕ} {slots : Slots} {d : List ℕ} {to : ℕ} where
-  pub spelling-begin : length d ≤ maxPlace → to ≤ maxPlace → length (slots .at) ≡ 8 → Spelling keys slots d to d to 0
-  spelling-begin h g n = record { eight = n; going = begin h g refl }
+  pub spelling-begin : length d ≤ maxPlace → to ≤ maxPlace → length (slots .at) ≡ maxLosses → Spelling keys slots d to d to 0
+  spelling-begin h g n = record { size = n; going = begin h g refl }
 
   pub spelling-turn : (x : Slot) {e f : List ℕ} {p r i : ℕ} → Spelling keys slots d to e p i
-      → i < slots .n → i < 8 → Put e p (slotSpelled keys (getD (slots .at) i x)) f r → Spelling keys slots d to f r (i + 1)
-  spelling-turn x {i = i} g h m a = record { eight = g .eight; going = more (g .going) a (ap (flat (slotSpelled keys)) (next-left slots x i (g .eight) h m)) }
+      → i < slots .n → i < maxLosses → Put e p (slotSpelled keys (getD (slots .at) i x)) f r → Spelling keys slots d to f r (i + 1)
+  spelling-turn x {i = i} g h m a = record { size = g .size; going = more (g .going) a (ap (flat (slotSpelled keys)) (next-left slots x i (g .size) h m)) }
 
-  -- all of them, or eight
+  -- all of them, or as many as there are slots
   pub spelling-all : {e : List ℕ} {p i : ℕ} → Spelling keys slots d to e p i → slots .n ≤ i → Put d to (slotsSpelled keys slots) e p
   spelling-all g h = ends (g .going) (ap (flat (slotSpelled keys)) (none-left slots h))
 
-  pub spelling-eight : {e : List ℕ} {p i : ℕ} → Spelling keys slots d to e p i → 8 ≤ i → Put d to (slotsSpelled keys slots) e p
-  spelling-eight g h = ends (g .going) (ap (flat (slotSpelled keys)) (none-past slots (g .eight) h))
+  pub spelling-full : {e : List ℕ} {p i : ℕ} → Spelling keys slots d to e p i → maxLosses ≤ i → Put d to (slotsSpelled keys slots) e p
+  spelling-full g h = ends (g .going) (ap (flat (slotSpelled keys)) (none-past slots (g .size) h))
 
 pub spells-all : {s d e keys : List ℕ} {to r : ℕ} {g : Gathered} → Gathers s noKeys keys g → Put d to (slotsSpelled keys (g .slots)) e r
     → SpellsMany s d to e (record { to = r; len = g .at })

@@ -12,6 +12,7 @@ use Rattle.rules.specs.Adducts.{Added, added-formula, electron, addedText, adde
 use Rattle.rules.specs.Preferred.{signRank, key, countOr1, shortened, lossKey, itemKey, lossLe, itemLe}
 use Rattle.rules.specs.Fields.{filled}
 use Rattle.rules.specs.Stored.{u8, u16, stores, lostKind, lostUnits, lostName, lossRecord, addedKind, addedUnits, itemRecord}
+use Rattle.rules.specs.Layout.{lossSection, itemSection, textSection}
 use Rattle.store_sections.specs.Pages.{bytesOf}
 use Rattle.read_changes.proofs.Spelled.{What, whatKind, whatSize, ofLost, ofLoss, loss-text, ofAdded, ofItem, item-text}
 use Rattle.read_changes.proofs.Sums.{EndsChanges}
@@ -63,18 +64,18 @@ loss-record l =
     let z = lost-size (l .what) in
     λ i. stores (u8 (signRank (l .sign)) ∷ u8 (k i) ∷ u16 (c i) ∷ u16 (z i) ∷ [])
 
--- eight or fewer, whose numbers are read as they are, each with a preferred text of no more than 257 bytes
+-- no more than there may be losses, whose numbers are read as they are, each with a preferred text no longer than a name in its brackets
 abbrev pub LossesFit : List (Loss Written) → Type 0
 LossesFit xs = RowFits (map ofLoss xs)
 
 -- the bytes s begin with the losses bs of a table, in any order, and they are stored
 abbrev pub LossesStored : List (Loss Number) → List ℕ → ℕ → Type 0
-LossesStored bs s n = StoredRow lossLe lossRecord (λ l. lostUnits (l .what)) (λ l. lostName (l .what)) 1 bs s n
+LossesStored bs s n = StoredRow lossLe lossRecord (λ l. lostUnits (l .what)) (λ l. lostName (l .what)) lossSection bs s n
 
 pub losses-stored : (xs : List (Loss Written)) (k : List ℕ) → EndsChanges k → LossesFit xs
     → LossesStored (map (lossMap filled) xs) (flat lossText xs ++ k) (length (flat lossText xs))
 losses-stored xs k e h =
-    row-stored ofLoss (lossMap filled) lossKey loss-key 1 (omega arith) lossRecord (λ (l : Loss Number). lostUnits (l .what)) (λ (l : Loss Number). lostName (l .what))
+    row-stored ofLoss (lossMap filled) lossKey loss-key lossSection (omega arith) lossRecord (λ (l : Loss Number). lostUnits (l .what)) (λ (l : Loss Number). lostName (l .what))
     loss-record (λ l. lost-units (l .what)) (λ l. lost-name-is (l .what)) lossText loss-text xs k e h
 
 -- ---- adduct items
@@ -117,12 +118,12 @@ abbrev pub ItemsFit : List (Item Written) → Type 0
 ItemsFit xs = RowFits (map ofItem xs)
 
 abbrev pub ItemsStored : List (Item Number) → List ℕ → ℕ → Type 0
-ItemsStored bs s n = StoredRow itemLe itemRecord (λ x. addedUnits (x .what)) (λ x. []) 3 bs s n
+ItemsStored bs s n = StoredRow itemLe itemRecord (λ x. addedUnits (x .what)) (λ x. []) itemSection bs s n
 
 pub items-stored : (xs : List (Item Written)) (k : List ℕ) → EndsChanges k → ItemsFit xs
     → ItemsStored (map (itemMap filled) xs) (flat itemText xs ++ k) (length (flat itemText xs))
 items-stored xs k e h =
-    row-stored ofItem (itemMap filled) itemKey item-key 3 (omega arith) itemRecord (λ (x : Item Number). addedUnits (x .what)) (λ (x : Item Number). [])
+    row-stored ofItem (itemMap filled) itemKey item-key itemSection (omega arith) itemRecord (λ (x : Item Number). addedUnits (x .what)) (λ (x : Item Number). [])
     item-record (λ x. added-units (x .what)) (λ x. added-no-name (x .what)) itemText item-text xs k e h
 
 flat-none : {B : Type 0} (xs : List B) → flat {B = ℕ} (λ x. []) xs ≡ []
@@ -130,5 +131,5 @@ flat-none [] = refl
 flat-none (x ∷ xs) = flat-none xs
 
 -- they have no text
-pub items-no-text : {bs : List (Item Number)} {s : List ℕ} {n : ℕ} → ItemsStored bs s n → bytesOf 5 (changeEvents 3 s) ≡ []
+pub items-no-text : {bs : List (Item Number)} {s : List ℕ} {n : ℕ} → ItemsStored bs s n → bytesOf textSection (changeEvents itemSection s) ≡ []
 items-no-text r = r .text ∙ flat-none (r .ls)

@@ -1,5 +1,5 @@
 -- Losses, or adduct items, stored from slots: each its record, and its units or its name. Assumes nothing.
-use Prim.Native.Nat.{ℕ}
+use Prim.Native.Nat.{ℕ, _+_, _*_}
 use mathlib.Core.Path.{_≡_}
 use mathlib.Core.Bool.{cond}
 use mathlib.Core.List.{List, [], _∷_}
@@ -7,6 +7,8 @@ use lib.Dec.{eqb}
 use lib.ListN.{length, take, drop, replicate}
 use Rattle.lang.specs.Parts.{flat}
 use Rattle.rules.specs.Stored.{u8, u16, stores}
+use Rattle.rules.specs.Limits.{maxLosses, maxText}
+use Rattle.rules.specs.Layout.{unitSection, textSection}
 use Rattle.put_formula.specs.Records.{recordsOf}
 use Rattle.sort_slots.specs.declared.Slot.{Slot}
 use Rattle.sort_slots.specs.declared.Slots.{Slots}
@@ -20,11 +22,11 @@ use Rattle.sort_changes.specs.Gathered.{gathered}
 abbrev pub slotRecord : Slot → List ℕ
 slotRecord x = stores (u8 (x .sign) ∷ u8 (x .kind) ∷ u16 (x .count) ∷ u16 (x .size) ∷ [])
 
--- section 4 gets units, section 5 a name
+-- units go to their section, a name to that of texts
 abbrev pub slotWhat : List ℕ → Slot → List Event
 slotWhat s x =
-    cond (eqb (x .kind) 0) ((4, recordsOf (x .size) (drop (x .start) s)) ∷ [])
-    (cond (eqb (x .kind) 1) ((5, take (x .size) (drop 1 (drop (x .start) s))) ∷ []) [])
+    cond (eqb (x .kind) 0) ((unitSection, recordsOf (x .size) (drop (x .start) s)) ∷ [])
+    (cond (eqb (x .kind) 1) ((textSection, take (x .size) (drop 1 (drop (x .start) s))) ∷ []) [])
 
 unfoldable pub slotEvents : ℕ → List ℕ → Slot → List Event
 slotEvents j s x = (j, slotRecord x) ∷ slotWhat s x
@@ -32,8 +34,12 @@ slotEvents j s x = (j, slotRecord x) ∷ slotWhat s x
 abbrev pub slotsEvents : ℕ → List ℕ → Slots → List Event
 slotsEvents j s slots = flat (slotEvents j s) (slotsOf slots)
 
+-- the bytes of the keys: as many names as there may be losses, in their brackets
+abbrev pub keysSize : ℕ
+keysSize = maxLosses * (maxText + 2)
+
 abbrev pub noKeys : List ℕ
-noKeys = replicate 2056 0
+noKeys = replicate keysSize 0
 
 -- what stands behind all losses, or adduct items, that the bytes s begin with
 abbrev pub behindChanges : List ℕ → List ℕ

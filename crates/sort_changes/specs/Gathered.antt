@@ -6,6 +6,7 @@ use mathlib.Core.List.{List, [], _++_}
 use lib.Dec.{ltb}
 use lib.ListN.{length, drop, replicate}
 use lib.Seq.{sets}
+use Rattle.rules.specs.Limits.{maxLosses}
 use Rattle.lang.specs.Walk.{walk}
 use Rattle.lang.specs.Order.{insert}
 use Rattle.put_bytes.specs.Puts.{maxPlace, Put}
@@ -29,7 +30,7 @@ pub record Got : Type 0 where
 
 -- a slot is inserted where there is room
 abbrev pub kept : List ℕ → Slot → List Slot → List Slot
-kept keys y l = cond (ltb (length l) 8) (insert (slotLe keys) y l) l
+kept keys y l = cond (ltb (length l) maxLosses) (insert (slotLe keys) y l) l
 
 -- the slot of a change read at the place `at` of `all` bytes; its text stands among the keys from `used` up to `next`
 abbrev pub slotFrom : ℕ → ℕ → ℕ → ChangeRead → ℕ → Slot
@@ -60,9 +61,9 @@ gotNone keys = record { slots = []; keys = keys; used = 0; at = 0 }
 unfoldable pub gathered : List ℕ → List ℕ → Got
 gathered keys s = walk beginsChange changeSize (gatherOne (length s)) s (gotNone keys) .known
 
--- the slots l among the eight of the code: behind them stand blank ones
+-- the slots l among those of the code: behind them stand blank ones
 abbrev pub heldIn : List Slot → Slots
-heldIn l = record { n = length l; at = l ++ replicate (8 - length l) blank }
+heldIn l = record { n = length l; at = l ++ replicate (maxLosses - length l) blank }
 
 -- the code's answer and its buffer are what was got
 pub record Is (a : Got) (keys : List ℕ) (g : Gathered) : Type 0 where

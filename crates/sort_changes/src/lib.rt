@@ -6,6 +6,10 @@ ghost use Rattle.sort_changes.specs.Gathered.{GathersOne, Gathers};
 ghost use Rattle.sort_changes.specs.Events.{slotRecord, slotEvents, slotsEvents, StoresChanges};
 ghost use Rattle.sort_changes.specs.Spelled.{slotSpelled, slotsSpelled, SpellsMany, SpellsChanges};
 use faults::Fault;
+use layout::TEXT_SECTION;
+use layout::UNIT_SECTION;
+use limits::MAX_LOSSES;
+use limits::MAX_TEXT;
 use print_count::Respelled;
 use print_count::put_head;
 use put_bytes::put_le;
@@ -25,8 +29,8 @@ use store_sections::Cursors;
 use store_sections::cursor;
 use store_sections::with_cursor;
 
-// Eight names of 255 bytes in their brackets: no keys of one annotation have more bytes.
-pub const KEYS: usize = 2056;
+// As many names as there may be losses, in their brackets: no keys of one annotation have more bytes.
+pub const KEYS: usize = MAX_LOSSES * (MAX_TEXT + 2);
 
 // The slots of what was read, in preferred order; how many bytes of keys are used, and how many bytes of the line were read.
 pub struct Gathered {
@@ -121,12 +125,16 @@ fn put_slot(out: &mut [u8], c: Cursors, j: usize, s: &[u8], x: Slot) -> Cursors
     let a = put_slot_record(out, cursor(c, j), x);
     let d = with_cursor(c, j, a);
     if x.kind == 0 {
-        let b = put_records(out, cursor(d, 4), rest(s, x.start), x.size);
-        return with_cursor(d, 4, b);
+        let b = put_records(out, cursor(d, UNIT_SECTION), rest(s, x.start), x.size);
+        return with_cursor(d, UNIT_SECTION, b);
     }
     if x.kind == 1 {
-        let b = put_run(out, cursor(d, 5), part(rest(s, x.start), 1, x.size));
-        return with_cursor(d, 5, b);
+        let b = put_run(
+            out,
+            cursor(d, TEXT_SECTION),
+            part(rest(s, x.start), 1, x.size),
+        );
+        return with_cursor(d, TEXT_SECTION, b);
     }
     d
 }
@@ -139,7 +147,7 @@ fn put_slots(out: &mut [u8], c: Cursors, j: usize, s: &[u8], slots: Slots) -> Cu
     let mut to = c;
     let mut i: usize = 0;
     while i < slots.n {
-        if 8 <= i {
+        if MAX_LOSSES <= i {
             return to;
         }
         let x = at[i];
@@ -150,7 +158,7 @@ fn put_slots(out: &mut [u8], c: Cursors, j: usize, s: &[u8], slots: Slots) -> Cu
     to
 }
 
-// All losses (section 1), or adduct items (section 3), that a part begins with, however many, in preferred order.
+// All losses, or adduct items, each in its own section j, that a part begins with, however many, in preferred order.
 fn store_many(out: &mut [u8], c: Cursors, j: usize, s: &[u8]) -> Arranged
     ensures { λ r. ⌜ StoresChanges (now (s .entry)) j (now (out .entry)) c (now (out .exit)) r ⌝ }
 {
@@ -219,7 +227,7 @@ fn spell_slots(out: &mut [u8], to: usize, keys: &[u8], slots: Slots) -> usize
     let mut end = to;
     let mut i: usize = 0;
     while i < slots.n {
-        if 8 <= i {
+        if MAX_LOSSES <= i {
             return end;
         }
         let x = at[i];

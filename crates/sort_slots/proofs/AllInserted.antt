@@ -6,6 +6,7 @@ use native.Mathlib.Omega.{arith}
 use native.Mathlib.Decide.{decLe}
 use lib.Dec.{T}
 use lib.ListN.{length, take, length-append}
+use Rattle.rules.specs.Limits.{maxLosses}
 use Rattle.lang.specs.Order.{Perm, rising, insert}
 use Rattle.lang.proofs.Sort.{Order, insert-perm}
 use Rattle.lang.proofs.Lex.{by-key}
@@ -31,16 +32,16 @@ feed-perm keys xs = fed-perm (slotLe keys) xs
 -- ---- one slot more
 
 module _ {keys : List ℕ} {s : Slots} {x : Slot} {r : Slots} (i : Inserted keys s x r) where
-  pub with-rising : s .n < 8 → T (rising (slotLe keys) (slotsOf s)) → T (rising (slotLe keys) (slotsOf r))
+  pub with-rising : s .n < maxLosses → T (rising (slotLe keys) (slotsOf s)) → T (rising (slotLe keys) (slotsOf r))
   with-rising h t = subst (λ (l : List Slot). T (rising (slotLe keys) l)) (sym (i .slots h)) (insert-rises (slot-order keys) x (slotsOf s) t)
 
-  pub with-perm : s .n < 8 → Perm (x ∷ slotsOf s) (slotsOf r)
+  pub with-perm : s .n < maxLosses → Perm (x ∷ slotsOf s) (slotsOf r)
   with-perm h = subst (λ (l : List Slot). Perm (x ∷ slotsOf s) l) (sym (i .slots h)) (insert-perm (slotLe keys) x (slotsOf s))
 
-  pub with-few : s .n ≤ 8 → r .n ≤ 8
-  with-few h = by (decLe 8 (s .n))
+  pub with-few : s .n ≤ maxLosses → r .n ≤ maxLosses
+  with-few h = by (decLe maxLosses (s .n))
     where
-      by : Dec (8 ≤ s .n) → r .n ≤ 8
+      by : Dec (maxLosses ≤ s .n) → r .n ≤ maxLosses
       by (yes g) = let e = ap (λ (t : Slots). t .n) (i .full g) in omega arith
       by (no g) = let e = i .more (omega arith) in omega arith
 
@@ -50,10 +51,10 @@ pub holds-none : {keys : List ℕ} {s : Slots} → s .n ≡ 0 → Holds keys [] 
 holds-none {s = s} e = record { count = e; slots = ap (λ (n : ℕ). take n (s .at)) e }
 
 pub holds-with : {keys : List ℕ} {xs : List Slot} {s : Slots} {x : Slot} {r : Slots}
-    → Holds keys xs s → length xs < 8 → Inserted keys s x r → Holds keys (xs ++ (x ∷ [])) r
+    → Holds keys xs s → length xs < maxLosses → Inserted keys s x r → Holds keys (xs ++ (x ∷ [])) r
 holds-with {keys} {xs} {s} {x} h k i =
     let c = h .count in
-    let room : s .n < 8 = omega arith in
+    let room : s .n < maxLosses = omega arith in
     record {
       count = (let m = i .more room in let l = length-append xs (x ∷ []) in omega arith);
       slots = i .slots room ∙ ap (insert (slotLe keys) x) (h .slots) ∙ sym (fed-last (slotLe keys) xs x);
@@ -64,15 +65,15 @@ pub data Fed (keys : List ℕ) : Slots → List Slot → Slots → Type 0 where
   fed-none : {s : Slots} → Fed keys s [] s
   fed-next : {s r t : Slots} {x : Slot} {xs : List Slot} → Inserted keys s x r → Fed keys r xs t → Fed keys s (x ∷ xs) t
 
-fed-on : {keys : List ℕ} {ys xs : List Slot} {s r : Slots} → Holds keys ys s → length ys + length xs ≤ 8 → Fed keys s xs r → Holds keys (ys ++ xs) r
+fed-on : {keys : List ℕ} {ys xs : List Slot} {s r : Slots} → Holds keys ys s → length ys + length xs ≤ maxLosses → Fed keys s xs r → Holds keys (ys ++ xs) r
 fed-on {keys} {ys} {s = s} h k fed-none = subst (λ (l : List Slot). Holds keys l s) (sym (append-nil ys)) h
 fed-on {keys} {ys} {r = r} h k (fed-next {x = x} {xs = xs} i f) =
     let l = length-append ys (x ∷ []) in
     let m = holds-with h (omega arith) i in
     subst (λ (l : List Slot). Holds keys l r) (append-assoc ys (x ∷ []) xs) (fed-on m (omega arith) f)
 
--- up to eight, fed to no slots
-pub fed : {keys : List ℕ} {xs : List Slot} {s r : Slots} → s .n ≡ 0 → length xs ≤ 8 → Fed keys s xs r → Holds keys xs r
+-- as many as there may be losses, fed to no slots
+pub fed : {keys : List ℕ} {xs : List Slot} {s r : Slots} → s .n ≡ 0 → length xs ≤ maxLosses → Fed keys s xs r → Holds keys xs r
 fed e k f = fed-on (holds-none e) (omega arith) f
 
 module _ {keys : List ℕ} {xs : List Slot} {s : Slots} (h : Holds keys xs s) where

@@ -1,4 +1,4 @@
--- What `with` makes of eight slots, and of fewer. Assumes nothing.
+-- What `with` makes of slots that are all held, and of fewer. Assumes nothing.
 use Prim.Native.Nat.{ℕ, _+_, _≤_, _<_}
 use mathlib.Core.Path.{_≡_, sym, ap, _∙_}
 use mathlib.Core.List.{List, _++_, append-nil}
@@ -7,6 +7,7 @@ use native.Mathlib.Decide.{decLe}
 use borrow.Author.Tests.{le-leb, lt-leb}
 use lib.ListN.{length, take, drop, length-take, drop-of-length-le}
 use lib.Seq.{take-at, take-all}
+use Rattle.rules.specs.Limits.{maxLosses}
 use Rattle.lang.specs.Order.{insert}
 use Rattle.lang.proofs.Sort.{insert-perm}
 use Rattle.rules.proofs.Totals.{perm-length}
@@ -17,16 +18,16 @@ use Rattle.sort_slots.specs.Slots.{slotLe, slotsOf, insertedAt, withSlot
 -- ---- the two cases
 
 module _ (keys : List ℕ) (s : Slots) (x : Slot) where
-  pub with-full : 8 ≤ s .n → withSlot keys s x ≡ s
+  pub with-full : maxLosses ≤ s .n → withSlot keys s x ≡ s
   unfolding withSlot
-  with-full h = rw (le-leb 8 (s .n) h)
+  with-full h = rw (le-leb maxLosses (s .n) h)
 
-  pub with-room : s .n < 8 → withSlot keys s x ≡ record { n = s .n + 1; at = insertedAt keys x (s .n) (s .at) }
+  pub with-room : s .n < maxLosses → withSlot keys s x ≡ record { n = s .n + 1; at = insertedAt keys x (s .n) (s .at) }
   unfolding withSlot
-  with-room h = rw (lt-leb 8 (s .n) h)
+  with-room h = rw (lt-leb maxLosses (s .n) h)
 
   -- the code's answer, where there is room
-  pub one-more : {at : List Slot} → s .n < 8 → at ≡ insertedAt keys x (s .n) (s .at) → record { n = s .n + 1; at = at } ≡ withSlot keys s x
+  pub one-more : {at : List Slot} → s .n < maxLosses → at ≡ insertedAt keys x (s .n) (s .at) → record { n = s .n + 1; at = at } ≡ withSlot keys s x
   one-more h e = ap (λ (l : List Slot). record { n = s .n + 1; at = l }) e ∙ sym (with-room h)
 
 -- ---- the slots that are held
@@ -46,9 +47,9 @@ held keys x n l = by (decLe n (length l))
 
 -- x is inserted where there is room
 pub record Inserted (keys : List ℕ) (s : Slots) (x : Slot) (r : Slots) : Type 0 where
-  pub slots : s .n < 8 → slotsOf r ≡ insert (slotLe keys) x (slotsOf s)
-  pub more : s .n < 8 → r .n ≡ s .n + 1
-  pub full : 8 ≤ s .n → r ≡ s
+  pub slots : s .n < maxLosses → slotsOf r ≡ insert (slotLe keys) x (slotsOf s)
+  pub more : s .n < maxLosses → r .n ≡ s .n + 1
+  pub full : maxLosses ≤ s .n → r ≡ s
 
 pub inserted : {keys : List ℕ} {s : Slots} {x : Slot} {r : Slots} → r ≡ withSlot keys s x → Inserted keys s x r
 inserted {keys} {s} {x} e =

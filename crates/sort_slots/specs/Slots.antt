@@ -7,6 +7,7 @@ use lib.Dec.{leb}
 use lib.ListN.{length, take, drop, replicate}
 use Rattle.lang.specs.Order.{lexLe, insert}
 use Rattle.rules.specs.Preferred.{rank}
+use Rattle.rules.specs.Limits.{maxLosses}
 use Rattle.sort_slots.specs.declared.Slot.{Slot}
 use Rattle.sort_slots.specs.declared.Slots.{Slots}
 
@@ -32,17 +33,17 @@ slotsOf s = take (s .n) (s .at)
 abbrev pub blank : Slot
 blank = record { sign = 0; kind = 0; count = 0; size = 0; start = 0; key = 0; len = 0 }
 
--- no slots: the eight are blank
+-- no slots, of as many as there may be losses: all are blank
 abbrev pub noSlots : Slots
-noSlots = record { n = 0; at = replicate 8 blank }
+noSlots = record { n = 0; at = replicate maxLosses blank }
 
 -- x among the first n of l, in order; what stands behind the first n + 1 is as it was
 abbrev pub insertedAt : List ℕ → Slot → ℕ → List Slot → List Slot
 insertedAt keys x n l = insert (slotLe keys) x (take n l) ++ drop (n + 1) l
 
--- the slots with x among them, in order; the same slots where there are eight
+-- the slots with x among them, in order; the same slots where all are held
 unfoldable pub withSlot : List ℕ → Slots → Slot → Slots
-withSlot keys s x = cond (leb 8 (s .n)) s (record { n = s .n + 1; at = insertedAt keys x (s .n) (s .at) })
+withSlot keys s x = cond (leb maxLosses (s .n)) s (record { n = s .n + 1; at = insertedAt keys x (s .n) (s .at) })
 
 -- one after the other inserted into a list
 abbrev pub fedInto : {A : Type 0} → (A → A → Bool) → List A → List A → List A

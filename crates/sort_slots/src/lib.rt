@@ -1,11 +1,13 @@
-// Up to eight losses or adduct items of an annotation, in preferred order. Document 01, "One table, several spellings".
+// The losses or adduct items of an annotation, as many as there may be, in preferred order. Document 01, "One table, several spellings".
 ghost use mathlib.Core.Path.{_≡_};
 ghost use mathlib.Core.Bool.{_||_, cond};
 ghost use mathlib.Core.List.{[], _∷_};
 ghost use Prim.Native.Nat.{_<_};
 ghost use Rattle.lang.specs.Order.{lexLe};
+ghost use Rattle.rules.specs.Limits.{maxLosses};
 ghost use Rattle.sort_slots.specs.Slots.{slotLe, textAt, noSlots, insertedAt, withSlot};
 ghost use Rattle.sort_slots.specs.Steps.{rankAt, TextsBefore};
+use limits::MAX_LOSSES;
 
 // A loss or an adduct item. Its text, which stands after sign and count, is keys[key .. key + len] of the buffer that is lent beside it;
 // the sign is 0 for `-` and 1 for `+`. Kind, size and start are the caller's, and are carried along.
@@ -19,10 +21,10 @@ pub struct Slot {
     pub len: usize,
 }
 
-// The first n of the eight.
+// The first n of the slots; there are as many as there may be losses, and of adduct items there may be fewer.
 pub struct Slots {
     pub n: usize,
-    pub at: [Slot; 8],
+    pub at: [Slot; MAX_LOSSES],
 }
 
 // No slots.
@@ -38,7 +40,7 @@ pub fn none() -> Slots
         key: 0,
         len: 0,
     };
-    let at = [blank; 8];
+    let at = [blank; MAX_LOSSES];
     Slots { n: 0, at }
 }
 
@@ -136,8 +138,8 @@ fn pick(m: bool, x: Slot, y: Slot) -> Slot
 }
 
 // The first n with x among them: x is carried to its place, and from there each slot to the next place. What stands behind them stays.
-fn put(old: [Slot; 8], n: usize, keys: &[u8], x: Slot) -> [Slot; 8]
-    requires { ⌜ n < 8 ⌝ }
+fn put(old: [Slot; MAX_LOSSES], n: usize, keys: &[u8], x: Slot) -> [Slot; MAX_LOSSES]
+    requires { ⌜ n < maxLosses ⌝ }
     ensures { λ r. ⌜ r ≡ insertedAt (now (keys .entry)) x n old ⌝ }
 {
     let mut at = old;
@@ -156,12 +158,12 @@ fn put(old: [Slot; 8], n: usize, keys: &[u8], x: Slot) -> [Slot; 8]
     at
 }
 
-// The slots with x among them, in order; the same slots where there are eight.
+// The slots with x among them, in order; the same slots where all are held.
 pub fn insert(s: Slots, keys: &[u8], x: Slot) -> Slots
     ensures { λ r. ⌜ r ≡ withSlot (now (keys .entry)) s x ⌝ }
 {
     let n = s.n;
-    if 8 <= n {
+    if MAX_LOSSES <= n {
         return s;
     }
     let old = s.at;

@@ -17,6 +17,7 @@ use Rattle.rules.specs.Fields.{filled}
 use Rattle.rules.specs.Preferred.{itemLe}
 use Rattle.rules.specs.Limits.{bare, rowPart, itemMarks, adductMarks}
 use Rattle.rules.specs.Stored.{stores, unitRecord, addedUnits, itemRecord}
+use Rattle.rules.specs.Layout.{itemSection, unitSection, textSection}
 use Rattle.rules.proofs.Keeps.{kept-part}
 use Rattle.store_sections.specs.Pages.{bytesOf}
 use Rattle.sort_changes.proofs.StoredChanges.{ItemsStored, items-stored, items-no-text}
@@ -30,10 +31,10 @@ pub record AdductStored (xs : List (Item Written)) (s : List ℕ) : Type 0 where
   pub same : Perm (map (itemMap filled) xs) ls
   pub rise : T (rising itemLe ls)
   pub n : adductCount s ≡ length (map (itemMap filled) xs)
-  pub own : bytesOf 3 (adductEvents s) ≡ flat (λ x. stores (itemRecord x)) ls
-  pub units : bytesOf 4 (adductEvents s) ≡ flat (λ u. stores (unitRecord u)) (flat (λ x. addedUnits (x .what)) ls)
-  pub text : bytesOf 5 (adductEvents s) ≡ []
-  pub others : (i : ℕ) → eqb i 3 ≡ false → eqb i 4 ≡ false → eqb i 5 ≡ false → bytesOf i (adductEvents s) ≡ []
+  pub own : bytesOf itemSection (adductEvents s) ≡ flat (λ x. stores (itemRecord x)) ls
+  pub units : bytesOf unitSection (adductEvents s) ≡ flat (λ u. stores (unitRecord u)) (flat (λ x. addedUnits (x .what)) ls)
+  pub text : bytesOf textSection (adductEvents s) ≡ []
+  pub others : (i : ℕ) → eqb i itemSection ≡ false → eqb i unitSection ≡ false → eqb i textSection ≡ false → bytesOf i (adductEvents s) ≡ []
 
 pub adduct-stored : (xs : List (Item Written)) (k : List ℕ) (at : ℕ) → startsWith (bytes "[M") k ≡ false → Kept (adductMarks xs at) → AdductStored xs (adductText xs ++ k)
 unfolding adductCount adductEvents

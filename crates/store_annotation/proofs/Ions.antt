@@ -10,6 +10,7 @@ use Rattle.rules.specs.Ions.{Ion, series, internal, immonium, precursor, refere
 use Rattle.rules.specs.Fields.{filled}
 use Rattle.rules.specs.Limits.{maxPosition, optPart, numberPart, formulaPart, ionParts}
 use Rattle.rules.specs.Stored.{stores, unitRecord, kind, ionFields}
+use Rattle.rules.specs.Layout.{unitSection, textSection}
 use Rattle.rules.proofs.Keeps.{kept-part}
 use Rattle.faults.specs.declared.Fault.{Fault}
 use Rattle.put_formula.specs.Chains.{chain}
@@ -72,10 +73,10 @@ ion-records (unknown n) k at g h = refl
 
 module _ (x : Ion Written) (k : List ℕ) (g : Fault) where
   pub ion-units : (at : ℕ) → Kept (marksOf at (ionParts x))
-      → bytesOf 4 (ionEvents (ionText x ++ k) (ionRead x g)) ≡ flat (λ u. stores (unitRecord u)) (ionFields (ionMap filled x) .units)
+      → bytesOf unitSection (ionEvents (ionText x ++ k) (ionRead x g)) ≡ flat (λ u. stores (unitRecord u)) (ionFields (ionMap filled x) .units)
   unfolding ionEvents
   ion-units at h = append-nil (recordsOf (ionRead x g .units) (drop (ionRead x g .start) (ionText x ++ k))) ∙ ion-records x k at g h
 
-  pub ion-name : bytesOf 5 (ionEvents (ionText x ++ k) (ionRead x g)) ≡ ionFields (ionMap filled x) .text
+  pub ion-name : bytesOf textSection (ionEvents (ionText x ++ k) (ionRead x g)) ≡ ionFields (ionMap filled x) .text
   unfolding ionEvents
   ion-name = append-nil _ ∙ ion-spelled-text x k g

@@ -6,6 +6,7 @@ use Rattle.lang.specs.Mark.{Kept}
 use Rattle.rules.specs.Formulas.{Written}
 use Rattle.rules.specs.Annotations.{Annotation}
 use Rattle.rules.specs.Limits.{annotationMarks}
+use Rattle.rules.specs.Layout.{annotationSection, isotopeSection}
 use Rattle.faults.specs.declared.Fault.{Fault}
 use Rattle.store_sections.specs.Pages.{Event, bytesFor, bytesOf}
 use Rattle.store_sections.proofs.Events.{bytes-append}
@@ -18,12 +19,12 @@ use Rattle.store_annotation.proofs.Records.{seen}
 -- ---- the bytes of a section, part by part
 
 pub share-all : (j : ℕ) (is ls : List Event) (b : List ℕ) (xs : List Event) (r : List ℕ)
-    → bytesOf j (is ++ (ls ++ ((2, b) ∷ (xs ++ ((0, r) ∷ []))))) ≡ bytesOf j is ++ (bytesOf j ls ++ (bytesFor j (2, b) ++ (bytesOf j xs ++ (bytesFor j (0, r) ++ []))))
+    → bytesOf j (is ++ (ls ++ ((isotopeSection, b) ∷ (xs ++ ((annotationSection, r) ∷ []))))) ≡ bytesOf j is ++ (bytesOf j ls ++ (bytesFor j (isotopeSection, b) ++ (bytesOf j xs ++ (bytesFor j (annotationSection, r) ++ []))))
 share-all j is ls b xs r =
-    bytes-append j is (ls ++ ((2, b) ∷ (xs ++ ((0, r) ∷ []))))
+    bytes-append j is (ls ++ ((isotopeSection, b) ∷ (xs ++ ((annotationSection, r) ∷ []))))
     ∙ ap (λ (l : List ℕ). bytesOf j is ++ l)
-    (bytes-append j ls ((2, b) ∷ (xs ++ ((0, r) ∷ [])))
-    ∙ ap (λ (l : List ℕ). bytesOf j ls ++ (bytesFor j (2, b) ++ l)) (bytes-append j xs ((0, r) ∷ [])))
+    (bytes-append j ls ((isotopeSection, b) ∷ (xs ++ ((annotationSection, r) ∷ [])))
+    ∙ ap (λ (l : List ℕ). bytesOf j ls ++ (bytesFor j (isotopeSection, b) ++ l)) (bytes-append j xs ((annotationSection, r) ∷ [])))
 
 -- ---- what is read, all at once
 

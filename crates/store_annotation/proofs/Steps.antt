@@ -8,6 +8,7 @@ use lib.ListN.{length, take, drop}
 use borrow.Author.Tests.{eq-eqb, ne-eqb}
 use Rattle.rules.specs.Bytes.{bytes}
 use Rattle.rules.specs.Texts.{startsWith}
+use Rattle.rules.specs.Layout.{annotationWidth, annotationSection, lossSection, isotopeSection, itemSection, unitSection, textSection}
 use Rattle.put_bytes.specs.Puts.{maxPlace, Put}
 use Rattle.counts.specs.declared.Counts.{Counts}
 use Rattle.put_formula.specs.Records.{recordsOf}
@@ -46,17 +47,17 @@ module _ {minus : Bool} {v : ℕ} where
 
 -- ---- the record
 
-pub record-long : (a : Front) (b : Tail) (n : Counts) → length (recordBytes a b n) ≡ 36
+pub record-long : (a : Front) (b : Tail) (n : Counts) → length (recordBytes a b n) ≡ annotationWidth
 unfolding frontBytes tailBytes countBytes
 record-long a b n = refl
 
 -- ---- the ion
 
 pub ion-events : (s : List ℕ) (x : IonRead) {r t : List ℕ} → r ≡ drop (x .start) s → t ≡ take (x .text) (drop 1 r)
-    → (4, recordsOf (x .units) r) ∷ (5, t) ∷ [] ≡ ionEvents s x
+    → (unitSection, recordsOf (x .units) r) ∷ (textSection, t) ∷ [] ≡ ionEvents s x
 unfolding ionEvents
 ion-events s x {r} {t} e f =
-    ap₂ (λ (r t : List ℕ). (4, recordsOf (x .units) r) ∷ (5, t) ∷ []) e (f ∙ ap (λ (r : List ℕ). take (x .text) (drop 1 r)) e)
+    ap₂ (λ (r t : List ℕ). (unitSection, recordsOf (x .units) r) ∷ (textSection, t) ∷ []) e (f ∙ ap (λ (r : List ℕ). take (x .text) (drop 1 r)) e)
 
 -- ---- the adduct
 
@@ -65,22 +66,22 @@ module _ {s d : List ℕ} {c : Cursors} where
   unfolding adductCount adductEvents
   adduct-none h e = record { n = rw e; ran = rw e (ran-none h) }
 
-  pub adduct-some : {t e : List ℕ} {x : Arranged} → startsWith (bytes "[M") s ≡ true → t ≡ drop 2 s → StoresChanges t 3 d c e x
+  pub adduct-some : {t e : List ℕ} {x : Arranged} → startsWith (bytes "[M") s ≡ true → t ≡ drop 2 s → StoresChanges t itemSection d c e x
       → StoresAdduct s d c e (record { n = x .n; cursors = x .cursors })
   unfolding adductCount adductEvents
   adduct-some f q p =
       record {
         n = rw f (p .n ∙ ap (λ (t : List ℕ). length (gathered noKeys t .slots)) q);
-        ran = rw f (ran-as (p .ran) (ap (changeEvents 3) q));
+        ran = rw f (ran-as (p .ran) (ap (changeEvents itemSection) q));
       }
 
 -- ---- the annotation
 
 module _ {s d : List ℕ} {p : Parts} {c : Cursors} {l : Arranged} {y : IsotopesStored} {i : Added} {ta t1 t2 t3 u r d1 d2 d3 d4 e : List ℕ} {c1 c3 k : Cursors} {n to next len : ℕ} where
-  pub annotation-stored : ta ≡ drop (p .front .at) s → Ran d c (ionEvents ta (p .front .ion)) d1 c1 → t1 ≡ drop (p .front .len) s → StoresChanges t1 1 d1 c1 d2 l
-      → t2 ≡ drop (l .len) t1 → n ≡ at 2 (l .cursors) → StoresIsotopes t2 d2 n d3 y → c3 ≡ moved 2 (y .next) (l .cursors) → t3 ≡ drop (y .len) t2
-      → StoresAdduct t3 d3 c3 d4 i → to ≡ at 0 (i .cursors)
-      → Put d4 to (recordBytes (p .front) (p .tail) (record { annotations = 1; losses = l .n; isotopes = y .n; items = i .n; units = p .front .ion .units; text = p .front .ion .text })) e next → k ≡ moved 0 next (i .cursors)
+  pub annotation-stored : ta ≡ drop (p .front .at) s → Ran d c (ionEvents ta (p .front .ion)) d1 c1 → t1 ≡ drop (p .front .len) s → StoresChanges t1 lossSection d1 c1 d2 l
+      → t2 ≡ drop (l .len) t1 → n ≡ at isotopeSection (l .cursors) → StoresIsotopes t2 d2 n d3 y → c3 ≡ moved isotopeSection (y .next) (l .cursors) → t3 ≡ drop (y .len) t2
+      → StoresAdduct t3 d3 c3 d4 i → to ≡ at annotationSection (i .cursors)
+      → Put d4 to (recordBytes (p .front) (p .tail) (record { annotations = 1; losses = l .n; isotopes = y .n; items = i .n; units = p .front .ion .units; text = p .front .ion .text })) e next → k ≡ moved annotationSection next (i .cursors)
       → u ≡ drop (p .middle .len) t1 → r ≡ drop (p .tail .len) u → len ≡ length s - length r → StoresAnnotation s p d c e (record { len = len; cursors = k })
   unfolding annotationEvents annotationSize
   annotation-stored eta ion q1 losses e2 en isotopes e3 f3 adduct eo put ek eu er el =
@@ -95,7 +96,7 @@ module _ {s d : List ℕ} {p : Parts} {c : Cursors} {l : Arranged} {y : Isotopes
       record {
         len = el ∙ ap (λ (r : List ℕ). length s - length r) (er ∙ ap (drop (p .tail .len)) (eu ∙ ap (drop (p .middle .len)) q1));
         ran =
-            ran-as (ran-then ion (ran-then (losses .ran) (ran-then (ran-at 2 en (isotopes .put) e3) (ran-then (adduct .ran) (ran-at 0 eo put ek)))))
-            (λ j. ionEvents (eta j) (p .front .ion) ++ (changeEvents 1 (q1 j) ++ ((2, filedIsotopes (q2 j) .known .bytes)
-            ∷ (adductEvents (q3 j) ++ ((0, recordBytes (p .front) (p .tail) (record { annotations = 1; losses = pl j; isotopes = py j; items = pi j; units = p .front .ion .units; text = p .front .ion .text })) ∷ [])))));
+            ran-as (ran-then ion (ran-then (losses .ran) (ran-then (ran-at isotopeSection en (isotopes .put) e3) (ran-then (adduct .ran) (ran-at annotationSection eo put ek)))))
+            (λ j. ionEvents (eta j) (p .front .ion) ++ (changeEvents lossSection (q1 j) ++ ((isotopeSection, filedIsotopes (q2 j) .known .bytes)
+            ∷ (adductEvents (q3 j) ++ ((annotationSection, recordBytes (p .front) (p .tail) (record { annotations = 1; losses = pl j; isotopes = py j; items = pi j; units = p .front .ion .units; text = p .front .ion .text })) ∷ [])))));
       }

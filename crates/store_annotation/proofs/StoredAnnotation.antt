@@ -16,6 +16,7 @@ use Rattle.rules.specs.Annotations.{Annotation, annotationText}
 use Rattle.rules.specs.Fields.{filled, Says}
 use Rattle.rules.specs.Limits.{part, ionParts, annotationParts, annotationMarks}
 use Rattle.rules.specs.Stored.{stores, unitRecord, lossRecord, itemRecord, lostUnits, lostName, addedUnits, ionFields, isotopeRecords, annotationRecord, annotationUnits, annotationTexts}
+use Rattle.rules.specs.Layout.{annotationSection, lossSection, isotopeSection, itemSection, unitSection, textSection}
 use Rattle.rules.proofs.Keeps.{kept-tail, kept-part}
 use Rattle.rules.proofs.Totals.{perm-length}
 use Rattle.counts.specs.declared.Counts.{Counts}
@@ -68,7 +69,7 @@ module _ (a : Annotation Written) (k : List ℕ) (nth end : ℕ) (f : Fault) (e 
   ion = ionEvents (drop (read .front .at) (first a k)) (read .front .ion)
 
   abbrev losses : List Event
-  losses = changeEvents 1 (second a k)
+  losses = changeEvents lossSection (second a k)
 
   abbrev isotopes : List ℕ
   isotopes = filedIsotopes (isotopesOn a k) .known .bytes
@@ -83,49 +84,49 @@ module _ (a : Annotation Written) (k : List ℕ) (nth end : ℕ) (f : Fault) (e 
   own = recordBytes (read .front) (read .tail) counts
 
   -- by what each part gives to section j
-  section : (j : ℕ) {x l y d : List ℕ} → bytesOf j ion ≡ x → bytesOf j losses ≡ l → bytesFor j (2, isotopes) ≡ y → bytesOf j adduct ≡ d
-      → bytesOf j (annotationEvents (first a k) read) ≡ x ++ (l ++ (y ++ (d ++ (bytesFor j (0, own) ++ []))))
+  section : (j : ℕ) {x l y d : List ℕ} → bytesOf j ion ≡ x → bytesOf j losses ≡ l → bytesFor j (isotopeSection, isotopes) ≡ y → bytesOf j adduct ≡ d
+      → bytesOf j (annotationEvents (first a k) read) ≡ x ++ (l ++ (y ++ (d ++ (bytesFor j (annotationSection, own) ++ []))))
   section j p q r t =
       ap (bytesOf j) (events-are a k nth end f e i at kept) ∙ share-all j ion losses isotopes adduct own
-      ∙ (λ z. p z ++ (q z ++ (r z ++ (t z ++ (bytesFor j (0, own) ++ [])))))
+      ∙ (λ z. p z ++ (q z ++ (r z ++ (t z ++ (bytesFor j (annotationSection, own) ++ [])))))
 
   ion-other : (j : ℕ) → bytesOf j (ionEvents (ionText (a .ion) ++ second a k) (read .front .ion)) ≡ bytesOf j ion
   ion-other j = ap (λ (s : List ℕ). bytesOf j (ionEvents s (read .front .ion))) (sym (ion-at a k))
 
-  annotations-are : bytesOf 0 (annotationEvents (first a k) read) ≡ stores (annotationRecord table)
+  annotations-are : bytesOf annotationSection (annotationEvents (first a k) read) ≡ stores (annotationRecord table)
   unfolding ionEvents
   annotations-are =
       let l = losses-are a k e i at kept in
       let x = adduct-is a k e i at kept in
       let n = l .n ∙ perm-length (l .same) in
       let m = x .n ∙ perm-length (x .same) in
-      section 0 refl (l .others 0 refl refl refl) refl (x .others 0 refl refl refl) ∙ append-nil own
+      section annotationSection refl (l .others annotationSection refl refl refl) refl (x .others annotationSection refl refl refl) ∙ append-nil own
       ∙ record-stored a k nth end f i at kept counts lost added n
       (ap (λ (w : Walked Filed). w .known .n) (isotopes-are a k e i at kept)) m refl refl
 
-  losses-section : bytesOf 1 (annotationEvents (first a k) read) ≡ flat (λ l. stores (lossRecord l)) lost
+  losses-section : bytesOf lossSection (annotationEvents (first a k) read) ≡ flat (λ l. stores (lossRecord l)) lost
   unfolding ionEvents
   losses-section =
       let l = losses-are a k e i at kept in
       let x = adduct-is a k e i at kept in
-      section 1 refl (l .own) refl (x .others 1 refl refl refl) ∙ append-nil (flat (λ l. stores (lossRecord l)) lost)
+      section lossSection refl (l .own) refl (x .others lossSection refl refl refl) ∙ append-nil (flat (λ l. stores (lossRecord l)) lost)
 
-  isotopes-section : bytesOf 2 (annotationEvents (first a k) read) ≡ flat (λ x. stores x) (isotopeRecords (isotopesMap filled (a .isotopes)))
+  isotopes-section : bytesOf isotopeSection (annotationEvents (first a k) read) ≡ flat (λ x. stores x) (isotopeRecords (isotopesMap filled (a .isotopes)))
   unfolding ionEvents
   isotopes-section =
       let l = losses-are a k e i at kept in
       let x = adduct-is a k e i at kept in
-      section 2 refl (l .others 2 refl refl refl) (ap (λ (w : Walked Filed). w .known .bytes) (isotopes-are a k e i at kept)) (x .others 2 refl refl refl)
+      section isotopeSection refl (l .others isotopeSection refl refl refl) (ap (λ (w : Walked Filed). w .known .bytes) (isotopes-are a k e i at kept)) (x .others isotopeSection refl refl refl)
       ∙ append-nil (flat (λ x. stores x) (isotopeRecords (isotopesMap filled (a .isotopes))))
 
-  items-section : bytesOf 3 (annotationEvents (first a k) read) ≡ flat (λ x. stores (itemRecord x)) added
+  items-section : bytesOf itemSection (annotationEvents (first a k) read) ≡ flat (λ x. stores (itemRecord x)) added
   unfolding ionEvents
   items-section =
       let l = losses-are a k e i at kept in
       let x = adduct-is a k e i at kept in
-      section 3 refl (l .others 3 refl refl refl) refl (x .own) ∙ append-nil (flat (λ x. stores (itemRecord x)) added)
+      section itemSection refl (l .others itemSection refl refl refl) refl (x .own) ∙ append-nil (flat (λ x. stores (itemRecord x)) added)
 
-  units-section : bytesOf 4 (annotationEvents (first a k) read) ≡ flat (λ u. stores (unitRecord u)) (annotationUnits table)
+  units-section : bytesOf unitSection (annotationEvents (first a k) read) ≡ flat (λ u. stores (unitRecord u)) (annotationUnits table)
   units-section =
       let l = losses-are a k e i at kept in
       let x = adduct-is a k e i at kept in
@@ -134,14 +135,14 @@ module _ (a : Annotation Written) (k : List ℕ) (nth end : ℕ) (f : Fault) (e 
       let us = ionFields (ionMap filled (a .ion)) .units in
       let vs = flat (λ l. lostUnits (l .what)) lost in
       let ws = flat (λ x. addedUnits (x .what)) added in
-      section 4 (sym (ion-other 4) ∙ ion-units (a .ion) (second a k) (ionSeen a k nth end f) (p .0) (p .1)) (l .units-are) refl (x .units)
+      section unitSection (sym (ion-other unitSection) ∙ ion-units (a .ion) (second a k) (ionSeen a k nth end f) (p .0) (p .1)) (l .units-are) refl (x .units)
       ∙ ap (λ (z : List ℕ). flat g us ++ z) (ap (λ (z : List ℕ). flat g vs ++ z) (append-nil (flat g ws)) ∙ sym (flat-append g vs ws)) ∙ sym (flat-append g us (vs ++ ws))
 
-  text-section : bytesOf 5 (annotationEvents (first a k) read) ≡ annotationTexts table
+  text-section : bytesOf textSection (annotationEvents (first a k) read) ≡ annotationTexts table
   text-section =
       let l = losses-are a k e i at kept in
       let x = adduct-is a k e i at kept in
-      section 5 (sym (ion-other 5) ∙ ion-name (a .ion) (second a k) (ionSeen a k nth end f)) (l .text) refl (x .text)
+      section textSection (sym (ion-other textSection) ∙ ion-name (a .ion) (second a k) (ionSeen a k nth end f)) (l .text) refl (x .text)
       ∙ ap (λ (z : List ℕ). ionFields (ionMap filled (a .ion)) .text ++ z) (append-nil (flat (λ l. lostName (l .what)) lost))
 
   first-stored : StoresRead a (annotationEvents (first a k) read)

@@ -7,6 +7,7 @@ use lib.ListN.{length, take, drop}
 use Rattle.rules.specs.Bytes.{bytes}
 use Rattle.rules.specs.Texts.{startsWith}
 use Rattle.counts.specs.declared.Counts.{Counts}
+use Rattle.rules.specs.Layout.{annotationSection, lossSection, isotopeSection, itemSection, unitSection, textSection}
 use Rattle.put_formula.specs.Records.{recordsOf}
 use Rattle.store_sections.specs.declared.Cursors.{Cursors}
 use Rattle.store_sections.specs.Pages.{Event, Ran}
@@ -24,7 +25,7 @@ use Rattle.store_annotation.specs.Records.{recordBytes}
 
 -- the ion's units and its text
 unfoldable pub ionEvents : List ℕ → IonRead → List Event
-ionEvents s x = (4, recordsOf (x .units) (drop (x .start) s)) ∷ (5, take (x .text) (drop 1 (drop (x .start) s))) ∷ []
+ionEvents s x = (unitSection, recordsOf (x .units) (drop (x .start) s)) ∷ (textSection, take (x .text) (drop 1 (drop (x .start) s))) ∷ []
 
 -- ---- the adduct
 
@@ -32,7 +33,7 @@ unfoldable pub adductCount : List ℕ → ℕ
 adductCount s = cond (startsWith (bytes "[M") s) (length (gathered noKeys (drop 2 s) .slots)) 0
 
 unfoldable pub adductEvents : List ℕ → List Event
-adductEvents s = cond (startsWith (bytes "[M") s) (changeEvents 3 (drop 2 s)) []
+adductEvents s = cond (startsWith (bytes "[M") s) (changeEvents itemSection (drop 2 s)) []
 
 pub record StoresAdduct (s d : List ℕ) (c : Cursors) (e : List ℕ) (r : Added) : Type 0 where
   pub n : r .n ≡ adductCount s
@@ -59,7 +60,7 @@ storedCounts s1 s2 s3 x =
 abbrev pub eventsWith : List ℕ → List ℕ → List ℕ → List ℕ → Front → Tail → List Event
 eventsWith s s1 s2 s3 a b =
     ionEvents (drop (a .at) s) (a .ion)
-    ++ (changeEvents 1 s1 ++ ((2, filedIsotopes s2 .known .bytes) ∷ (adductEvents s3 ++ ((0, recordBytes a b (storedCounts s1 s2 s3 (a .ion))) ∷ []))))
+    ++ (changeEvents lossSection s1 ++ ((isotopeSection, filedIsotopes s2 .known .bytes) ∷ (adductEvents s3 ++ ((annotationSection, recordBytes a b (storedCounts s1 s2 s3 (a .ion))) ∷ []))))
 
 unfoldable pub annotationEvents : List ℕ → Parts → List Event
 annotationEvents s p = eventsWith s (behindIon s p) (behindChanges (behindIon s p)) (behindFiledIsotopes (behindChanges (behindIon s p))) (p .front) (p .tail)

@@ -5,6 +5,13 @@ ghost use Rattle.store_sections.specs.Pages.{Ran};
 ghost use Rattle.store_annotation.specs.Records.{signedOf, frontBytes, kindBytes, tailBytes, countBytes, recordBytes};
 ghost use Rattle.store_annotation.specs.Events.{ionEvents, StoresAdduct, StoresAnnotation};
 use counts::Counts;
+use layout::ANNOTATION_SECTION;
+use layout::ANNOTATION_SIZE;
+use layout::ISOTOPE_SECTION;
+use layout::ITEM_SECTION;
+use layout::LOSS_SECTION;
+use layout::TEXT_SECTION;
+use layout::UNIT_SECTION;
 use put_bytes::put_le;
 use put_bytes::put_run;
 use put_bytes::put8;
@@ -113,7 +120,7 @@ fn put_fields(out: &mut [u8], to: usize, a: Front, b: Tail, n: Counts) -> usize
 fn put_annotation(out: &mut [u8], to: usize, a: Front, b: Tail, n: Counts) -> usize
     ensures { λ r. ⌜ Put (now (out .entry)) to (recordBytes a b n) (now (out .exit)) r ⌝ }
 {
-    let mut record = [0u8; 36];
+    let mut record = [0u8; ANNOTATION_SIZE];
     put_fields(&mut record, 0, a, b, n);
     put_run(out, to, &record)
 }
@@ -123,10 +130,10 @@ fn put_ion(out: &mut [u8], c: Cursors, s: &[u8], x: IonRead) -> Cursors
     ensures { λ r. ⌜ Ran (now (out .entry)) c (ionEvents (now (s .entry)) x) (now (out .exit)) r ⌝ }
 {
     let t = rest(s, x.start);
-    let u = put_records(out, cursor(c, 4), t, x.units);
-    let d = with_cursor(c, 4, u);
-    let v = put_run(out, cursor(d, 5), part(t, 1, x.text));
-    with_cursor(d, 5, v)
+    let u = put_records(out, cursor(c, UNIT_SECTION), t, x.units);
+    let d = with_cursor(c, UNIT_SECTION, u);
+    let v = put_run(out, cursor(d, TEXT_SECTION), part(t, 1, x.text));
+    with_cursor(d, TEXT_SECTION, v)
 }
 
 // The adduct items that a part begins with.
@@ -136,7 +143,7 @@ fn store_adduct(out: &mut [u8], c: Cursors, s: &[u8]) -> Added
     if !begins_adduct(s) {
         return Added { n: 0, cursors: c };
     }
-    let x = store_changes(out, c, 3, rest(s, 2));
+    let x = store_changes(out, c, ITEM_SECTION, rest(s, 2));
     let cursors = x.cursors;
     Added { n: x.n, cursors }
 }
@@ -151,11 +158,11 @@ pub fn store(out: &mut [u8], c: Cursors, s: &[u8], p: Parts) -> Stored
     let b = p.tail;
     let c1 = put_ion(out, c, rest(s, a.at), x);
     let s1 = rest(s, a.len);
-    let l = store_changes(out, c1, 1, s1);
+    let l = store_changes(out, c1, LOSS_SECTION, s1);
     let c2 = l.cursors;
     let s2 = rest(s1, l.len);
-    let y = store_isotopes(s2, out, cursor(c2, 2));
-    let c3 = with_cursor(c2, 2, y.next);
+    let y = store_isotopes(s2, out, cursor(c2, ISOTOPE_SECTION));
+    let c3 = with_cursor(c2, ISOTOPE_SECTION, y.next);
     let i = store_adduct(out, c3, rest(s2, y.len));
     let c4 = i.cursors;
     let n = Counts {
@@ -166,9 +173,9 @@ pub fn store(out: &mut [u8], c: Cursors, s: &[u8], p: Parts) -> Stored
         units: x.units,
         text: x.text,
     };
-    let next = put_annotation(out, cursor(c4, 0), a, b, n);
+    let next = put_annotation(out, cursor(c4, ANNOTATION_SECTION), a, b, n);
     Stored {
         len: minus_or_zero(s.len(), rest(rest(s1, m.len), b.len).len()),
-        cursors: with_cursor(c4, 0, next),
+        cursors: with_cursor(c4, ANNOTATION_SECTION, next),
     }
 }

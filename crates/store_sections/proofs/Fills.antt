@@ -7,6 +7,7 @@ use Rattle.rules.specs.Numbers.{Number}
 use Rattle.rules.specs.Annotations.{Annotation}
 use Rattle.rules.specs.Fields.{Table}
 use Rattle.rules.specs.Stored.{stores, annotationRecord, lossRecord, isotopeRecords, itemRecord, unitRecord, annotationUnits, annotationTexts}
+use Rattle.rules.specs.Layout.{annotationSection, lossSection, isotopeSection, itemSection, unitSection, textSection}
 use Rattle.store_sections.specs.Pages.{Event, bytesOf, parts}
 use Rattle.store_sections.specs.Fills.{bytesIn, Fills}
 use Rattle.store_sections.proofs.Events.{flat-append, bytes-append}
@@ -15,10 +16,10 @@ pub fills-none : Fills [] []
 fills-none = record { annotations = refl; losses = refl; isotopes = refl; items = refl; units = refl; text = refl }
 
 -- the events of one annotation
-pub fills-one : {es : List Event} (a : Annotation Number) → bytesOf 0 es ≡ stores (annotationRecord a)
-    → bytesOf 1 es ≡ flat (λ l. stores (lossRecord l)) (a .losses) → bytesOf 2 es ≡ flat (λ x. stores x) (isotopeRecords (a .isotopes))
-    → bytesOf 3 es ≡ flat (λ x. stores (itemRecord x)) (a .adduct) → bytesOf 4 es ≡ flat (λ u. stores (unitRecord u)) (annotationUnits a)
-    → bytesOf 5 es ≡ annotationTexts a → Fills (a ∷ []) es
+pub fills-one : {es : List Event} (a : Annotation Number) → bytesOf annotationSection es ≡ stores (annotationRecord a)
+    → bytesOf lossSection es ≡ flat (λ l. stores (lossRecord l)) (a .losses) → bytesOf isotopeSection es ≡ flat (λ x. stores x) (isotopeRecords (a .isotopes))
+    → bytesOf itemSection es ≡ flat (λ x. stores (itemRecord x)) (a .adduct) → bytesOf unitSection es ≡ flat (λ u. stores (unitRecord u)) (annotationUnits a)
+    → bytesOf textSection es ≡ annotationTexts a → Fills (a ∷ []) es
 fills-one a n l i x u t =
     record {
       annotations = n ∙ sym (append-nil (stores (annotationRecord a)));
@@ -39,12 +40,12 @@ flats g h xs ys = ap (flat g) (flat-append h xs ys) ∙ flat-append g (flat h xs
 pub fills-then : {t u : Table} {es fs : List Event} → Fills t es → Fills u fs → Fills (t ++ u) (es ++ fs)
 fills-then {t} {u} {es} {fs} a b =
     record {
-      annotations = both 0 es fs (a .annotations) (b .annotations) (flat-append (λ a. stores (annotationRecord a)) t u);
-      losses = both 1 es fs (a .losses) (b .losses) (flats (λ l. stores (lossRecord l)) (λ a. a .losses) t u);
-      isotopes = both 2 es fs (a .isotopes) (b .isotopes) (flats (λ x. stores x) (λ a. isotopeRecords (a .isotopes)) t u);
-      items = both 3 es fs (a .items) (b .items) (flats (λ x. stores (itemRecord x)) (λ a. a .adduct) t u);
-      units = both 4 es fs (a .units) (b .units) (flats (λ u. stores (unitRecord u)) annotationUnits t u);
-      text = both 5 es fs (a .text) (b .text) (flat-append annotationTexts t u);
+      annotations = both annotationSection es fs (a .annotations) (b .annotations) (flat-append (λ a. stores (annotationRecord a)) t u);
+      losses = both lossSection es fs (a .losses) (b .losses) (flats (λ l. stores (lossRecord l)) (λ a. a .losses) t u);
+      isotopes = both isotopeSection es fs (a .isotopes) (b .isotopes) (flats (λ x. stores x) (λ a. isotopeRecords (a .isotopes)) t u);
+      items = both itemSection es fs (a .items) (b .items) (flats (λ x. stores (itemRecord x)) (λ a. a .adduct) t u);
+      units = both unitSection es fs (a .units) (b .units) (flats (λ u. stores (unitRecord u)) annotationUnits t u);
+      text = both textSection es fs (a .text) (b .text) (flat-append annotationTexts t u);
     }
 
 pub fills-parts : {t : Table} {es : List Event} → Fills t es → parts es ≡ bytesIn t

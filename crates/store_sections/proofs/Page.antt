@@ -7,6 +7,7 @@ use native.Mathlib.Nat.{add-zero}
 use borrow.Author.Tests.{ne-eqb}
 use lib.ListN.{length}
 use lib.Seq.{sets, length-sets}
+use Rattle.rules.specs.Layout.{annotationSection, lossSection, isotopeSection, itemSection, unitSection, textSection}
 use Rattle.put_bytes.specs.Puts.{maxPlace, Put}
 use Rattle.store_sections.specs.declared.Cursors.{Cursors}
 use Rattle.store_sections.specs.Pages.{places, at, Event, bytesOf, next, ends, run, Ran, parts, joined, stops, Laid}
@@ -25,12 +26,12 @@ parts-more (suc (suc (suc (suc (suc zero))))) m es = refl
 parts-more (suc (suc (suc (suc (suc (suc j)))))) m es =
     let k = suc (suc (suc (suc (suc (suc j))))) in
     rw (
-      ne-eqb 0 k (omega arith),
-      ne-eqb 1 k (omega arith),
-      ne-eqb 2 k (omega arith),
-      ne-eqb 3 k (omega arith),
-      ne-eqb 4 k (omega arith),
-      ne-eqb 5 k (omega arith),
+      ne-eqb annotationSection k (omega arith),
+      ne-eqb lossSection k (omega arith),
+      ne-eqb isotopeSection k (omega arith),
+      ne-eqb itemSection k (omega arith),
+      ne-eqb unitSection k (omega arith),
+      ne-eqb textSection k (omega arith),
     )
 
 module _ (b : ℕ) (x : Event) (es : List Event) (c : Cursors) where
@@ -87,12 +88,12 @@ module _ {base : ℕ} {d e : List ℕ} {c c′ : Cursors} {es : List Event} (a :
 
 -- ---- the same, said of each cursor
 
-pub laid : {base : ℕ} {c : Cursors} (es : List Event) → at 0 c ≡ base → ((j : ℕ) → j < 5 → at (suc j) c ≡ at j c + length (bytesOf j es))
+pub laid : {base : ℕ} {c : Cursors} (es : List Event) → at annotationSection c ≡ base → ((j : ℕ) → j < textSection → at (suc j) c ≡ at j c + length (bytesOf j es))
     → base + length (joined (parts es)) ≤ maxPlace → Laid base c (parts es)
 laid {base} {c} es z n h =
-    let a = n 0 (omega arith) ∙ ap (λ (p : ℕ). p + length (bytesOf 0 es)) z in
-    let b = n 1 (omega arith) ∙ ap (λ (p : ℕ). p + length (bytesOf 1 es)) a in
-    let d = n 2 (omega arith) ∙ ap (λ (p : ℕ). p + length (bytesOf 2 es)) b in
-    let e = n 3 (omega arith) ∙ ap (λ (p : ℕ). p + length (bytesOf 3 es)) d in
-    let f = n 4 (omega arith) ∙ ap (λ (p : ℕ). p + length (bytesOf 4 es)) e in
+    let a = n annotationSection (omega arith) ∙ ap (λ (p : ℕ). p + length (bytesOf annotationSection es)) z in
+    let b = n lossSection (omega arith) ∙ ap (λ (p : ℕ). p + length (bytesOf lossSection es)) a in
+    let d = n isotopeSection (omega arith) ∙ ap (λ (p : ℕ). p + length (bytesOf isotopeSection es)) b in
+    let e = n itemSection (omega arith) ∙ ap (λ (p : ℕ). p + length (bytesOf itemSection es)) d in
+    let f = n unitSection (omega arith) ∙ ap (λ (p : ℕ). p + length (bytesOf unitSection es)) e in
     record { starts = λ i. z i ∷ a i ∷ b i ∷ d i ∷ e i ∷ f i ∷ []; fits = h }

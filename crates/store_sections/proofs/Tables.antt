@@ -8,6 +8,7 @@ use lib.ListN.{length, replicate, length-append, length-replicate}
 use lib.Seq.{sets}
 use Rattle.rules.specs.Fields.{Table}
 use Rattle.rules.specs.Stored.{stores, headerSize, body, header, stored}
+use Rattle.rules.specs.Layout.{annotationWidth, lossWidth, isotopeWidth, itemWidth, unitWidth}
 use Rattle.rules.proofs.Lengths.{lossesOf, isotopesOf, itemsOf, unitsOf, textsOf, body-length, stored-length}
 use Rattle.rules.proofs.Lengths.{annotations-length, losses-length, isotopes-length, items-length, units-length}
 use Rattle.put_bytes.specs.Puts.{maxPlace, Put}
@@ -38,11 +39,11 @@ module _ (t : Table) (h : length (stored t) ≤ maxPlace) where
       let units = units-length t in
       let text : length (textsOf t) ≡ 1 * length (textsOf t) = omega arith in
       let first : headerSize ≡ headerSize = refl in
-      let a = behind-is (length t) 36 first annotations (omega arith) in
-      let b = behind-is (length (lossesOf t)) 6 a losses (omega arith) in
-      let c = behind-is (length (isotopesOf t)) 8 b isotopes (omega arith) in
-      let d = behind-is (length (itemsOf t)) 6 c items (omega arith) in
-      let e = behind-is (length (unitsOf t)) 6 d units (omega arith) in
+      let a = behind-is (length t) annotationWidth first annotations (omega arith) in
+      let b = behind-is (length (lossesOf t)) lossWidth a losses (omega arith) in
+      let c = behind-is (length (isotopesOf t)) isotopeWidth b isotopes (omega arith) in
+      let d = behind-is (length (itemsOf t)) itemWidth c items (omega arith) in
+      let e = behind-is (length (unitsOf t)) unitWidth d units (omega arith) in
       let f = behind-is (length (textsOf t)) 1 e text (omega arith) in
       (λ i. record { annotations = headerSize; losses = a i; isotopes = b i; items = c i; units = d i; text = e i }, omega (arith, f))
 

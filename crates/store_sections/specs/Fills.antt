@@ -5,6 +5,7 @@ use Prim.Native.Nat.{ℕ}
 use Rattle.lang.specs.Parts.{flat}
 use Rattle.rules.specs.Fields.{Table}
 use Rattle.rules.specs.Stored.{stores, annotationRecord, lossRecord, isotopeRecords, itemRecord, unitRecord, annotationUnits, annotationTexts, sections}
+use Rattle.rules.specs.Layout.{annotationSection, lossSection, isotopeSection, itemSection, unitSection, textSection}
 use Rattle.store_sections.specs.Pages.{Event, bytesOf}
 
 -- the bytes of each section of a table
@@ -13,9 +14,9 @@ bytesIn t = map (λ s. s .bytes) (sections t)
 
 -- each section gets its bytes, in any order of the sections
 pub record Fills (t : Table) (es : List Event) : Type 0 where
-  pub annotations : bytesOf 0 es ≡ flat (λ a. stores (annotationRecord a)) t
-  pub losses : bytesOf 1 es ≡ flat (λ l. stores (lossRecord l)) (flat (λ a. a .losses) t)
-  pub isotopes : bytesOf 2 es ≡ flat (λ x. stores x) (flat (λ a. isotopeRecords (a .isotopes)) t)
-  pub items : bytesOf 3 es ≡ flat (λ x. stores (itemRecord x)) (flat (λ a. a .adduct) t)
-  pub units : bytesOf 4 es ≡ flat (λ u. stores (unitRecord u)) (flat annotationUnits t)
-  pub text : bytesOf 5 es ≡ flat annotationTexts t
+  pub annotations : bytesOf annotationSection es ≡ flat (λ a. stores (annotationRecord a)) t
+  pub losses : bytesOf lossSection es ≡ flat (λ l. stores (lossRecord l)) (flat (λ a. a .losses) t)
+  pub isotopes : bytesOf isotopeSection es ≡ flat (λ x. stores x) (flat (λ a. isotopeRecords (a .isotopes)) t)
+  pub items : bytesOf itemSection es ≡ flat (λ x. stores (itemRecord x)) (flat (λ a. a .adduct) t)
+  pub units : bytesOf unitSection es ≡ flat (λ u. stores (unitRecord u)) (flat annotationUnits t)
+  pub text : bytesOf textSection es ≡ flat annotationTexts t

@@ -6,6 +6,7 @@ use lib.ListN.{length}
 use Rattle.lang.specs.Parts.{flat}
 use Rattle.rules.specs.Fields.{Table}
 use Rattle.rules.specs.Stored.{Field, u16, stores, isotopeRecords, annotationUnits, annotationTexts, edition, headerSize}
+use Rattle.rules.specs.Layout.{annotationWidth, lossWidth, isotopeWidth, itemWidth, unitWidth}
 use Rattle.put_bytes.specs.Puts.{maxPlace, Put}
 use Rattle.counts.specs.declared.Counts.{Counts}
 use Rattle.store_sections.specs.declared.Cursors.{Cursors}
@@ -14,21 +15,21 @@ use Rattle.store_sections.specs.declared.Cursors.{Cursors}
 abbrev pub behind : ℕ → ℕ → ℕ → ℕ
 behind p n size = min (p + n * size) maxPlace
 
--- where the sections begin: a loss, an adduct item and a unit have 6 bytes, an annotation 36, an isotope 8, a byte of text 1
+-- where the sections begin; a byte of text has 1 byte
 abbrev pub lossesAt : Counts → ℕ
-lossesAt n = behind headerSize (n .annotations) 36
+lossesAt n = behind headerSize (n .annotations) annotationWidth
 
 abbrev pub isotopesAt : Counts → ℕ
-isotopesAt n = behind (lossesAt n) (n .losses) 6
+isotopesAt n = behind (lossesAt n) (n .losses) lossWidth
 
 abbrev pub itemsAt : Counts → ℕ
-itemsAt n = behind (isotopesAt n) (n .isotopes) 8
+itemsAt n = behind (isotopesAt n) (n .isotopes) isotopeWidth
 
 abbrev pub unitsAt : Counts → ℕ
-unitsAt n = behind (itemsAt n) (n .items) 6
+unitsAt n = behind (itemsAt n) (n .items) itemWidth
 
 abbrev pub textAt : Counts → ℕ
-textAt n = behind (unitsAt n) (n .units) 6
+textAt n = behind (unitsAt n) (n .units) unitWidth
 
 abbrev pub endAt : Counts → ℕ
 endAt n = behind (textAt n) (n .text) 1

@@ -6,25 +6,26 @@ use mathlib.Core.List.{List, [], _∷_}
 use lib.Dec.{eqb}
 use lib.ListN.{length, getD, set}
 use lib.Seq.{sets}
+use Rattle.rules.specs.Layout.{annotationSection, lossSection, isotopeSection, itemSection, unitSection, textSection}
 use Rattle.lang.specs.Parts.{flat}
 use Rattle.put_bytes.specs.Puts.{maxPlace}
 use Rattle.store_sections.specs.declared.Cursors.{Cursors}
 
 -- ---- cursors
 
--- in the order of the sections: 0 annotations, 1 losses, 2 isotopes, 3 adduct items, 4 units, 5 text bytes
+-- in the order of the sections
 abbrev pub places : Cursors → List ℕ
 places c = c .annotations ∷ c .losses ∷ c .isotopes ∷ c .items ∷ c .units ∷ c .text ∷ []
 
 abbrev pub placed : List ℕ → Cursors
 placed l =
     record {
-      annotations = getD l 0 0;
-      losses = getD l 1 0;
-      isotopes = getD l 2 0;
-      items = getD l 3 0;
-      units = getD l 4 0;
-      text = getD l 5 0;
+      annotations = getD l annotationSection 0;
+      losses = getD l lossSection 0;
+      isotopes = getD l isotopeSection 0;
+      items = getD l itemSection 0;
+      units = getD l unitSection 0;
+      text = getD l textSection 0;
     }
 
 -- the cursor of section j; that of a section that there is not stands behind every output
@@ -71,7 +72,9 @@ pub record Ran (d : List ℕ) (c : Cursors) (es : List Event) (e : List ℕ) (c�
 
 -- the bytes of each section
 abbrev pub parts : List Event → List (List ℕ)
-parts es = bytesOf 0 es ∷ bytesOf 1 es ∷ bytesOf 2 es ∷ bytesOf 3 es ∷ bytesOf 4 es ∷ bytesOf 5 es ∷ []
+parts es =
+    bytesOf annotationSection es ∷ bytesOf lossSection es ∷ bytesOf isotopeSection es ∷ bytesOf itemSection es ∷ bytesOf unitSection es
+    ∷ bytesOf textSection es ∷ []
 
 abbrev pub joined : List (List ℕ) → List ℕ
 joined ls = flat (λ l. l) ls

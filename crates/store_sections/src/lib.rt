@@ -4,6 +4,19 @@ ghost use Rattle.put_bytes.specs.Puts.{Put};
 ghost use Rattle.store_sections.specs.Pages.{at, moved};
 ghost use Rattle.store_sections.specs.Headers.{behind, startsOf, endAt, pair, Headed};
 use counts::Counts;
+use layout::ANNOTATION_SECTION;
+use layout::ANNOTATION_SIZE;
+use layout::EDITION;
+use layout::HEADER_SIZE;
+use layout::ISOTOPE_SECTION;
+use layout::ISOTOPE_SIZE;
+use layout::ITEM_SECTION;
+use layout::ITEM_SIZE;
+use layout::LOSS_SECTION;
+use layout::LOSS_SIZE;
+use layout::TEXT_SECTION;
+use layout::UNIT_SECTION;
+use layout::UNIT_SIZE;
 
 // Where the next byte of each section goes.
 pub struct Cursors {
@@ -20,12 +33,12 @@ pub fn cursor(c: Cursors, j: usize) -> usize
     ensures { λ r. ⌜ r ≡ at j c ⌝ }
 {
     match j {
-        0 => c.annotations,
-        1 => c.losses,
-        2 => c.isotopes,
-        3 => c.items,
-        4 => c.units,
-        5 => c.text,
+        ANNOTATION_SECTION => c.annotations,
+        LOSS_SECTION => c.losses,
+        ISOTOPE_SECTION => c.isotopes,
+        ITEM_SECTION => c.items,
+        UNIT_SECTION => c.units,
+        TEXT_SECTION => c.text,
         _ => usize::MAX,
     }
 }
@@ -36,12 +49,12 @@ pub fn with_cursor(c: Cursors, j: usize, r: usize) -> Cursors
 {
     let mut k = c;
     match j {
-        0 => k.annotations = r,
-        1 => k.losses = r,
-        2 => k.isotopes = r,
-        3 => k.items = r,
-        4 => k.units = r,
-        5 => k.text = r,
+        ANNOTATION_SECTION => k.annotations = r,
+        LOSS_SECTION => k.losses = r,
+        ISOTOPE_SECTION => k.isotopes = r,
+        ITEM_SECTION => k.items = r,
+        UNIT_SECTION => k.units = r,
+        TEXT_SECTION => k.text = r,
         _ => {}
     }
     k
@@ -64,13 +77,13 @@ pub fn place_behind(at: usize, n: usize, size: usize) -> usize
 pub fn starts(n: Counts) -> Cursors
     ensures { λ r. ⌜ r ≡ startsOf n ⌝ }
 {
-    let losses = place_behind(28, n.annotations, 36);
-    let isotopes = place_behind(losses, n.losses, 6);
-    let items = place_behind(isotopes, n.isotopes, 8);
-    let units = place_behind(items, n.items, 6);
-    let text = place_behind(units, n.units, 6);
+    let losses = place_behind(HEADER_SIZE, n.annotations, ANNOTATION_SIZE);
+    let isotopes = place_behind(losses, n.losses, LOSS_SIZE);
+    let items = place_behind(isotopes, n.isotopes, ISOTOPE_SIZE);
+    let units = place_behind(items, n.items, ITEM_SIZE);
+    let text = place_behind(units, n.units, UNIT_SIZE);
     Cursors {
-        annotations: 28,
+        annotations: HEADER_SIZE,
         losses: losses,
         isotopes: isotopes,
         items: items,
@@ -101,7 +114,7 @@ pub fn put_header(out: &mut [u8], n: Counts) -> Cursors
 {
     let c = starts(n);
     let end = place_behind(c.text, n.text, 1);
-    let mut at = put_pair(out, 0, 1, end);
+    let mut at = put_pair(out, 0, EDITION, end);
     at = put_pair(out, at, n.annotations, c.annotations);
     at = put_pair(out, at, n.losses, c.losses);
     at = put_pair(out, at, n.isotopes, c.isotopes);

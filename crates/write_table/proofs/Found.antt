@@ -11,11 +11,12 @@ use borrow.Author.Tests.{lt-ltb, le-ltb}
 use Rattle.put_bytes.specs.Puts.{maxPlace, Put}
 use Rattle.put_bytes.proofs.Putting.{over-zeros}
 use Rattle.rules.specs.Answers as rules
+use Rattle.rules.specs.Largest.{maxAnyTable}
 use Rattle.scan_line.specs.Steps.{scannedBy}
 use Rattle.print_table.specs.Tables.{printedTable}
 use Rattle.answers.specs.declared.Answer.{Answer}
 use Rattle.answers.specs.Delivered.{answered, refusedOf}
-use Rattle.read_line.specs.Back.{readsTo, few, largest, zeros}
+use Rattle.read_line.specs.Back.{readsTo, few, zeros}
 use Rattle.answers.specs.Delivered.{lineOver}
 use Rattle.write_table.specs.Writings.{foundOf, foundIn, longestPrinted, writtenOf}
 
@@ -61,13 +62,13 @@ module _ {most n : ℕ} {w e : List ℕ} (p : Put (replicate most 0) 0 w e n) (h
 -- ---- by small buffers or by large ones
 
 module _ (machine table : List ℕ) (room : ℕ) {a : rules.Answer} where
-  pub written-many : few < length (printedTable table) → a ≡ foundIn machine longestPrinted (zeros largest) (printedTable table) table room
+  pub written-many : few < length (printedTable table) → a ≡ foundIn machine longestPrinted (zeros maxAnyTable) (printedTable table) table room
       → a ≡ writtenOf machine table room
   unfolding writtenOf
   written-many h q = q ∙ rw (lt-ltb few (length (printedTable table)) h)
 
   pub written-large : length (printedTable table) ≤ few → few < length table
-      → a ≡ foundIn machine longestPrinted (zeros largest) (printedTable table) table room → a ≡ writtenOf machine table room
+      → a ≡ foundIn machine longestPrinted (zeros maxAnyTable) (printedTable table) table room → a ≡ writtenOf machine table room
   unfolding writtenOf
   written-large h g q = q ∙ rw (le-ltb few (length (printedTable table)) h, lt-ltb few (length table) g)
 

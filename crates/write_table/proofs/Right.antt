@@ -13,6 +13,7 @@ use Rattle.rules.specs.Limits.{maxLine}
 use Rattle.rules.specs.Preferred.{preferred}
 use Rattle.rules.specs.Stored.{stored}
 use Rattle.rules.specs.Answers.{refuses, gives, no-room, done, Holds, Writes, no-table, long, fits}
+use Rattle.rules.specs.Largest.{maxAnyTable}
 use Rattle.rules.proofs.Sizes.{sizes-fit}
 use Rattle.put_bytes.specs.Puts.{maxPlace}
 use Rattle.scan_line.specs.Steps.{scannedBy}
@@ -21,7 +22,7 @@ use Rattle.print_table.specs.Tables.{printedTable}
 use Rattle.print_table.proofs.PrintedTable.{table-printed}
 use Rattle.print_table.proofs.Short.{line-short}
 use Rattle.read_line.specs.Same.{allBytes}
-use Rattle.read_line.specs.Back.{readsTo, few, largest, zeros}
+use Rattle.read_line.specs.Back.{readsTo, few, zeros}
 use Rattle.answers.specs.Delivered.{lineOver}
 use Rattle.write_table.specs.Writings.{foundOf, foundIn, longestPrinted, writtenOf}
 use Rattle.write_table.proofs.Holds.{reads-holds, holds-reads}
@@ -76,11 +77,11 @@ module _ (machine table : List ℕ) (room : ℕ) (judged : (l : List ℕ) → al
   unfolding writtenOf
   write-right = by (ltb few (length w)) refl (ltb few (length table)) refl
     where
-      all : Writes table room (foundIn machine longestPrinted (zeros largest) w table room)
-      all = found-right longestPrinted largest (omega arith) (omega arith) (λ t h. line-short t (h .sound)) (λ t h. sizes-fit t (h .sound))
+      all : Writes table room (foundIn machine longestPrinted (zeros maxAnyTable) w table room)
+      all = found-right longestPrinted maxAnyTable (omega arith) (omega arith) (λ t h. line-short t (h .sound)) (λ t h. sizes-fit t (h .sound))
 
       by : (a : Bool) → ltb few (length w) ≡ a → (b : Bool) → ltb few (length table) ≡ b
-          → Writes table room (cond (a || b) (foundIn machine longestPrinted (zeros largest) w table room) (foundIn machine few (zeros few) w table room))
+          → Writes table room (cond (a || b) (foundIn machine longestPrinted (zeros maxAnyTable) w table room) (foundIn machine few (zeros few) w table room))
       by true e b f = all
       by false e true f = all
       by false e false f =

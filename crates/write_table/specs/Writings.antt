@@ -6,10 +6,11 @@ use mathlib.Core.List.{List}
 use lib.Dec.{ltb}
 use lib.ListN.{length}
 use Rattle.rules.specs.Answers.{Answer, refuses}
+use Rattle.rules.specs.Largest.{maxAnyTable}
 use Rattle.answers.specs.Delivered.{lineOver}
 use Rattle.scan_line.specs.Steps.{scannedBy}
 use Rattle.print_table.specs.Tables.{printedTable}
-use Rattle.read_line.specs.Back.{readsTo, few, largest, zeros}
+use Rattle.read_line.specs.Back.{readsTo, few, zeros}
 
 -- a line, where it is known whether it reads to the bytes that it was printed for
 unfoldable pub foundOf : Bool → List ℕ → ℕ → Answer
@@ -28,5 +29,5 @@ unfoldable pub writtenOf : List ℕ → List ℕ → ℕ → Answer
 writtenOf machine table room =
     let w = printedTable table in
     cond (ltb few (length w) || ltb few (length table))
-    (foundIn machine longestPrinted (zeros largest) w table room)
+    (foundIn machine longestPrinted (zeros maxAnyTable) w table room)
     (foundIn machine few (zeros few) w table room)

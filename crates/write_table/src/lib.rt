@@ -5,7 +5,8 @@ ghost use lib.ListN.{length};
 ghost use Rattle.scan_line.specs.Steps.{scannedBy};
 ghost use Rattle.print_table.specs.Tables.{printedTable};
 ghost use Rattle.answers.specs.Delivered.{answered};
-ghost use Rattle.read_line.specs.Back.{readsTo, largest, zeros};
+ghost use Rattle.rules.specs.Largest.{maxAnyTable};
+ghost use Rattle.read_line.specs.Back.{readsTo, zeros};
 ghost use Rattle.write_table.specs.Writings.{foundOf, foundIn, longestPrinted, writtenOf};
 use answers::Answer;
 use answers::refuse;
@@ -33,7 +34,7 @@ fn finish(line: &[u8], held: bool, out: &mut [u8]) -> Answer
 
 // By buffers that hold the line and the bytes of every table.
 fn write_many(machine: &[u8], table: &[u8], out: &mut [u8]) -> Answer
-    ensures { λ r. ⌜ answered r (now (out .exit)) ≡ foundIn (now (machine .entry)) longestPrinted (zeros largest) (printedTable (now (table .entry))) (now (table .entry)) (length (now (out .entry))) ⌝ }
+    ensures { λ r. ⌜ answered r (now (out .exit)) ≡ foundIn (now (machine .entry)) longestPrinted (zeros maxAnyTable) (printedTable (now (table .entry))) (now (table .entry)) (length (now (out .entry))) ⌝ }
 {
     let mut buffer = [0u8; LINE];
     let n = print_table(&mut buffer, 0, table);

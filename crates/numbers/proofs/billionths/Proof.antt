@@ -1,3 +1,4 @@
+use Rattle.rules.specs.Limits.{maxPlaces}
 use Rattle.numbers.proofs.Shares.{Scaled, begin, turn, ends}
 use Prim.Native.Nat.{_-_}
 use borrow.Author.Needs.{needs}
@@ -8,7 +9,7 @@ abbrev Inv-loop : tie.InvT-loop
 Inv-loop v₀ places₀ v places = Scaled (record { value = v₀; places = places₀ }) v places
 
 abbrev μ-loop : tie.MeasureT-loop
-μ-loop v₀ places₀ v places = 9 - places
+μ-loop v₀ places₀ v places = maxPlaces - places
 
 loop-holds : tie.Need-loop-holds Inv-loop μ-loop
 loop-holds c = begin (search needs)

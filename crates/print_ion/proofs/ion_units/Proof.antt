@@ -1,3 +1,4 @@
+use Rattle.rules.specs.Limits.{maxUnits}
 use Rattle.print_ion.specs.Texts.{ionUnits}
 use Prim.Native.Nat.{min}
 use Rattle.slices.specs.Numbers.{u16At}
@@ -18,7 +19,7 @@ at-most-requires c κs = search needs
 
 returns : tie.Need-returns
 unfolding ionUnits
-returns c = (c .at-most .ensures) ∙ ap (λ (n : ℕ). min n 12) ((c .before .u16-at .ensures) ∙ ap u16At (c .before .before .rest .ensures))
+returns c = (c .at-most .ensures) ∙ ap (λ (n : ℕ). min n maxUnits) ((c .before .u16-at .ensures) ∙ ap u16At (c .before .before .rest .ensures))
 
 pub ion-units-spec : {M : Type 1} → statement M
 ion-units-spec = tie.close (tie.spec rest-requires u16-at-requires at-most-requires returns)

@@ -1,3 +1,4 @@
+use Rattle.rules.specs.Limits.{maxAnnotations}
 use Rattle.print_table.specs.Tables.{annotationsPrinted, printedTable}
 use Rattle.print_table.specs.Parts.{storedPartsAt}
 use Rattle.store_sections.specs.declared.Cursors.{Cursors}
@@ -68,7 +69,7 @@ returns c =
     let at-u16-at = at-at-most .before in
     let at-rest = at-u16-at .before in
     let at-args = at-rest .before .before .before in
-    put-as (line-ends _ _ _ (c .before .loop .inv) (c .loop-test .left)) (ap₂ (λ (n : ℕ) (k : Cursors). annotationsPrinted 0 n (storedPartsAt (at-args .args .table .now) k)) ((at-at-most .at-most .ensures) ∙ ap (λ (n : ℕ). min n 16) ((at-u16-at .u16-at .ensures) ∙ ap u16At (at-rest .rest .ensures))) ((c .before .before .starts .ensures) ∙ ap startsOf (c .before .before .before .counts-at .ensures)))
+    put-as (line-ends _ _ _ (c .before .loop .inv) (c .loop-test .left)) (ap₂ (λ (n : ℕ) (k : Cursors). annotationsPrinted 0 n (storedPartsAt (at-args .args .table .now) k)) ((at-at-most .at-most .ensures) ∙ ap (λ (n : ℕ). min n maxAnnotations) ((at-u16-at .u16-at .ensures) ∙ ap u16At (at-rest .rest .ensures))) ((c .before .before .starts .ensures) ∙ ap startsOf (c .before .before .before .counts-at .ensures)))
 
 pub print-table-spec : {M : Type 1} → statement M
 print-table-spec =

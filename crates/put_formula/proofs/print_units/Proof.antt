@@ -1,3 +1,4 @@
+use Rattle.rules.specs.Layout.{unitWidth}
 use Rattle.put_formula.proofs.UnitLoop.{chain-begins, chain-turn, chain-ends}
 use Rattle.put_formula.specs.Preferred.{preferredUnit}
 use Rattle.put_formula.specs.Records.{storedUnit}
@@ -12,13 +13,13 @@ use Rattle.put_formula.proofs.print_units.Statement.{statement}
 use Rattle.put_formula.proofs.print_units.Tie as tie
 
 abbrev Inv-loop : tie.InvT-loop
-Inv-loop out₀ at t n to₀ from₀ i₀ out to from i = PutSoFar out₀ at (chain (λ r. preferredUnit (storedUnit r)) (λ r. 6) n t) out to (chain (λ r. preferredUnit (storedUnit r)) (λ r. 6) (n - i) (drop from t))
+Inv-loop out₀ at t n to₀ from₀ i₀ out to from i = PutSoFar out₀ at (chain (λ r. preferredUnit (storedUnit r)) (λ r. unitWidth) n t) out to (chain (λ r. preferredUnit (storedUnit r)) (λ r. unitWidth) (n - i) (drop from t))
 
 abbrev μ-loop : tie.MeasureT-loop
 μ-loop out₀ at t n to₀ from₀ i₀ out to from i = n - i
 
 loop-holds : tie.Need-loop-holds Inv-loop μ-loop
-loop-holds c = chain-begins (λ r. preferredUnit (storedUnit r)) (λ r. 6) _ _ (omega arith) (omega arith)
+loop-holds c = chain-begins (λ r. preferredUnit (storedUnit r)) (λ r. unitWidth) _ _ (omega arith) (omega arith)
 
 rest-requires : tie.Need-rest-requires Inv-loop μ-loop
 rest-requires c κs = search needs
@@ -44,13 +45,13 @@ loop-again c =
     let at-rest = at-stored-unit .before in
     let at-loop-test = at-rest .before in
     let at-loop = at-loop-test .before in
-    chain-turn (λ r. preferredUnit (storedUnit r)) (λ r. 6) _ _ (at-loop .loop .from) (at-loop .loop .inv) (at-loop-test .loop-test .taken) (c .before .before .before .put-unit .ensures) (ap preferredUnit (at-stored-unit .stored-unit .ensures ∙ ap storedUnit (at-rest .rest .ensures))) (c .advance .ensures)
+    chain-turn (λ r. preferredUnit (storedUnit r)) (λ r. unitWidth) _ _ (at-loop .loop .from) (at-loop .loop .inv) (at-loop-test .loop-test .taken) (c .before .before .before .put-unit .ensures) (ap preferredUnit (at-stored-unit .stored-unit .ensures ∙ ap storedUnit (at-rest .rest .ensures))) (c .advance .ensures)
 
 same-length : tie.Need-same-length Inv-loop μ-loop
 same-length c = c .before .loop .inv .same
 
 returns : tie.Need-returns Inv-loop μ-loop
-returns c = chain-ends (λ r. preferredUnit (storedUnit r)) (λ r. 6) _ _ (c .before .loop .from) (c .before .loop .inv) (c .loop-test .left)
+returns c = chain-ends (λ r. preferredUnit (storedUnit r)) (λ r. unitWidth) _ _ (c .before .loop .from) (c .before .loop .inv) (c .loop-test .left)
 
 pub print-units-spec : {M : Type 1} → statement M
 print-units-spec =

@@ -1,3 +1,4 @@
+use Rattle.rules.specs.Layout.{unitWidth, atomCountAt}
 use Rattle.put_formula.specs.Records.{storedUnit}
 use Rattle.slices.specs.Numbers.{u16At}
 use mathlib.Core.Path.{ap, _∙_}
@@ -30,7 +31,7 @@ returns : tie.Need-returns
 unfolding storedUnit
 returns c =
     let at-u16-at = c .before .before .before .before in
-    λ i. record { nucleons = (at-u16-at .u16-at .ensures) i; element = (c .before .before .u16-at2 .ensures ∙ ap u16At (c .before .before .before .rest .ensures)) i; count = (c .u16-at3 .ensures ∙ ap u16At (c .before .rest2 .ensures)) i; «count_at» = 4; len = 6 }
+    λ i. record { nucleons = (at-u16-at .u16-at .ensures) i; element = (c .before .before .u16-at2 .ensures ∙ ap u16At (c .before .before .before .rest .ensures)) i; count = (c .u16-at3 .ensures ∙ ap u16At (c .before .rest2 .ensures)) i; «count_at» = atomCountAt; len = unitWidth }
 
 pub stored-unit-spec : {M : Type 1} → statement M
 stored-unit-spec =

@@ -1,3 +1,4 @@
+use Rattle.rules.specs.Layout.{unitSection, textSection}
 use Rattle.sort_changes.proofs.Steps.{ran-at, slot-units, slot-name, slot-bare}
 use Rattle.store_sections.proofs.Events.{ran-then, ran-as}
 use borrow.Author.Needs.{needs}
@@ -36,7 +37,7 @@ returns c =
     let at-with-cursor = at-if1 .before .before in
     let at-put-slot-record = at-with-cursor .before .before .before in
     let at-cursor = at-put-slot-record .before in
-    ran-as (ran-then (ran-at _ (at-cursor .cursor .ensures) (at-put-slot-record .put-slot-record .ensures) (at-with-cursor .with-cursor .ensures)) (ran-at 4 (at-cursor2 .cursor2 .ensures) (c .before .before .before .put-records .ensures) (c .with-cursor2 .ensures))) (slot-units _ _ _ (at-if1 .if1 .taken) (at-rest .rest .ensures))
+    ran-as (ran-then (ran-at _ (at-cursor .cursor .ensures) (at-put-slot-record .put-slot-record .ensures) (at-with-cursor .with-cursor .ensures)) (ran-at unitSection (at-cursor2 .cursor2 .ensures) (c .before .before .before .put-records .ensures) (c .with-cursor2 .ensures))) (slot-units _ _ _ (at-if1 .if1 .taken) (at-rest .rest .ensures))
 
 cursor-requires-3 : tie.Need-cursor-requires-3
 cursor-requires-3 c κs = search needs
@@ -66,7 +67,7 @@ returns-2 c =
     let at-with-cursor = at-if1 .before .before in
     let at-put-slot-record = at-with-cursor .before .before .before in
     let at-cursor = at-put-slot-record .before in
-    ran-as (ran-then (ran-at _ (at-cursor .cursor .ensures) (at-put-slot-record .put-slot-record .ensures) (at-with-cursor .with-cursor .ensures)) (ran-at 5 (at-cursor3 .cursor3 .ensures) (c .before .before .before .put-run .ensures) (c .with-cursor3 .ensures))) (slot-name _ _ _ (at-if1 .if1 .left) (at-if2 .if2 .taken) (at-rest2 .rest2 .ensures) (at-part .part .ensures))
+    ran-as (ran-then (ran-at _ (at-cursor .cursor .ensures) (at-put-slot-record .put-slot-record .ensures) (at-with-cursor .with-cursor .ensures)) (ran-at textSection (at-cursor3 .cursor3 .ensures) (c .before .before .before .put-run .ensures) (c .with-cursor3 .ensures))) (slot-name _ _ _ (at-if1 .if1 .left) (at-if2 .if2 .taken) (at-rest2 .rest2 .ensures) (at-part .part .ensures))
 
 same-length-3 : tie.Need-same-length-3
 same-length-3 c = search needs

@@ -3,7 +3,7 @@ use native.Mathlib.Omega.{arith}
 use lib.ListN.{length-map}
 use mathlib.Core.Path.{sym, _∙_}
 use Prim.Native.Nat.{_-_}
-use Rattle.sort_changes.proofs.Steps.{Storing, slots-begin, slots-turn, slots-all, slots-eight}
+use Rattle.sort_changes.proofs.Steps.{Storing, slots-begin, slots-turn, slots-all, slots-full}
 use Rattle.sort_changes.proofs.put_slots.Statement.{statement}
 use Rattle.sort_changes.proofs.put_slots.Tie as tie
 
@@ -20,7 +20,7 @@ same-length : tie.Need-same-length Inv-loop μ-loop
 same-length c = c .before .before .before .loop .inv .going .same
 
 returns : tie.Need-returns Inv-loop μ-loop
-returns c = slots-eight (c .before .before .before .loop .inv) (c .if2 .taken)
+returns c = slots-full (c .before .before .before .loop .inv) (c .if2 .taken)
 
 mul-x : tie.Need-mul-x Inv-loop μ-loop
 mul-x c = search needs

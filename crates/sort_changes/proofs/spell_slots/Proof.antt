@@ -4,7 +4,7 @@ use native.Mathlib.Omega.{arith}
 use lib.ListN.{length-map}
 use mathlib.Core.Path.{sym, _∙_}
 use Prim.Native.Nat.{_-_}
-use Rattle.sort_changes.proofs.Spells.{Spelling, spelling-begin, spelling-turn, spelling-all, spelling-eight}
+use Rattle.sort_changes.proofs.Spells.{Spelling, spelling-begin, spelling-turn, spelling-all, spelling-full}
 use Rattle.sort_changes.proofs.spell_slots.Statement.{statement}
 use Rattle.sort_changes.proofs.spell_slots.Tie as tie
 
@@ -23,7 +23,7 @@ same-length : tie.Need-same-length Inv-loop μ-loop
 same-length c = c .before .before .before .loop .inv .going .same
 
 returns : tie.Need-returns Inv-loop μ-loop
-returns c = spelling-eight (c .before .before .before .loop .inv) (c .if2 .taken)
+returns c = spelling-full (c .before .before .before .loop .inv) (c .if2 .taken)
 
 mul-x : tie.Need-mul-x Inv-loop μ-loop
 mul-x c = search needs

@@ -1,4 +1,5 @@
 -- `store_annotation::put_ion` meets its contract: units, then text. Assumes nothing.
+use Rattle.rules.specs.Layout.{unitSection, textSection}
 use Rattle.store_annotation.proofs.Steps.{ion-events}
 use Rattle.sort_changes.proofs.Steps.{ran-at}
 use Rattle.store_sections.proofs.Events.{ran-then, ran-as}
@@ -41,7 +42,7 @@ returns c =
     let at-put-records = at-with-cursor .before .before .before in
     let at-cursor = at-put-records .before in
     let at-rest = at-cursor .before .before in
-    ran-as (ran-then (ran-at 4 (at-cursor .cursor .ensures) (at-put-records .put-records .ensures) (at-with-cursor .with-cursor .ensures)) (ran-at 5 (at-cursor2 .cursor2 .ensures) (c .before .before .before .put-run .ensures) (c .with-cursor2 .ensures))) (ion-events _ _ (at-rest .rest .ensures) (at-part .part .ensures))
+    ran-as (ran-then (ran-at unitSection (at-cursor .cursor .ensures) (at-put-records .put-records .ensures) (at-with-cursor .with-cursor .ensures)) (ran-at textSection (at-cursor2 .cursor2 .ensures) (c .before .before .before .put-run .ensures) (c .with-cursor2 .ensures))) (ion-events _ _ (at-rest .rest .ensures) (at-part .part .ensures))
 
 pub put-ion-spec : {M : Type 1} → statement M
 put-ion-spec =

@@ -1,7 +1,8 @@
 -- `write_table::write_many` meets its contract: the line is what stands in the buffer. Assumes nothing.
+use Rattle.rules.specs.Largest.{maxAnyTable}
 use Rattle.write_table.proofs.Found.{found-long, found-within, printed-past, printed-within, printed-first}
 use Rattle.write_table.specs.Writings.{longestPrinted}
-use Rattle.read_line.specs.Back.{largest, zeros}
+use Rattle.read_line.specs.Back.{zeros}
 use Rattle.print_table.specs.Tables.{printedTable}
 use native.Mathlib.Omega.{arith}
 use mathlib.Core.Path.{_∙_}
@@ -26,7 +27,7 @@ same-length : tie.Need-same-length
 same-length c = search needs
 
 returns : tie.Need-returns
-returns c = let a = c .before .before .before .before .before .before .before .before .before .before .before .before .args in found-long (a .machine .now) longestPrinted (zeros largest) (printedTable (a .table .now)) (a .table .now) (length (a .out .now)) (printed-past {most = longestPrinted} (c .before .before .before .before .before .before .before .print-table .ensures) (omega arith) (c .before .before .before .before .before .if1 .taken)) (c .before .before .before .clear .ensures) (c .refuse .ensures)
+returns c = let a = c .before .before .before .before .before .before .before .before .before .before .before .before .args in found-long (a .machine .now) longestPrinted (zeros maxAnyTable) (printedTable (a .table .now)) (a .table .now) (length (a .out .now)) (printed-past {most = longestPrinted} (c .before .before .before .before .before .before .before .print-table .ensures) (omega arith) (c .before .before .before .before .before .if1 .taken)) (c .before .before .before .clear .ensures) (c .refuse .ensures)
 
 slice-aggregate-first-of : tie.Need-slice-aggregate-first-of
 slice-aggregate-first-of c = search needs
@@ -44,7 +45,7 @@ same-length-2 : tie.Need-same-length-2
 same-length-2 c = search needs
 
 returns-2 : tie.Need-returns-2
-returns-2 c = let a = c .before .before .before .before .before .before .before .before .before .before .before .before .before .before .args in let p = c .before .before .before .before .before .before .before .before .before .print-table .ensures in let h = c .before .before .before .before .before .before .before .if1 .left in found-within (a .machine .now) longestPrinted (zeros largest) (printedTable (a .table .now)) (a .table .now) (length (a .out .now)) (c .before .before .before .before .before .first-of .ensures ∙ printed-first {most = longestPrinted} p (omega arith) h) (printed-within {most = longestPrinted} p (omega arith) h) (c .before .before .before .before .reads-to .ensures) (c .before .before .finish .ensures)
+returns-2 c = let a = c .before .before .before .before .before .before .before .before .before .before .before .before .before .before .args in let p = c .before .before .before .before .before .before .before .before .before .print-table .ensures in let h = c .before .before .before .before .before .before .before .if1 .left in found-within (a .machine .now) longestPrinted (zeros maxAnyTable) (printedTable (a .table .now)) (a .table .now) (length (a .out .now)) (c .before .before .before .before .before .first-of .ensures ∙ printed-first {most = longestPrinted} p (omega arith) h) (printed-within {most = longestPrinted} p (omega arith) h) (c .before .before .before .before .reads-to .ensures) (c .before .before .finish .ensures)
 
 pub write-many-spec : {M : Type 1} → statement M
 write-many-spec =

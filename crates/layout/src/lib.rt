@@ -1,0 +1,230 @@
+// The stored table in numbers: how many bytes its records have, where their fields stand, and the order of its sections. Every other
+// crate takes them from here. That they are the definitions' numbers, which are reckoned from the fields of the records, is the
+// contract of the functions at the end.
+ghost use mathlib.Core.Path.{_≡_};
+ghost use mathlib.Core.List.{[], _∷_};
+ghost use Rattle.rules.specs.Stored.{edition, headerSize};
+ghost use Rattle.rules.specs.Layout.{annotationWidth, lossWidth, isotopeWidth, itemWidth, unitWidth};
+ghost use Rattle.rules.specs.Layout.{kindAt, markedAt, analytePresentAt, letterAt, analyteAt, positionAt, lastAt, chargeAt, deviationKindAt, deviationPlacesAt};
+ghost use Rattle.rules.specs.Layout.{confidencePresentAt, confidencePlacesAt, deviationAt, confidenceAt, textLengthAt, unitCountAt, lossCountAt, isotopeCountAt, itemCountAt};
+ghost use Rattle.rules.specs.Layout.{signAt, contentKindAt, countAt, contentSizeAt, isotopeSignAt, isotopeKindAt, isotopeShiftAt, isotopeNucleonsAt, isotopeElementAt};
+ghost use Rattle.rules.specs.Layout.{unitNucleonsAt, unitElementAt, atomCountAt};
+ghost use Rattle.rules.specs.Layout.{editionAt, lengthAt, annotationPairAt, lossPairAt, isotopePairAt, itemPairAt, unitPairAt, textPairAt};
+ghost use Rattle.rules.specs.Layout.{annotationSection, lossSection, isotopeSection, itemSection, unitSection, textSection};
+
+// The edition that a header begins with.
+pub const EDITION: usize = 1;
+
+// ---- how many bytes the header and each record have
+
+pub const HEADER_SIZE: usize = 28;
+
+pub const ANNOTATION_SIZE: usize = 36;
+
+pub const LOSS_SIZE: usize = 6;
+
+pub const ISOTOPE_SIZE: usize = 8;
+
+pub const ITEM_SIZE: usize = 6;
+
+pub const UNIT_SIZE: usize = 6;
+
+// ---- where the fields of an annotation stand
+
+pub const KIND_AT: usize = 0;
+
+pub const MARKED_AT: usize = 1;
+
+pub const ANALYTE_PRESENT_AT: usize = 2;
+
+pub const LETTER_AT: usize = 3;
+
+pub const ANALYTE_AT: usize = 4;
+
+pub const POSITION_AT: usize = 6;
+
+pub const LAST_AT: usize = 8;
+
+pub const CHARGE_AT: usize = 10;
+
+pub const DEVIATION_KIND_AT: usize = 11;
+
+pub const DEVIATION_PLACES_AT: usize = 12;
+
+pub const CONFIDENCE_PRESENT_AT: usize = 13;
+
+pub const CONFIDENCE_PLACES_AT: usize = 14;
+
+pub const DEVIATION_AT: usize = 16;
+
+pub const CONFIDENCE_AT: usize = 24;
+
+pub const TEXT_LENGTH_AT: usize = 28;
+
+pub const UNIT_COUNT_AT: usize = 30;
+
+pub const LOSS_COUNT_AT: usize = 32;
+
+pub const ISOTOPE_COUNT_AT: usize = 33;
+
+pub const ITEM_COUNT_AT: usize = 34;
+
+// ---- of a loss and of an adduct item
+
+pub const SIGN_AT: usize = 0;
+
+pub const CONTENT_KIND_AT: usize = 1;
+
+pub const COUNT_AT: usize = 2;
+
+pub const CONTENT_SIZE_AT: usize = 4;
+
+// ---- of an isotope
+
+pub const ISOTOPE_SIGN_AT: usize = 0;
+
+pub const ISOTOPE_KIND_AT: usize = 1;
+
+pub const ISOTOPE_SHIFT_AT: usize = 2;
+
+pub const ISOTOPE_NUCLEONS_AT: usize = 4;
+
+pub const ISOTOPE_ELEMENT_AT: usize = 6;
+
+// ---- of a unit
+
+pub const UNIT_NUCLEONS_AT: usize = 0;
+
+pub const UNIT_ELEMENT_AT: usize = 2;
+
+pub const ATOM_COUNT_AT: usize = 4;
+
+// ---- of the header: edition and length, then the (count, offset) pair of each section
+
+pub const EDITION_AT: usize = 0;
+
+pub const LENGTH_AT: usize = 2;
+
+pub const ANNOTATION_PAIR_AT: usize = 4;
+
+pub const LOSS_PAIR_AT: usize = 8;
+
+pub const ISOTOPE_PAIR_AT: usize = 12;
+
+pub const ITEM_PAIR_AT: usize = 16;
+
+pub const UNIT_PAIR_AT: usize = 20;
+
+pub const TEXT_PAIR_AT: usize = 24;
+
+// ---- the sections, in the order in which they follow the header
+
+pub const ANNOTATION_SECTION: usize = 0;
+
+pub const LOSS_SECTION: usize = 1;
+
+pub const ISOTOPE_SECTION: usize = 2;
+
+pub const ITEM_SECTION: usize = 3;
+
+pub const UNIT_SECTION: usize = 4;
+
+pub const TEXT_SECTION: usize = 5;
+
+// ---- that these are the definitions' numbers
+
+fn edition_and_sizes() -> [usize; 7]
+    ensures { λ r. ⌜ r ≡ edition ∷ headerSize ∷ annotationWidth ∷ lossWidth ∷ isotopeWidth ∷ itemWidth ∷ unitWidth ∷ [] ⌝ }
+{
+    [
+        EDITION,
+        HEADER_SIZE,
+        ANNOTATION_SIZE,
+        LOSS_SIZE,
+        ISOTOPE_SIZE,
+        ITEM_SIZE,
+        UNIT_SIZE,
+    ]
+}
+
+fn places_before_the_charge() -> [usize; 7]
+    ensures { λ r. ⌜ r ≡ kindAt ∷ markedAt ∷ analytePresentAt ∷ letterAt ∷ analyteAt ∷ positionAt ∷ lastAt ∷ [] ⌝ }
+{
+    [
+        KIND_AT,
+        MARKED_AT,
+        ANALYTE_PRESENT_AT,
+        LETTER_AT,
+        ANALYTE_AT,
+        POSITION_AT,
+        LAST_AT,
+    ]
+}
+
+fn places_from_the_charge() -> [usize; 12]
+    ensures { λ r. ⌜ r ≡ chargeAt ∷ deviationKindAt ∷ deviationPlacesAt ∷ confidencePresentAt ∷ confidencePlacesAt ∷ deviationAt ∷ confidenceAt
+        ∷ textLengthAt ∷ unitCountAt ∷ lossCountAt ∷ isotopeCountAt ∷ itemCountAt ∷ [] ⌝ }
+{
+    [
+        CHARGE_AT,
+        DEVIATION_KIND_AT,
+        DEVIATION_PLACES_AT,
+        CONFIDENCE_PRESENT_AT,
+        CONFIDENCE_PLACES_AT,
+        DEVIATION_AT,
+        CONFIDENCE_AT,
+        TEXT_LENGTH_AT,
+        UNIT_COUNT_AT,
+        LOSS_COUNT_AT,
+        ISOTOPE_COUNT_AT,
+        ITEM_COUNT_AT,
+    ]
+}
+
+fn places_in_parts() -> [usize; 12]
+    ensures { λ r. ⌜ r ≡ signAt ∷ contentKindAt ∷ countAt ∷ contentSizeAt ∷ isotopeSignAt ∷ isotopeKindAt ∷ isotopeShiftAt ∷ isotopeNucleonsAt
+        ∷ isotopeElementAt ∷ unitNucleonsAt ∷ unitElementAt ∷ atomCountAt ∷ [] ⌝ }
+{
+    [
+        SIGN_AT,
+        CONTENT_KIND_AT,
+        COUNT_AT,
+        CONTENT_SIZE_AT,
+        ISOTOPE_SIGN_AT,
+        ISOTOPE_KIND_AT,
+        ISOTOPE_SHIFT_AT,
+        ISOTOPE_NUCLEONS_AT,
+        ISOTOPE_ELEMENT_AT,
+        UNIT_NUCLEONS_AT,
+        UNIT_ELEMENT_AT,
+        ATOM_COUNT_AT,
+    ]
+}
+
+fn places_in_the_header() -> [usize; 8]
+    ensures { λ r. ⌜ r ≡ editionAt ∷ lengthAt ∷ annotationPairAt ∷ lossPairAt ∷ isotopePairAt ∷ itemPairAt ∷ unitPairAt ∷ textPairAt ∷ [] ⌝ }
+{
+    [
+        EDITION_AT,
+        LENGTH_AT,
+        ANNOTATION_PAIR_AT,
+        LOSS_PAIR_AT,
+        ISOTOPE_PAIR_AT,
+        ITEM_PAIR_AT,
+        UNIT_PAIR_AT,
+        TEXT_PAIR_AT,
+    ]
+}
+
+fn sections() -> [usize; 6]
+    ensures { λ r. ⌜ r ≡ annotationSection ∷ lossSection ∷ isotopeSection ∷ itemSection ∷ unitSection ∷ textSection ∷ [] ⌝ }
+{
+    [
+        ANNOTATION_SECTION,
+        LOSS_SECTION,
+        ISOTOPE_SECTION,
+        ITEM_SECTION,
+        UNIT_SECTION,
+        TEXT_SECTION,
+    ]
+}
