@@ -4,6 +4,7 @@ use mathlib.Core.Path.{_≡_, subst}
 use mathlib.Core.Bool.{Bool}
 use mathlib.Core.List.{List}
 use lib.ListN.{length}
+use Rattle.rules.specs.Largest.{maxTable}
 use Rattle.put_bytes.specs.Puts.{Put}
 use Rattle.answers.specs.declared.Answer.{Answer}
 use Rattle.io_lines.specs.declared.Stream.{Stream}
@@ -13,7 +14,7 @@ use Rattle.io_answers.specs.Tells.{longestAnswer, told}
 use Rattle.run_reads.specs.Reads.{ReadInto}
 use Rattle.run_reads.specs.Answered.{Answered}
 
-pub answered-by : {m line asked t u d e : List ℕ} {sized : Bool} {s v r : Stream} {a : Answer} {end : ℕ} → Roomed (length d) (longestAnswer 21340) s v → line ≡ asked
+pub answered-by : {m line asked t u d e : List ℕ} {sized : Bool} {s v r : Stream} {a : Answer} {end : ℕ} → Roomed (length d) (longestAnswer maxTable) s v → line ≡ asked
     → ReadInto m line sized t u a → Put d (v .waiting) (told a u) e end → r ≡ waitingOf v end → Answered m asked sized s t u d e r
 answered-by {m} {t = t} {u} {sized = sized} {a = a} roomed found reads puts waits =
     record {

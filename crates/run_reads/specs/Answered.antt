@@ -12,4 +12,4 @@ use Rattle.run_reads.specs.Reads.{ReadInto}
 pub record Answered (machine asked : List ℕ) (sized : Bool) (s : Stream) (t u d e : List ℕ) (r : Stream) : Type 0 where
   pub answer : Answer
   pub reads : ReadInto machine asked sized t u answer
-  pub waits : Waits (longestAnswer 21340) (told answer u) s d e r
+  pub waits : Waits (longestAnswer maxTable) (told answer u) s d e r
