@@ -1,11 +1,10 @@
 -- How many of each kind an annotation of a table has. Assumes nothing.
 use lib.ListN.{length}
-use Rattle.rules.specs.Numbers.{Number}
-use Rattle.rules.specs.Annotations.{Annotation}
+use Rattle.rules.specs.Annotations.{TableAnnotation}
 use Rattle.rules.specs.Stored.{isotopeRecords, annotationUnits, annotationTexts}
 use Rattle.counts.specs.declared.Counts.{Counts}
 
-abbrev pub annotationCounts : Annotation Number → Counts
+abbrev pub annotationCounts : TableAnnotation → Counts
 annotationCounts a =
     record {
       annotations = 1;

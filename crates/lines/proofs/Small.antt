@@ -11,12 +11,11 @@ use Rattle.lang.specs.Mark.{In, here, later}
 use Rattle.lang.specs.Order.{Each, none, next}
 use Rattle.rules.specs.Bytes.{bytes}
 use Rattle.rules.specs.Numbers.{Number}
-use Rattle.rules.specs.Formulas.{Written}
 use Rattle.rules.specs.Ions.{Ion, ionText}
 use Rattle.rules.specs.Losses.{Loss, lossText}
 use Rattle.rules.specs.Isotopes.{isotopesText}
 use Rattle.rules.specs.Adducts.{adductText}
-use Rattle.rules.specs.Annotations.{Annotation, flagText, analyteText, chargeText, deviationText, confidenceText, annotationText}
+use Rattle.rules.specs.Annotations.{TableAnnotation, SpelledAnnotation, flagText, analyteText, chargeText, deviationText, confidenceText, annotationText}
 use Rattle.rules.specs.Lines.{Spelling, lineText, nextText}
 use Rattle.rules.specs.Fields.{Table, Says}
 use Rattle.rules.specs.Limits.{maxLine, maxUnits}
@@ -30,7 +29,7 @@ use Rattle.read_annotation.proofs.Sizes.{ion-long, losses-long}
 
 -- ---- an annotation, besides its texts
 
-pub weight-plain : (a : Annotation Number) → Bounded a → weight a ≤ maxPlainBytes + length (annotationTexts a)
+pub weight-plain : (a : TableAnnotation) → Bounded a → weight a ≤ maxPlainBytes + length (annotationTexts a)
 weight-plain a h =
     let u = ionFields (a .ion) .units in
     let lu = flat (λ l. lostUnits (l .what)) (a .losses) in
@@ -51,7 +50,7 @@ weight-plain a h =
 
 -- ---- texts: each byte is one of the line
 
-text-long : {a : Annotation Written} {b : Annotation Number} → Says a b → length (annotationTexts b) ≤ length (annotationText a)
+text-long : {a : SpelledAnnotation} {b : TableAnnotation} → Says a b → length (annotationTexts b) ≤ length (annotationText a)
 text-long {a} {b} s =
     let e = s .fields in
     let behind =

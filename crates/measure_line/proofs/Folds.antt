@@ -9,8 +9,7 @@ use lib.Dec.{leb}
 use lib.ListN.{length}
 use borrow.Author.Tests.{leb-true, leb-false, lt-leb}
 use Rattle.lang.specs.Parts.{Opt, silent, written}
-use Rattle.rules.specs.Formulas.{Written}
-use Rattle.rules.specs.Annotations.{Annotation, annotationText}
+use Rattle.rules.specs.Annotations.{SpelledAnnotation, annotationText}
 use Rattle.rules.specs.Lines.{Spelling}
 use Rattle.rules.specs.House.{annotationRules, confidenceOf, one, firstBreach, firstExcess}
 use Rattle.numbers.specs.Shares.{largest}
@@ -20,7 +19,7 @@ use Rattle.faults.proofs.Marks.{join-known, join-kept, join-broken}
 use Rattle.measure_line.specs.Totals.{noted, summed}
 
 -- where the next annotation begins
-abbrev pub behind : ℕ → Annotation Written → ℕ
+abbrev pub behind : ℕ → SpelledAnnotation → ℕ
 behind at a = at + length (annotationText a) + 1
 
 abbrev pub foldBreach : Fault → ℕ → Spelling → Fault
@@ -28,7 +27,7 @@ foldBreach f at [] = f
 foldBreach f at (a ∷ more) = foldBreach (noted f 6 at (annotationRules a)) (behind at a) more
 
 -- a confidence as it is told
-abbrev pub shareIn : Annotation Written → ℕ
+abbrev pub shareIn : SpelledAnnotation → ℕ
 shareIn a = min (confidenceOf (a .confidence)) largest
 
 abbrev pub foldExcess : Fault → ℕ → ℕ → Spelling → Fault
@@ -83,11 +82,11 @@ sum-within sum c h = omega arith
 sum-past : (sum c : ℕ) → one < sum + c → one < summed sum (min c largest)
 sum-past sum c h = omega arith
 
-pub excess-told : (sum at : ℕ) (s : Spelling) → foldExcess (fault 0 0) sum at s ≡ told 7 (firstExcess sum at s)
-excess-told sum at [] = refl
-excess-told sum at (a ∷ more) =
+pub excess-seen : (sum at : ℕ) (s : Spelling) → foldExcess (fault 0 0) sum at s ≡ told 7 (firstExcess sum at s)
+excess-seen sum at [] = refl
+excess-seen sum at (a ∷ more) =
     let c = confidenceOf (a .confidence) in
-    by c (summed sum (shareIn a)) (excess-told (sum + c) (behind at a) more) (leb (sum + c) one) refl (sum-within sum c) (sum-past sum c)
+    by c (summed sum (shareIn a)) (excess-seen (sum + c) (behind at a) more) (leb (sum + c) one) refl (sum-within sum c) (sum-past sum c)
   where
     by : (c next : ℕ) → foldExcess (fault 0 0) (sum + c) (behind at a) more ≡ told 7 (firstExcess (sum + c) (behind at a) more)
         → (t : Bool) → leb (sum + c) one ≡ t → (sum + c ≤ one → next ≡ sum + c) → (one < sum + c → one < next)

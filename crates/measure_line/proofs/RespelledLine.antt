@@ -4,10 +4,9 @@ use mathlib.Core.Path.{_≡_, refl, ap₂, _∙_}
 use mathlib.Core.List.{List, [], _∷_, _++_, map}
 use Rattle.lang.specs.Parts.{flat}
 use Rattle.lang.specs.Order.{Each, none, next}
-use Rattle.rules.specs.Annotations.{annotationMap}
 use Rattle.rules.specs.Lines.{Spelling, nextText}
 use Rattle.rules.specs.Fields.{Table, Says}
-use Rattle.rules.specs.Preferred.{shortened, preferred}
+use Rattle.rules.specs.Preferred.{shortenedAnnotation, preferred}
 use Rattle.read_annotation.proofs.Respelling.{firstPreferred, nextPreferred, Respelling}
 use Rattle.measure_line.proofs.EachGives.{EachGives, empty, some}
 
@@ -21,16 +20,16 @@ pub record WordedLine (s : Spelling) (w : List ℕ) : Type 0 where
 record WordedMore (s : Spelling) (w : List ℕ) : Type 0 where
   table : Table
   says : Each Says s table
-  is : w ≡ flat nextText (map (annotationMap shortened) table)
+  is : w ≡ flat nextText (map shortenedAnnotation table)
 
-each-worded : {s : Spelling} {ys : List (List ℕ)} → Each (Respelling nextPreferred) s ys → WordedMore s (flat (λ y. y) ys)
-each-worded none = record { table = []; says = none; is = refl }
-each-worded (next x xs) =
-    let m = each-worded xs in record { table = x .table ∷ m .table; says = next (x .says) (m .says); is = ap₂ _++_ (x .is) (m .is) }
+each-respelled : {s : Spelling} {ys : List (List ℕ)} → Each (Respelling nextPreferred) s ys → WordedMore s (flat (λ y. y) ys)
+each-respelled none = record { table = []; says = none; is = refl }
+each-respelled (next x xs) =
+    let m = each-respelled xs in record { table = x .table ∷ m .table; says = next (x .says) (m .says); is = ap₂ _++_ (x .is) (m .is) }
 
 -- ---- for callers
 
-pub line-worded : {s : Spelling} {w : List ℕ} → EachGives (Respelling firstPreferred) (Respelling nextPreferred) s w → WordedLine s w
-line-worded empty = record { table = []; says = none; is = refl }
-line-worded (some x xs e) =
-    let m = each-worded xs in record { table = x .table ∷ m .table; says = next (x .says) (m .says); is = e ∙ ap₂ _++_ (x .is) (m .is) }
+pub line-respelled : {s : Spelling} {w : List ℕ} → EachGives (Respelling firstPreferred) (Respelling nextPreferred) s w → WordedLine s w
+line-respelled empty = record { table = []; says = none; is = refl }
+line-respelled (some x xs e) =
+    let m = each-respelled xs in record { table = x .table ∷ m .table; says = next (x .says) (m .says); is = e ∙ ap₂ _++_ (x .is) (m .is) }

@@ -9,10 +9,9 @@ use lib.ListN.{length, drop, length-append, length-drop}
 use lib.Seq.{drop-append-seam, drop-drop}
 use Rattle.lang.specs.Parts.{flat}
 use Rattle.lang.specs.Mark.{Mark, Kept}
-use Rattle.rules.specs.Formulas.{Written}
-use Rattle.rules.specs.Annotations.{Annotation, annotationText, annotationMap}
+use Rattle.rules.specs.Annotations.{SpelledAnnotation, annotationText}
 use Rattle.rules.specs.Lines.{Spelling, nextText, lineText}
-use Rattle.rules.specs.Fields.{filled}
+use Rattle.rules.specs.Fields.{filledAnnotation}
 use Rattle.rules.specs.Limits.{annotationMarks, nextMarks, rowMarks, lineMarks}
 use Rattle.rules.specs.House.{one}
 use Rattle.rules.proofs.Keeps.{kept-left, kept-right}
@@ -36,8 +35,8 @@ use Rattle.measure_line.proofs.Folds.{behind, shareIn, foldBreach, fold
 
 -- ---- how many of each kind an annotation has, and all of a spelling
 
-abbrev pub countsIn : Annotation Written → Counts
-countsIn a = annotationCounts (annotationMap filled a)
+abbrev pub countsIn : SpelledAnnotation → Counts
+countsIn a = annotationCounts (filledAnnotation a)
 
 abbrev pub spelledCounts : Spelling → Counts
 spelledCounts [] = noCounts
@@ -51,7 +50,7 @@ pub record Finds (ms : List Mark) (s : Spelling) (from : ℕ) (t u : Totals) : T
 
 -- ---- no annotation is empty
 
-pub annotation-some : (a : Annotation Written) → 1 ≤ length (annotationText a)
+pub annotation-some : (a : SpelledAnnotation) → 1 ≤ length (annotationText a)
 annotation-some a = simp length-append (omega (arith, ion-some (a .ion)))
 
 -- behind an annotation stands the end of the line, or a comma
@@ -63,7 +62,7 @@ rest-ends (a ∷ more) = at-comma (annotationText a ++ flat nextText more)
 
 module _ (line : List ℕ) (small : length line ≤ maxPlace) where
   -- the annotation that begins at `from`, of which m was measured
-  module _ (a : Annotation Written) (t : Totals) (from : ℕ) (m : Measured) (g : from + length (annotationText a) ≤ length line)
+  module _ (a : SpelledAnnotation) (t : Totals) (from : ℕ) (m : Measured) (g : from + length (annotationText a) ≤ length line)
       (h : Measures (t .counts .annotations) a from (t .limit) m) where
     one-counts : addedWith line t from m .counts ≡ plus (t .counts) (countsIn a)
     one-counts = ap (plus (t .counts)) (h .counts) ∙ plus-capped (t .counts) (countsIn a)
@@ -88,13 +87,13 @@ module _ (line : List ℕ) (small : length line ≤ maxPlace) where
     one-at : addedWith line t from m .at ≡ from + length (annotationText a)
     one-at = omega (arith, h .len)
 
-  record AddedRead (a : Annotation Written) (t : Totals) (from : ℕ) : Type 0 where
+  record AddedRead (a : SpelledAnnotation) (t : Totals) (from : ℕ) : Type 0 where
     m : Measured
     is : addOf line t from ≡ addedWith line t from m
     measures : Measures (t .counts .annotations) a from (t .limit) m
     inside : from + length (annotationText a) ≤ length line
 
-  added-read : (a : Annotation Written) (k : List ℕ) (t : Totals) (from : ℕ) → from ≤ length line → drop from line ≡ annotationText a ++ k → EndsAnnotation k
+  added-read : (a : SpelledAnnotation) (k : List ℕ) (t : Totals) (from : ℕ) → from ≤ length line → drop from line ≡ annotationText a ++ k → EndsAnnotation k
       → AddedRead a t from
   unfolding addOf
   added-read a k t from h e ends =
@@ -117,7 +116,7 @@ module _ (line : List ℕ) (small : length line ≤ maxPlace) where
     finds : Finds (rowMarks nextText nextMarks (t .counts .annotations) more (t .at)) more (t .at + 1) t u
 
   -- the first of them begins at `from`
-  module _ (a : Annotation Written) (more : Spelling) (t : Totals) (from : ℕ) (m : Measured) (room : t .counts .annotations + 1 ≤ maxPlace)
+  module _ (a : SpelledAnnotation) (more : Spelling) (t : Totals) (from : ℕ) (m : Measured) (room : t .counts .annotations + 1 ≤ maxPlace)
       (g : from + length (annotationText a) ≤ length line) (h : Measures (t .counts .annotations) a from (t .limit) m) where
     abbrev next : Totals
     next = addedWith line t from m
@@ -188,7 +187,7 @@ module _ (line : List ℕ) (small : length line ≤ maxPlace) where
   -- ---- the whole line
 
   -- an empty line has no annotations; of another, the first begins at 0
-  first-through : (a : Annotation Written) (more : Spelling) → line ≡ lineText (a ∷ more)
+  first-through : (a : SpelledAnnotation) (more : Spelling) → line ≡ lineText (a ∷ more)
       → (totalsFrom line (length line) (addOf line nothing 0) .counts ≡ plus noCounts (spelledCounts (a ∷ more)))
       × Finds (lineMarks (a ∷ more)) (a ∷ more) 0 nothing (totalsFrom line (length line) (addOf line nothing 0))
   first-through a more e =

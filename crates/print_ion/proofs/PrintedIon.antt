@@ -16,7 +16,7 @@ use Rattle.rules.specs.Numbers.{digits, Number, numberText}
 use Rattle.rules.specs.Texts.{Text, Name, Modification, isText, isName, isModification, inBraces, inBrackets, bracedText, bracketText}
 use Rattle.rules.specs.Formulas.{FormulaUnit, plain, labelled}
 use Rattle.rules.specs.Ions.{Series, seriesNames, Ion, series, internal, immonium, precursor, reference, named, composed, smiles, unknown, ionMap, ionText}
-use Rattle.rules.specs.Annotations.{Annotation, flagText, analyteText}
+use Rattle.rules.specs.Annotations.{TableAnnotation, flagText, analyteText}
 use Rattle.rules.specs.Preferred.{shortened}
 use Rattle.rules.specs.Stored.{stores, flag, present, valueOr0, number, bytesOf, ionFields, unitRecord, annotationRecord}
 use Rattle.rules.specs.Limits.{maxUnits, maxText}
@@ -37,7 +37,7 @@ use Rattle.print_ion.specs.Fronts.{flagPrinted, analytePrinted, frontPri
 
 -- ---- what is asked of an annotation: its numbers fit their fields
 
-pub record FrontOk (a : Annotation Number) : Type 0 where
+pub record FrontOk (a : TableAnnotation) : Type 0 where
   pub analyte : valueOr0 (λ n. n) (a .analyte) ≤ 65535
   pub letter : ionFields (a .ion) .letter ≤ 255
   pub position : ionFields (a .ion) .position ≤ 65535
@@ -47,26 +47,26 @@ pub record FrontOk (a : Annotation Number) : Type 0 where
   pub short : length (ionFields (a .ion) .text) ≤ maxText
 
 -- the bytes of the record of an annotation, and what follows it
-abbrev pub noted : Annotation Number → List ℕ → List ℕ
+abbrev pub noted : TableAnnotation → List ℕ → List ℕ
 noted a k = stores (annotationRecord a) ++ k
 
 -- ---- how many units and bytes of text
 
-pub ion-units-stored : (a : Annotation Number) (ks : List ℕ) → length (ionFields (a .ion) .units) ≤ maxUnits
+pub ion-units-stored : (a : TableAnnotation) (ks : List ℕ) → length (ionFields (a .ion) .units) ≤ maxUnits
     → ionUnits (noted a ks) ≡ length (ionFields (a .ion) .units)
 unfolding ionUnits
 ion-units-stored a ks h =
     let n = length (ionFields (a .ion) .units) in
     omega (arith, word-stored n (drop lossCountAt (noted a ks)) (omega arith))
 
-pub ion-bytes-stored : (a : Annotation Number) (ks : List ℕ) → length (ionFields (a .ion) .text) ≤ maxText
+pub ion-bytes-stored : (a : TableAnnotation) (ks : List ℕ) → length (ionFields (a .ion) .text) ≤ maxText
     → ionBytes (noted a ks) ≡ length (ionFields (a .ion) .text)
 unfolding ionBytes
 ion-bytes-stored a ks h =
     let n = length (ionFields (a .ion) .text) in
     omega (arith, word-stored n (drop unitCountAt (noted a ks)) (omega arith))
 
-text-taken : (a : Annotation Number) (ks kt : List ℕ) → length (ionFields (a .ion) .text) ≤ maxText
+text-taken : (a : TableAnnotation) (ks kt : List ℕ) → length (ionFields (a .ion) .text) ≤ maxText
     → take (ionBytes (noted a ks)) (ionFields (a .ion) .text ++ kt) ≡ ionFields (a .ion) .text
 text-taken a ks kt h =
     let w = ionFields (a .ion) .text in
@@ -74,11 +74,11 @@ text-taken a ks kt h =
 
 -- ---- numbers of the record
 
-position-stored : (a : Annotation Number) (ks : List ℕ) → ionFields (a .ion) .position ≤ 65535
+position-stored : (a : TableAnnotation) (ks : List ℕ) → ionFields (a .ion) .position ≤ 65535
     → u16At (drop positionAt (noted a ks)) ≡ ionFields (a .ion) .position
 position-stored a ks h = word-stored (ionFields (a .ion) .position) (drop lastAt (noted a ks)) h
 
-end-stored : (a : Annotation Number) (ks : List ℕ) → ionFields (a .ion) .end ≤ 65535 → u16At (drop lastAt (noted a ks)) ≡ ionFields (a .ion) .end
+end-stored : (a : TableAnnotation) (ks : List ℕ) → ionFields (a .ion) .end ≤ 65535 → u16At (drop lastAt (noted a ks)) ≡ ionFields (a .ion) .end
 end-stored a ks h = word-stored (ionFields (a .ion) .end) (drop chargeAt (noted a ks)) h
 
 series-stored : (s : Series) → seriesPrinted ((s .which + 1) % 256) ≡ wordOf s
@@ -144,7 +144,7 @@ label-is (written n) s e =
     rw (e, ne-eqb (n .value) 0 z)
 
 -- the annotation with another ion
-abbrev withIon : Annotation Number → Ion Number → Annotation Number
+abbrev withIon : TableAnnotation → Ion Number → TableAnnotation
 withIon a x =
     record {
       marked = a .marked;
@@ -159,7 +159,7 @@ withIon a x =
     }
 
 -- by kind
-module _ (a : Annotation Number) (ks : List ℕ) where
+module _ (a : TableAnnotation) (ks : List ℕ) where
   kind-printed : (x : Ion Number) (ku : List ℕ) → FrontOk (withIon a x)
       → kindPrinted (getD (noted (withIon a x) ks) 0 0) (noted (withIon a x) ks) (unitRows (ionFields x .units) ++ ku) (ionFields x .text) ≡ ionText (ionMap shortened x)
   unfolding kindPrinted
@@ -183,7 +183,7 @@ module _ (a : Annotation Number) (ks : List ℕ) where
       let b = withIon a (unknown n) in
       label-is n (noted b ks) (position-stored b ks (h .position))
 
-ion-printed : (a : Annotation Number) (ks ku kt : List ℕ) → FrontOk a
+ion-printed : (a : TableAnnotation) (ks ku kt : List ℕ) → FrontOk a
     → ionPrinted (noted a ks) (unitRows (ionFields (a .ion) .units) ++ ku) (ionFields (a .ion) .text ++ kt) ≡ ionText (ionMap shortened (a .ion))
 ion-printed a ks ku kt h =
     ap (kindPrinted (getD (noted a ks) 0 0) (noted a ks) (unitRows (ionFields (a .ion) .units) ++ ku)) (text-taken a ks kt (h .short))
@@ -205,13 +205,13 @@ unfolding analytePrinted
 analyte-is s silent e f = rw e
 analyte-is s (written n) e f = rw (e, f)
 
-analyte-stored : (a : Annotation Number) (ks : List ℕ) → valueOr0 (λ n. n) (a .analyte) ≤ 65535
+analyte-stored : (a : TableAnnotation) (ks : List ℕ) → valueOr0 (λ n. n) (a .analyte) ≤ 65535
     → u16At (drop analyteAt (noted a ks)) ≡ valueOr0 (λ n. n) (a .analyte)
 analyte-stored a ks h = word-stored (valueOr0 (λ n. n) (a .analyte)) (drop positionAt (noted a ks)) h
 
 -- ---- prefix and ion
 
-pub front-printed : (a : Annotation Number) (ks ku kt : List ℕ) → FrontOk a
+pub front-printed : (a : TableAnnotation) (ks ku kt : List ℕ) → FrontOk a
     → frontPrinted (stores (annotationRecord a) ++ ks) (flat (λ u. stores (unitRecord u)) (ionFields (a .ion) .units) ++ ku) (ionFields (a .ion) .text ++ kt)
     ≡ flagText (bytes "&") (a .marked) ++ (optText analyteText (a .analyte) ++ ionText (ionMap shortened (a .ion)))
 front-printed a ks ku kt h =
@@ -227,7 +227,7 @@ unit-up-to (labelled a s c) h = (omega (arith, h .1), omega (arith, h .2 .2 .1))
 units-up-to : (us : List (FormulaUnit Number)) → ((u : FormulaUnit Number) → In u us → UnitFits u) → AllOf (UnitUpTo 65535) us
 units-up-to us h = all-in us (λ u i. unit-up-to u (h u i))
 
-pub front-ok : (a : Annotation Number) → InRange a → Bounded a → FrontOk a
+pub front-ok : (a : TableAnnotation) → InRange a → Bounded a → FrontOk a
 front-ok a r b =
     record {
       analyte = r .analyte;

@@ -11,7 +11,7 @@ use Rattle.rules.specs.Formulas.{FormulaUnit, plain, labelled}
 use Rattle.rules.specs.Losses.{Loss}
 use Rattle.rules.specs.Adducts.{Item}
 use Rattle.rules.specs.Isotopes.{Isotopes, no-isotope, plain-isotope, average-isotope, specific-isotopes}
-use Rattle.rules.specs.Annotations.{Deviation, Annotation}
+use Rattle.rules.specs.Annotations.{TableAnnotation, Deviation}
 use Rattle.rules.specs.House.{deviationRule}
 use Rattle.rules.specs.Stored.{Field, signed, specificRecord, isotopeRecords}
 use Rattle.rules.specs.Layout.{isotopeWidths}
@@ -29,13 +29,13 @@ unit-ok : (u : FormulaUnit Number) → UnitFits u → UnitUpTo 65535 u
 unit-ok (plain s c) f = omega (arith, f .2 .2 .1)
 unit-ok (labelled a s c) f = (omega (arith, f .1), omega (arith, f .2 .2 .1))
 
-pub loss-ok : (a : Annotation Number) → Bounded a → InRange a → (l : Loss Number) → In l (a .losses) → LossOk l
+pub loss-ok : (a : TableAnnotation) → Bounded a → InRange a → (l : Loss Number) → In l (a .losses) → LossOk l
 loss-ok a b r l i =
     let f = r .loss l i in
     let s = b .loss l i in
     record { count = omega (arith, f .self .2 .2 .1); few = s .few; units = λ u j. unit-ok u (f .units u j); name = s .short }
 
-pub item-ok : (a : Annotation Number) → Bounded a → InRange a → (x : Item Number) → In x (a .adduct) → ItemOk x
+pub item-ok : (a : TableAnnotation) → Bounded a → InRange a → (x : Item Number) → In x (a .adduct) → ItemOk x
 item-ok a b r x i =
     let f = r .item x i in
     record { count = omega (arith, f .self .2 .2 .1); few = b .item x i; units = λ u j. unit-ok u (f .units u j) }
@@ -52,7 +52,7 @@ records-ok (specific-isotopes xs) h = λ x i.
     let f = h (specificRecord x) (in-mapped specificRecord (items xs) i) in
     (omega (arith, f .2 .2 .1), omega (arith, f .2 .2 .2 .1))
 
-pub isotopes-ok : (a : Annotation Number) → InRange a → IsotopesOk (a .isotopes)
+pub isotopes-ok : (a : TableAnnotation) → InRange a → IsotopesOk (a .isotopes)
 isotopes-ok a r = records-ok (a .isotopes) (r .isotope)
 
 -- 2 ^ 64 has no room in its field, so that a `-` does not stand before 0
@@ -64,7 +64,7 @@ sign-ok (written d) f = by (d .minus) (d .size .value) (f .value)
     by true v h = le→leb 1 v (omega arith)
     by false v h = tt
 
-pub tail-ok : (a : Annotation Number) → InRange a → TailOk a
+pub tail-ok : (a : TableAnnotation) → InRange a → TailOk a
 tail-ok a r =
     record {
       charge = r .charge;

@@ -9,9 +9,9 @@ use lib.ListN.{getD, drop}
 use borrow.Author.Tests.{lt-leb, lt-ltb, le-ltb}
 use Rattle.lang.specs.Parts.{Opt, silent, written, optText}
 use Rattle.rules.specs.Bytes.{bytes}
-use Rattle.rules.specs.Numbers.{From, Number}
+use Rattle.rules.specs.Numbers.{From}
 use Rattle.rules.specs.Decimals.{Decimal, decimalText}
-use Rattle.rules.specs.Annotations.{Deviation, Annotation, flagText}
+use Rattle.rules.specs.Annotations.{TableAnnotation, Deviation, flagText}
 use Rattle.rules.specs.Annotations as rules
 use Rattle.rules.specs.House.{deviationRule}
 use Rattle.rules.specs.Preferred.{countOr1}
@@ -23,7 +23,7 @@ use Rattle.print_parts.specs.Tails.{chargePrinted, signedSize, signedPri
 use Rattle.slices.proofs.StoredNumbers.{quad-stored, oct-stored}
 
 -- numbers fit the fields of the record, and no `-` stands before 0
-pub record TailOk (a : Annotation Number) : Type 0 where
+pub record TailOk (a : TableAnnotation) : Type 0 where
   pub charge : countOr1 (a .charge) ≤ maxCharge
   pub size : valueOr0 (λ d. d .size .value) (a .deviation) < 10 ^ maxDigits
   pub places : valueOr0 (λ d. d .size .places) (a .deviation) ≤ maxPlaces
@@ -100,7 +100,7 @@ signed-kept (written d) h g = by (d .minus) (d .size .value) h g
 pub byte-kept : (n : ℕ) → n ≤ 255 → n % 256 ≡ n
 byte-kept n h = omega arith
 
-pub tail-printed : (a : Annotation Number) (k : List ℕ) → TailOk a
+pub tail-printed : (a : TableAnnotation) (k : List ℕ) → TailOk a
     → tailPrinted (stores (annotationRecord a) ++ k)
     ≡ optText rules.chargeText (a .charge) ++ (optText rules.deviationText (a .deviation) ++ optText rules.confidenceText (a .confidence))
 tail-printed a k ok =

@@ -14,8 +14,8 @@ use Rattle.rules.specs.Ions.{ionText, ionMap}
 use Rattle.rules.specs.Losses.{lossText, lossMap}
 use Rattle.rules.specs.Isotopes.{isotopesMap, isotopesText}
 use Rattle.rules.specs.Adducts.{Item, itemText, itemMap, adductText}
-use Rattle.rules.specs.Annotations.{Annotation, annotationMap, flagText, analyteText, annotationText}
-use Rattle.rules.specs.Preferred.{shortened}
+use Rattle.rules.specs.Annotations.{TableAnnotation, flagText, analyteText, annotationText}
+use Rattle.rules.specs.Preferred.{shortenedAnnotation, shortened}
 use Rattle.rules.specs.Stored.{stores, ionFields, unitRecord, lostUnits, lostName, lossRecord, isotopeRecords, addedUnits, itemRecord, annotationRecord, annotationUnits, annotationTexts}
 use Rattle.rules.specs.Limits.{maxLosses, maxIsotopes, maxItems}
 use Rattle.rules.specs.Layout.{lossWidth, isotopeWidth, itemWidth, unitWidth}
@@ -62,17 +62,17 @@ adduct-printed (y ∷ ys) x u t e =
 -- ---- the parts
 
 -- units and names of the losses, units of the adduct items
-abbrev lossUnits : Annotation Number → List (FormulaUnit Number)
+abbrev lossUnits : TableAnnotation → List (FormulaUnit Number)
 lossUnits a = flat (λ l. lostUnits (l .what)) (a .losses)
 
-abbrev lossNames : Annotation Number → List ℕ
+abbrev lossNames : TableAnnotation → List ℕ
 lossNames a = flat (λ l. lostName (l .what)) (a .losses)
 
-abbrev itemUnits : Annotation Number → List (FormulaUnit Number)
+abbrev itemUnits : TableAnnotation → List (FormulaUnit Number)
 itemUnits a = flat (λ x. addedUnits (x .what)) (a .adduct)
 
 -- the six parts of an annotation, each before what is left partsBehind it
-abbrev pub laid : Annotation Number → StoredParts → StoredParts
+abbrev pub laid : TableAnnotation → StoredParts → StoredParts
 laid a q =
     record {
       notes = stores (annotationRecord a) ++ q .notes;
@@ -84,13 +84,13 @@ laid a q =
     }
 
 -- units and text of the ion before those of the losses, and these before those of the items
-abbrev unitsAfterIon : Annotation Number → StoredParts → List ℕ
+abbrev unitsAfterIon : TableAnnotation → StoredParts → List ℕ
 unitsAfterIon a q = unitRows (lossUnits a) ++ (unitRows (itemUnits a) ++ q .units)
 
-abbrev textAfterIon : Annotation Number → StoredParts → List ℕ
+abbrev textAfterIon : TableAnnotation → StoredParts → List ℕ
 textAfterIon a q = lossNames a ++ q .text
 
-module _ (a : Annotation Number) (q : StoredParts) where
+module _ (a : TableAnnotation) (q : StoredParts) where
   units-laid : laid a q .units ≡ unitRows (ionFields (a .ion) .units) ++ unitsAfterIon a q
   units-laid =
       let us = ionFields (a .ion) .units in
@@ -101,7 +101,7 @@ module _ (a : Annotation Number) (q : StoredParts) where
   text-laid = append-assoc (ionFields (a .ion) .text) (lossNames a) (q .text)
 
 -- an annotation within the limits
-module _ (a : Annotation Number) (q : StoredParts) (b : Bounded a) (r : InRange a) where
+module _ (a : TableAnnotation) (q : StoredParts) (b : Bounded a) (r : InRange a) where
   losses-are : lossesIn (laid a q) ≡ length (a .losses)
   losses-are = row-kept (length (a .losses)) maxLosses (b .losses) (omega arith)
 
@@ -160,7 +160,7 @@ module _ (a : Annotation Number) (q : StoredParts) (b : Bounded a) (r : InRange 
       (λ i. adductPrinted (items-are i) (laid a q .items) (units-after-losses i) (text-after-losses i))
       ∙ adduct-printed (a .adduct) (laid a q .items) (unitRows (itemUnits a) ++ q .units) (q .text) (added .texts)
 
-  pub annotation-laid : annotationPrinted (laid a q) ≡ annotationText (annotationMap shortened a)
+  pub annotation-laid : annotationPrinted (laid a q) ≡ annotationText (shortenedAnnotation a)
   unfolding annotationPrinted
   annotation-laid =
       let f = flagText (bytes "&") (a .marked) in

@@ -6,11 +6,10 @@ use native.Mathlib.Omega.{arith}
 use lib.ListN.{length}
 use Rattle.lang.specs.Parts.{flat}
 use Rattle.lang.specs.Mark.{In, here, later}
-use Rattle.rules.specs.Numbers.{Number}
-use Rattle.rules.specs.Annotations.{Annotation, annotationMap, annotationText}
+use Rattle.rules.specs.Annotations.{TableAnnotation, annotationText}
 use Rattle.rules.specs.Lines.{nextText}
 use Rattle.rules.specs.Fields.{Table}
-use Rattle.rules.specs.Preferred.{shortened, preferred}
+use Rattle.rules.specs.Preferred.{shortenedAnnotation, preferred}
 use Rattle.rules.specs.Answers.{Sound}
 use Rattle.rules.specs.Stored.{stored}
 use Rattle.rules.specs.Limits.{maxAnnotations}
@@ -27,18 +26,18 @@ use Rattle.print_table.proofs.Sections.{sectioned, others, parts-stored
 
 -- each annotation is within the limits
 abbrev Within : Table → Type 0
-Within t = (a : Annotation Number) → In a t → Bounded a × InRange a
+Within t = (a : TableAnnotation) → In a t → Bounded a × InRange a
 
 -- the first annotation of a row, and those partsBehind it
-module _ (a : Annotation Number) (t : Table) (q : StoredParts) (h : Bounded a × InRange a) where
-  first-text : annotationPrinted (sectioned (a ∷ t) q) ≡ annotationText (annotationMap shortened a)
+module _ (a : TableAnnotation) (t : Table) (q : StoredParts) (h : Bounded a × InRange a) where
+  first-text : annotationPrinted (sectioned (a ∷ t) q) ≡ annotationText (shortenedAnnotation a)
   first-text = ap annotationPrinted (first-laid a t q) ∙ annotation-laid a (sectioned t q) (h .0) (h .1)
 
   first-behind : partsBehind (sectioned (a ∷ t) q) ≡ sectioned t q
   first-behind = ap partsBehind (first-laid a t q) ∙ behind-laid a (sectioned t q) (h .0) (h .1)
 
 -- partsBehind the first annotation of a line
-next-printed : (i : ℕ) (t : Table) (q : StoredParts) → Within t → annotationsPrinted (suc i) (length t) (sectioned t q) ≡ flat nextText (map (annotationMap shortened) t)
+next-printed : (i : ℕ) (t : Table) (q : StoredParts) → Within t → annotationsPrinted (suc i) (length t) (sectioned t q) ≡ flat nextText (map shortenedAnnotation t)
 unfolding annotationsPrinted
 next-printed i [] q h = refl
 next-printed i (a ∷ t) q h =

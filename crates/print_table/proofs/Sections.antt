@@ -5,8 +5,7 @@ use mathlib.Core.List.{List, [], _∷_, _++_, append-assoc, map}
 use native.Mathlib.Omega.{arith}
 use lib.ListN.{length, getD, drop, length-append}
 use lib.Seq.{drop-append-seam}
-use Rattle.rules.specs.Numbers.{Number}
-use Rattle.rules.specs.Annotations.{Annotation}
+use Rattle.rules.specs.Annotations.{TableAnnotation}
 use Rattle.rules.specs.Fields.{Table}
 use Rattle.rules.specs.Answers.{Sound}
 use Rattle.rules.specs.Stored.{Field, stores, lossRecord, isotopeRecords, itemRecord, unitRecord, annotationRecord, annotationUnits, annotationTexts, section, header, stored}
@@ -71,7 +70,7 @@ parts-stored t s =
     ap partsFrom (ap (map (λ p. drop p (stored t))) (l .starts) ∙ from-begins (stores (header t)) (bytesIn t))
 
 -- the first annotation before the others
-pub first-laid : (a : Annotation Number) (t : Table) (q : StoredParts) → sectioned (a ∷ t) q ≡ laid a (sectioned t q)
+pub first-laid : (a : TableAnnotation) (t : Table) (q : StoredParts) → sectioned (a ∷ t) q ≡ laid a (sectioned t q)
 first-laid a t q =
     let notes = append-assoc (stores (annotationRecord a)) (section annotationRecord t .bytes) (q .notes) in
     let losses = rows-apart (λ l. stores (lossRecord l)) (a .losses) (lossesOf t) (q .losses) in

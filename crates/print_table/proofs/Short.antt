@@ -7,16 +7,16 @@ use lib.ListN.{length, length-append}
 use Rattle.lang.specs.Parts.{Opt, silent, written, optText, flat}
 use Rattle.lang.specs.Mark.{In, here, later}
 use Rattle.rules.specs.Bytes.{bytes}
-use Rattle.rules.specs.Numbers.{digits, From, Number}
+use Rattle.rules.specs.Numbers.{digits, From}
 use Rattle.rules.specs.Decimals.{Decimal, decimalText}
 use Rattle.rules.specs.Ions.{ionText}
 use Rattle.rules.specs.Losses.{lossText}
 use Rattle.rules.specs.Isotopes.{isotopesText}
 use Rattle.rules.specs.Adducts.{adductText}
-use Rattle.rules.specs.Annotations.{Deviation, Annotation, flagText, analyteText, chargeText, deviationText, confidenceText, annotationText, annotationMap}
+use Rattle.rules.specs.Annotations.{TableAnnotation, Deviation, flagText, analyteText, chargeText, deviationText, confidenceText, annotationText}
 use Rattle.rules.specs.Lines.{nextText}
 use Rattle.rules.specs.Fields.{Table}
-use Rattle.rules.specs.Preferred.{shortened, countOr1, preferred}
+use Rattle.rules.specs.Preferred.{shortenedAnnotation, countOr1, preferred}
 use Rattle.rules.specs.Limits.{maxPosition, maxCharge, maxAnnotations}
 use Rattle.rules.specs.Stored.{valueOr0}
 use Rattle.rules.specs.Answers.{Sound}
@@ -58,9 +58,9 @@ confidence-short silent h = omega arith
 confidence-short (written d) h = let v = h .value in omega (arith, decimal-short d (h .places) (omega arith))
 
 -- 1 + 6 + 269 + 2104 + 56 + 699 + 6 + 27 + 23 is 3191
-pub annotation-short : (a : Annotation Number) → InRange a → Bounded a → length (annotationText (annotationMap shortened a)) ≤ 4095
+pub annotation-short : (a : TableAnnotation) → InRange a → Bounded a → length (annotationText (shortenedAnnotation a)) ≤ 4095
 annotation-short a r b =
-    let s = annotationMap shortened a in
+    let s = shortenedAnnotation a in
     let confidence = optText confidenceText (s .confidence) in
     let deviation = optText deviationText (s .deviation) ++ confidence in
     let charge = optText chargeText (s .charge) ++ deviation in
@@ -93,16 +93,16 @@ annotation-short a r b =
 -- ---- a line
 
 -- at most 16 annotations, each with a comma
-joined-short : (t : Table) → length t ≤ maxAnnotations → ((a : Annotation Number) → In a t → length (annotationText (annotationMap shortened a)) ≤ 4095)
+joined-short : (t : Table) → length t ≤ maxAnnotations → ((a : TableAnnotation) → In a t → length (annotationText (shortenedAnnotation a)) ≤ 4095)
     → length (preferred t) ≤ 65536
 joined-short [] few h = omega arith
 joined-short (a ∷ t) few h =
-    let next = flat nextText (map (annotationMap shortened) t) in
+    let next = flat nextText (map shortenedAnnotation t) in
     omega (
       arith,
-      length-append (annotationText (annotationMap shortened a)) next,
+      length-append (annotationText (shortenedAnnotation a)) next,
       h a here,
-      row-short nextText (annotationMap shortened) 4096 t (λ b i. omega (arith, h b (later i))),
+      row-short nextText shortenedAnnotation 4096 t (λ b i. omega (arith, h b (later i))),
     )
 
 pub line-short : (t : Table) → Sound t → length (preferred t) ≤ 65536

@@ -5,12 +5,11 @@ use mathlib.Core.List.{List, _++_}
 use lib.ListN.{length}
 use Rattle.lang.specs.Parts.{optText, flat}
 use Rattle.rules.specs.Bytes.{bytes}
-use Rattle.rules.specs.Formulas.{Written}
 use Rattle.rules.specs.Ions.{ionText}
 use Rattle.rules.specs.Losses.{lossText}
 use Rattle.rules.specs.Isotopes.{isotopesText}
 use Rattle.rules.specs.Adducts.{adductText}
-use Rattle.rules.specs.Annotations.{Annotation, flagText, analyteText}
+use Rattle.rules.specs.Annotations.{SpelledAnnotation, flagText, analyteText}
 use Rattle.rules.specs.Limits.{maxAnnotations, manyMark}
 use Rattle.faults.specs.declared.Fault.{Fault}
 use Rattle.faults.specs.Faults.{join}
@@ -28,7 +27,7 @@ use Rattle.read_annotation.proofs.Middles.{middleRead, middle-read}
 use Rattle.read_annotation.proofs.Tails.{tailRead, tail-read}
 use Rattle.read_annotation.proofs.Wholes.{third, second, first, fault1, fault2}
 
-module _ (a : Annotation Written) (k : List ℕ) (i end : ℕ) (f : Fault) where
+module _ (a : SpelledAnnotation) (k : List ℕ) (i end : ℕ) (f : Fault) where
   -- the first broken limit before the annotation's parts
   abbrev pub fault0 : Fault
   fault0 = join f (manyMark maxAnnotations i (end - length (first a k)))

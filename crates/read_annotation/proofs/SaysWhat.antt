@@ -5,17 +5,16 @@ use mathlib.Core.List.{List, map}
 use lib.Dec.{T}
 use Rattle.lang.specs.Order.{Perm, rising}
 use Rattle.rules.specs.Numbers.{Number}
-use Rattle.rules.specs.Formulas.{Written}
 use Rattle.rules.specs.Ions.{ionMap}
 use Rattle.rules.specs.Losses.{Loss, lossMap}
 use Rattle.rules.specs.Isotopes.{isotopesMap}
 use Rattle.rules.specs.Adducts.{Item, itemMap}
-use Rattle.rules.specs.Annotations.{Annotation}
+use Rattle.rules.specs.Annotations.{TableAnnotation, SpelledAnnotation}
 use Rattle.rules.specs.Fields.{filled, Says}
 use Rattle.rules.specs.Preferred.{lossLe, itemLe}
 
 -- an annotation as a table has it
-abbrev pub tableOf : Annotation Written → List (Loss Number) → List (Item Number) → Annotation Number
+abbrev pub tableOf : SpelledAnnotation → List (Loss Number) → List (Item Number) → TableAnnotation
 tableOf a ls xs =
     record {
       marked = a .marked;
@@ -33,9 +32,9 @@ both : (x y : Bool) → T x → T y → T (x && y)
 both true y p q = q
 both false y p q = p
 
-pub said-so : (a : Annotation Written) (ls : List (Loss Number)) (xs : List (Item Number)) → Perm (map (lossMap filled) (a .losses)) ls → T (rising lossLe ls)
+pub says-so : (a : SpelledAnnotation) (ls : List (Loss Number)) (xs : List (Item Number)) → Perm (map (lossMap filled) (a .losses)) ls → T (rising lossLe ls)
     → Perm (map (itemMap filled) (a .adduct)) xs → T (rising itemLe xs) → Says a (tableOf a ls xs)
-said-so a ls xs p l q x =
+says-so a ls xs p l q x =
     record {
       fields = record { marked = refl; analyte = refl; ion = refl; losses = p; isotopes = refl; adduct = q; charge = refl; deviation = refl; confidence = refl };
       order = both (rising lossLe ls) (rising itemLe xs) l x;

@@ -6,12 +6,11 @@ use native.Mathlib.Omega.{arith}
 use lib.ListN.{length, drop, length-append}
 use Rattle.lang.specs.Parts.{optText, flat}
 use Rattle.rules.specs.Bytes.{bytes}
-use Rattle.rules.specs.Formulas.{Written}
 use Rattle.rules.specs.Ions.{ionText}
 use Rattle.rules.specs.Losses.{lossText}
 use Rattle.rules.specs.Isotopes.{isotopesText}
 use Rattle.rules.specs.Adducts.{adductText}
-use Rattle.rules.specs.Annotations.{Annotation, flagText, analyteText, chargeText, deviationText, confidenceText, annotationText}
+use Rattle.rules.specs.Annotations.{SpelledAnnotation, flagText, analyteText, chargeText, deviationText, confidenceText, annotationText}
 use Rattle.faults.specs.declared.Fault.{Fault}
 use Rattle.read_annotation.specs.Measured.{behindIon, partsOf, annotationSize}
 use Rattle.read_annotation.proofs.Chains.{drop-three}
@@ -19,7 +18,7 @@ use Rattle.read_annotation.proofs.Ends.{EndsAnnotation}
 use Rattle.read_annotation.proofs.Wholes.{third, second, first, text-is}
 use Rattle.read_annotation.proofs.Readings.{partsRead, parts-read}
 
-module _ (a : Annotation Written) (k : List ℕ) (nth end : ℕ) (f : Fault) where
+module _ (a : SpelledAnnotation) (k : List ℕ) (nth end : ℕ) (f : Fault) where
   -- the text behind the ion
   pub behind-ion : behindIon (first a k) (partsRead a k nth end f) ≡ second a k
   behind-ion = drop-three (flagText (bytes "&") (a .marked)) (optText analyteText (a .analyte)) (ionText (a .ion)) (second a k)
@@ -38,7 +37,7 @@ module _ (a : Annotation Written) (k : List ℕ) (nth end : ℕ) (f : Fault) whe
       ∙ omega (arith, length-append (annotationText a) k, ap length (text-is a k))
 
 -- whichever of a line it was read as, from whichever fault on
-pub annotation-size : (a : Annotation Written) (k : List ℕ) (nth end : ℕ) (f : Fault) → EndsAnnotation k → length (annotationText a ++ k) ≤ end
+pub annotation-size : (a : SpelledAnnotation) (k : List ℕ) (nth end : ℕ) (f : Fault) → EndsAnnotation k → length (annotationText a ++ k) ≤ end
     → annotationSize (annotationText a ++ k) (partsOf nth end (annotationText a ++ k) f) ≡ length (annotationText a)
 annotation-size a k nth end f e h =
     let t = text-is a k in

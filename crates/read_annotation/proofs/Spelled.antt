@@ -9,13 +9,12 @@ use lib.ListN.{length, length-append, length-map}
 use Rattle.lang.specs.Parts.{optText, flat}
 use Rattle.lang.specs.Mark.{Kept, here, later, marksOf}
 use Rattle.rules.specs.Bytes.{bytes}
-use Rattle.rules.specs.Formulas.{Written}
 use Rattle.rules.specs.Ions.{ionText, ionMap}
 use Rattle.rules.specs.Losses.{lossText, lossMap}
 use Rattle.rules.specs.Isotopes.{isotopesText, isotopesMap}
 use Rattle.rules.specs.Adducts.{adductText, itemMap}
-use Rattle.rules.specs.Annotations.{Annotation, annotationMap, flagText, analyteText, chargeText, deviationText, confidenceText, annotationText}
-use Rattle.rules.specs.Fields.{filled}
+use Rattle.rules.specs.Annotations.{SpelledAnnotation, flagText, analyteText, chargeText, deviationText, confidenceText, annotationText}
+use Rattle.rules.specs.Fields.{filledAnnotation, filled}
 use Rattle.rules.specs.House.{confidenceOf, one, annotationRules}
 use Rattle.rules.specs.Limits.{part, optPart, ionParts, deviationPart, confidencePart, annotationParts, annotationMarks}
 use Rattle.rules.specs.Stored.{ionFields, lostUnits, lostName, addedUnits, isotopeRecords}
@@ -41,14 +40,14 @@ use Rattle.read_annotation.proofs.Wholes.{third, second, first, text-is
 use Rattle.read_annotation.proofs.Readings.{fault0, partsRead, parts-read}
 
 -- annotation number i of a line, at a place: what is measured of it
-pub record Measures (i : ℕ) (a : Annotation Written) (at : ℕ) (f : Fault) (m : Measured) : Type 0 where
+pub record Measures (i : ℕ) (a : SpelledAnnotation) (at : ℕ) (f : Fault) (m : Measured) : Type 0 where
   pub fault : m .fault ≡ after f (annotationMarks i a at)
   pub len : m .len ≡ length (annotationText a)
-  pub counts : m .counts ≡ plus noCounts (annotationCounts (annotationMap filled a))
+  pub counts : m .counts ≡ plus noCounts (annotationCounts (filledAnnotation a))
   pub kept : Kept (annotationMarks i a at) → m .kept ≡ annotationRules a
   pub share : Kept (annotationMarks i a at) → m .share ≡ min (confidenceOf (a .confidence)) largest
 
-module _ (a : Annotation Written) (k : List ℕ) (i end : ℕ) (f : Fault) where
+module _ (a : SpelledAnnotation) (k : List ℕ) (i end : ℕ) (f : Fault) where
   abbrev shareRead : ℕ
   shareRead = shareOf (confidenceRead (a .confidence) (fault3 a k end (fault0 a k i end f)))
 
@@ -82,7 +81,7 @@ module _ (a : Annotation Written) (k : List ℕ) (i end : ℕ) (f : Fault) where
 
     -- ---- how much of everything
 
-    counts-are : measured .counts ≡ plus noCounts (annotationCounts (annotationMap filled a))
+    counts-are : measured .counts ≡ plus noCounts (annotationCounts (filledAnnotation a))
     counts-are =
         let x = ion-told (a .ion) (fault1 a k end (fault0 a k i end f)) in
         let us = ionFields (ionMap filled (a .ion)) .units in
@@ -133,7 +132,7 @@ module _ (a : Annotation Written) (k : List ℕ) (i end : ℕ) (f : Fault) where
           share = share-is;
         }
 
-pub measure-read : (a : Annotation Written) (k : List ℕ) (i end : ℕ) (f : Fault) → EndsAnnotation k → length (annotationText a ++ k) ≤ end
+pub measure-read : (a : SpelledAnnotation) (k : List ℕ) (i end : ℕ) (f : Fault) → EndsAnnotation k → length (annotationText a ++ k) ≤ end
     → Measures i a (end - length (annotationText a ++ k)) f (measureOf i end (annotationText a ++ k) f)
 measure-read a k i end f e h =
     let t = text-is a k in

@@ -6,12 +6,11 @@ use lib.ListN.{length}
 use Rattle.lang.specs.Parts.{optText, flat}
 use Rattle.lang.specs.Mark.{Part, marksOf}
 use Rattle.rules.specs.Bytes.{bytes}
-use Rattle.rules.specs.Formulas.{Written}
 use Rattle.rules.specs.Ions.{ionText}
 use Rattle.rules.specs.Losses.{lossText}
 use Rattle.rules.specs.Isotopes.{isotopesText}
 use Rattle.rules.specs.Adducts.{adductText}
-use Rattle.rules.specs.Annotations.{Annotation, flagText, analyteText, chargeText, deviationText, confidenceText, annotationText}
+use Rattle.rules.specs.Annotations.{SpelledAnnotation, flagText, analyteText, chargeText, deviationText, confidenceText, annotationText}
 use Rattle.rules.specs.Limits.{bare, part, optPart, rowPart, analytePart, ionParts, lossMarks, isotopesMarks, adductMarks, chargePart, deviationPart, confidencePart, annotationParts}
 use Rattle.faults.specs.declared.Fault.{Fault}
 use Rattle.faults.specs.Faults.{after}
@@ -21,7 +20,7 @@ use Rattle.read_annotation.proofs.Tails.{chargeFault, deviationFault, c
 use Rattle.read_annotation.proofs.Middles.{behindIon, behindLosses, behindIsotopes, lossesFault, isotopesFault, adductFault}
 use Rattle.read_annotation.proofs.Fronts.{behindFlag, frontText, prefixFault, ionFault}
 
-module _ (a : Annotation Written) (k : List ℕ) where
+module _ (a : SpelledAnnotation) (k : List ℕ) where
   -- what is left behind the adduct, behind the ion, and all
   abbrev pub third : List ℕ
   third = behindAdduct (a .charge) (a .deviation) (a .confidence) k

@@ -7,11 +7,10 @@ use lib.ListN.{length, length-append}
 use Rattle.lang.specs.Parts.{flat}
 use Rattle.lang.specs.Order.{Each, none, next}
 use Rattle.rules.specs.Numbers.{Number}
-use Rattle.rules.specs.Formulas.{Written}
 use Rattle.rules.specs.Ions.{Ion}
-use Rattle.rules.specs.Annotations.{Annotation, annotationMap}
+use Rattle.rules.specs.Annotations.{TableAnnotation, SpelledAnnotation}
 use Rattle.rules.specs.Lines.{Spelling}
-use Rattle.rules.specs.Fields.{Table, filled, Says}
+use Rattle.rules.specs.Fields.{filledAnnotation, Table, Says}
 use Rattle.rules.specs.Stored.{ionFields, lostUnits, lostName, addedUnits, isotopeRecords, annotationUnits, annotationTexts, stored}
 use Rattle.rules.specs.Answers.{Sound}
 use Rattle.rules.proofs.Totals.{perm-length, perm-flat}
@@ -26,9 +25,9 @@ use Rattle.measure_line.proofs.Through.{countsIn, spelledCounts}
 
 -- ---- an annotation has as many of each as the table has of it
 
-module _ {a : Annotation Written} {b : Annotation Number} (s : Says a b) where
+module _ {a : SpelledAnnotation} {b : TableAnnotation} (s : Says a b) where
   -- units: the ion's, those of the losses, those of the adduct items
-  units-split : (a : Annotation Number)
+  units-split : (a : TableAnnotation)
       → length (annotationUnits a) ≡ length (ionFields (a .ion) .units) + (length (flat (λ l. lostUnits (l .what)) (a .losses)) + length (flat (λ x. addedUnits (x .what)) (a .adduct)))
   units-split a =
       length-append (ionFields (a .ion) .units) (flat (λ l. lostUnits (l .what)) (a .losses) ++ flat (λ x. addedUnits (x .what)) (a .adduct))
@@ -38,21 +37,21 @@ module _ {a : Annotation Written} {b : Annotation Number} (s : Says a b) where
   units-same =
       omega (
         arith,
-        units-split (annotationMap filled a),
+        units-split (filledAnnotation a),
         units-split b,
         ap (λ (x : Ion Number). length (ionFields x .units)) (s .fields .ion),
         perm-flat (λ l. lostUnits (l .what)) (s .fields .losses),
         perm-flat (λ x. addedUnits (x .what)) (s .fields .adduct),
       )
 
-  text-split : (a : Annotation Number) → length (annotationTexts a) ≡ length (ionFields (a .ion) .text) + length (flat (λ l. lostName (l .what)) (a .losses))
+  text-split : (a : TableAnnotation) → length (annotationTexts a) ≡ length (ionFields (a .ion) .text) + length (flat (λ l. lostName (l .what)) (a .losses))
   text-split a = length-append (ionFields (a .ion) .text) (flat (λ l. lostName (l .what)) (a .losses))
 
   text-same : countsIn a .text ≡ length (annotationTexts b)
   text-same =
       omega (
         arith,
-        text-split (annotationMap filled a),
+        text-split (filledAnnotation a),
         text-split b,
         ap (λ (x : Ion Number). length (ionFields x .text)) (s .fields .ion),
         perm-flat (λ l. lostName (l .what)) (s .fields .losses),
@@ -74,7 +73,7 @@ module _ {a : Annotation Written} {b : Annotation Number} (s : Says a b) where
 appended : {A : Type 0} (xs ys : List A) → sum (length xs) (length ys) ≡ sum 0 (length (xs ++ ys))
 appended xs ys = omega (arith, length-append xs ys)
 
-one-more : (b : Annotation Number) (t : Table) → plus (annotationCounts b) (countsOf t) ≡ plus noCounts (countsOf (b ∷ t))
+one-more : (b : TableAnnotation) (t : Table) → plus (annotationCounts b) (countsOf t) ≡ plus noCounts (countsOf (b ∷ t))
 one-more b t =
     let n : sum 1 (length t) ≡ sum 0 (length (b ∷ t)) = omega arith in
     λ i. record {

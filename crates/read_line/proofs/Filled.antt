@@ -17,7 +17,7 @@ use Rattle.faults.specs.Faults.{fault}
 use Rattle.store_annotation.specs.Events.{annotationEvents}
 use Rattle.store_annotation.proofs.StoredAnnotation.{StoresRead, store-read}
 use Rattle.read_line.specs.Stores.{lineEvents}
-use Rattle.measure_line.proofs.EachGives.{Gives, EachGives, empty, some, line-given}
+use Rattle.measure_line.proofs.EachGives.{Gives, EachGives, empty, some, line-gives}
 
 -- events es, and then those of a table that the annotations s say
 pub record FilledBy (s : Spelling) (es fs : List Event) : Type 0 where
@@ -27,8 +27,8 @@ pub record FilledBy (s : Spelling) (es fs : List Event) : Type 0 where
   pub are : fs ≡ es ++ more
   pub fills : Fills table more
 
-events-given : Gives annotationEvents StoresRead
-events-given a k end i at e kept h small = store-read a k 0 end (fault 0 0) i at e kept h
+events-give : Gives annotationEvents StoresRead
+events-give a k end i at e kept h small = store-read a k 0 end (fault 0 0) i at e kept h
 
 each-filled : {s : Spelling} {ys : List (List Event)} → Each StoresRead s ys → FilledBy s [] (flat (λ y. y) ys)
 each-filled none = record { table = []; says = none; more = []; are = refl; fills = fills-none }
@@ -49,4 +49,4 @@ given-filled (some x xs e) = let f = each-filled (next x xs) in subst (FilledBy 
 -- ---- for callers
 
 pub line-filled : (s : Spelling) → length (lineText s) ≤ maxPlace → Kept (lineMarks s) → FilledBy s [] (lineEvents (lineText s))
-line-filled s h kept = given-filled (line-given annotationEvents annotationEvents StoresRead StoresRead events-given events-given s h kept)
+line-filled s h kept = given-filled (line-gives annotationEvents annotationEvents StoresRead StoresRead events-give events-give s h kept)

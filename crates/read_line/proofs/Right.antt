@@ -38,7 +38,7 @@ use Rattle.read_line.specs.Stores.{lineEvents}
 use Rattle.measure_line.specs.Refusals.{firstOf}
 use Rattle.read_line.specs.Readings.{tableOver, storedOver, countedOver, spelledOver, anyOver, readOf}
 use Rattle.measure_line.proofs.Folds as folds
-use Rattle.measure_line.proofs.Folds.{breach-told, excess-told}
+use Rattle.measure_line.proofs.Folds.{breach-told, excess-seen}
 use Rattle.measure_line.proofs.Through.{TotalsRead, totals-read}
 use Rattle.read_line.proofs.Filled.{line-filled}
 use Rattle.measure_line.proofs.Numbered.{told, line-first}
@@ -112,7 +112,7 @@ module _ (room : ℕ) (small : room ≤ maxPlace) (s : Spelling) (fits : length 
     breach-is o q = r .finds .breach kept ∙ breach-told 0 s ∙ ap (folds.told 6) q
 
     excess-is : (o : Opt ℕ) → firstExcess 0 0 s ≡ o → u .excess ≡ folds.told 7 o
-    excess-is o q = r .finds .excess kept ∙ excess-told 0 0 s ∙ ap (folds.told 7) q
+    excess-is o q = r .finds .excess kept ∙ excess-seen 0 0 s ∙ ap (folds.told 7) q
 
     -- and within the rules for one annotation
     module _ (rules : firstBreach 0 s ≡ silent) (q : u .breach .number ≡ 0) where

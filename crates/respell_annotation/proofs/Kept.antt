@@ -18,12 +18,12 @@ use Rattle.rules.specs.Ions.{Ion, series, internal, immonium, precursor, refere
 use Rattle.rules.specs.Losses.{signText, Lost, lost-formula, lost-name, lostText, lostMap, Loss, lossText, lossMap}
 use Rattle.rules.specs.Isotopes.{Shift, shiftText, shiftMap, Specific, specificText, specificMap, Isotopes, no-isotope, plain-isotope, average-isotope, specific-isotopes, isotopesText, isotopesMap}
 use Rattle.rules.specs.Adducts.{Added, added-formula, electron, addedText, addedMap, Item, itemText, itemMap, adductText}
-use Rattle.rules.specs.Annotations.{Annotation, annotationText}
+use Rattle.rules.specs.Annotations.{SpelledAnnotation, annotationText}
 use Rattle.rules.specs.Preferred.{shortened, lossLe, itemLe}
 use Rattle.rules.specs.Fields.{filled}
 use Rattle.rules.specs.Stored.{ionFields}
 use Rattle.rules.proofs.Digits.{digits-small}
-use Rattle.read_annotation.proofs.SaysWhat.{tableOf, said-so}
+use Rattle.read_annotation.proofs.SaysWhat.{tableOf, says-so}
 use Rattle.read_annotation.proofs.Respelling.{firstPreferred, Respelling}
 use Rattle.respell_annotation.specs.Kept.{hasOne}
 
@@ -156,10 +156,10 @@ one-rises before (x ∷ y ∷ l) h = absurd (omega arith)
 
 -- ---- the annotation
 
-pub kept-worded : (a : Annotation Written) → length (ionFields (ionMap filled (a .ion)) .units) ≡ 0 → length (a .losses) ≤ 1 → length (a .adduct) ≤ 1
+pub kept-respelled : (a : SpelledAnnotation) → length (ionFields (ionMap filled (a .ion)) .units) ≡ 0 → length (a .losses) ≤ 1 → length (a .adduct) ≤ 1
     → hasOne (flat lossText (a .losses) ++ (isotopesText (a .isotopes) ++ adductText (a .adduct))) ≡ false
     → Respelling firstPreferred a (annotationText a)
-kept-worded a u l d h =
+kept-respelled a u l d h =
     let ls = flat lossText (a .losses) in
     let y = isotopesText (a .isotopes) in
     let x = adductText (a .adduct) in
@@ -173,7 +173,7 @@ kept-worded a u l d h =
     let adduct-is = adduct-kept (a .adduct) (back y x (back ls (y ++ x) h)) in
     record {
       table = tableOf a losses adduct;
-      says = said-so a losses adduct same (one-rises lossLe losses n) same (one-rises itemLe adduct m);
+      says = says-so a losses adduct same (one-rises lossLe losses n) same (one-rises itemLe adduct m);
       is =
           λ i. annotationText (record {
             marked = a .marked;

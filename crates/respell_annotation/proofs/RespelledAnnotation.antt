@@ -13,10 +13,9 @@ use Rattle.lang.proofs.Deriv.{and-0, and-1}
 use Rattle.lang.proofs.Tests.{is-t, t-is}
 use Rattle.rules.specs.Bytes.{bytes}
 use Rattle.rules.specs.Numbers.{Number}
-use Rattle.rules.specs.Formulas.{Written}
 use Rattle.rules.specs.Losses.{Loss, lossText, lossMap}
 use Rattle.rules.specs.Adducts.{Item}
-use Rattle.rules.specs.Annotations.{Annotation, flagText, analyteText, annotationText}
+use Rattle.rules.specs.Annotations.{TableAnnotation, SpelledAnnotation, flagText, analyteText, annotationText}
 use Rattle.rules.specs.Preferred.{shortened}
 use Rattle.rules.specs.Fields.{Says}
 use Rattle.rules.specs.Limits.{annotationMarks}
@@ -30,12 +29,12 @@ use Rattle.sort_changes.specs.Events.{behindChanges}
 use Rattle.read_annotation.specs.declared.Parts.{Parts}
 use Rattle.read_annotation.specs.Measured.{behindIon, partsOf, annotationSize}
 use Rattle.read_annotation.proofs.Ions.{ion-told}
-use Rattle.read_annotation.proofs.SaysWhat.{tableOf, said-so}
+use Rattle.read_annotation.proofs.SaysWhat.{tableOf, says-so}
 use Rattle.read_annotation.proofs.Respelling.{firstPreferred, Respelling}
 use Rattle.read_annotation.proofs.SpelledAnnotation.{EndsAnnotation, first, second, isotopesOn, adductOn, text-is, fault0, fault1, partsRead, parts-read, behind-ion, size-read}
 use Rattle.respell_annotation.specs.Kept.{hasOne, isKept}
 use Rattle.respell_annotation.specs.Annotations.{behindSpelledIsotopes, spelledWith, partsSpelled, annotationSpelled}
-use Rattle.respell_annotation.proofs.Kept.{kept-worded}
+use Rattle.respell_annotation.proofs.Kept.{kept-respelled}
 use Rattle.respell_annotation.proofs.Rests.{take-is, prefix-is, middle-is, tail-is, ion-is, losses-are, behind-losses, isotopes-are, behind-isotopes, adduct-is}
 
 -- ---- as it stands
@@ -64,7 +63,7 @@ glance x n s e =
       no-one = not-true (hasOne s) (t-is o (and-1 d o f));
     }
 
-module _ (a : Annotation Written) (k : List ℕ) (nth end : ℕ) (f : Fault) where
+module _ (a : SpelledAnnotation) (k : List ℕ) (nth end : ℕ) (f : Fault) where
   abbrev read : Parts
   read = partsRead a k nth end f
 
@@ -75,7 +74,7 @@ module _ (a : Annotation Written) (k : List ℕ) (nth end : ℕ) (f : Fault) whe
       let t = ap (take (read .middle .len)) (behind-ion a k nth end f) ∙ middle-is a k nth end f in
       let w = ap (take (annotationSize (first a k) read)) (sym (text-is a k)) ∙ take-is (annotationText a) k (size-read a k nth end f) in
       subst (λ (s : List ℕ). Respelling firstPreferred a s) (sym w)
-      (kept-worded a (sym (ion-told (a .ion) (fault1 a k end (fault0 a k nth end f)) .units) ∙ g .units) (g .losses) (g .items)
+      (kept-respelled a (sym (ion-told (a .ion) (fault1 a k end (fault0 a k nth end f)) .units) ∙ g .units) (g .losses) (g .items)
       (sym (ap hasOne t) ∙ g .no-one))
 
   -- ---- part by part
@@ -87,14 +86,14 @@ module _ (a : Annotation Written) (k : List ℕ) (nth end : ℕ) (f : Fault) whe
     abbrev added : List (Item Number)
     added = adduct-is a k e i at kept .ls
 
-    abbrev table : Annotation Number
+    abbrev table : TableAnnotation
     table = tableOf a lost added
 
     table-says : Says a table
     table-says =
         let l = losses-are a k e i at kept in
         let x = adduct-is a k e i at kept in
-        said-so a lost added (l .same) (l .rise) (x .same) (x .rise)
+        says-so a lost added (l .same) (l .rise) (x .same) (x .rise)
 
     parts-are : partsSpelled (first a k) read ≡ spelledWith (first a k) (second a k) (isotopesOn a k) (adductOn a k) read
     unfolding partsSpelled
@@ -115,9 +114,9 @@ module _ (a : Annotation Written) (k : List ℕ) (nth end : ℕ) (f : Fault) whe
         parts-are ∙ (λ j. prefix j ++ (ion j ++ (losses j ++ (isotopes j ++ (adduct j ++ tail j)))))
         ∙ append-assoc (flagText (bytes "&") (a .marked)) (optText analyteText (a .analyte)) _
 
-    first-worded : Respelling firstPreferred a (annotationSpelled (first a k) read)
+    first-respelled : Respelling firstPreferred a (annotationSpelled (first a k) read)
     unfolding annotationSpelled
-    first-worded = by (isKept (read .front .ion) (read .middle .counts) (take (read .middle .len) (behindIon (first a k) read))) refl
+    first-respelled = by (isKept (read .front .ion) (read .middle .counts) (take (read .middle .len) (behindIon (first a k) read))) refl
       where
         by : (t : Bool) → isKept (read .front .ion) (read .middle .counts) (take (read .middle .len) (behindIon (first a k) read)) ≡ t
             → Respelling firstPreferred a (cond t (take (annotationSize (first a k) read) (first a k)) (partsSpelled (first a k) read))
@@ -125,12 +124,12 @@ module _ (a : Annotation Written) (k : List ℕ) (nth end : ℕ) (f : Fault) whe
         by false h = record { table = table; says = table-says; is = anew }
 
 -- the first of a line of `end` bytes
-pub annotation-worded : (a : Annotation Written) (k : List ℕ) (end i at : ℕ) → EndsAnnotation k → Kept (annotationMarks i a at)
+pub annotation-respelled : (a : SpelledAnnotation) (k : List ℕ) (end i at : ℕ) → EndsAnnotation k → Kept (annotationMarks i a at)
     → length (annotationText a ++ k) ≤ end → end ≤ maxPlace
     → Respelling firstPreferred a (annotationSpelled (annotationText a ++ k) (partsOf 0 end (annotationText a ++ k) (fault 0 0)))
-annotation-worded a k end i at e kept h m =
+annotation-respelled a k end i at e kept h m =
     let f = fault 0 0 in
     let t = text-is a k in
     let g : length (first a k) ≤ end = subst (λ (s : List ℕ). length s ≤ end) t h in
     subst (λ (s : List ℕ). Respelling firstPreferred a (annotationSpelled s (partsOf 0 end s f))) (sym t)
-    (subst (λ (p : Parts). Respelling firstPreferred a (annotationSpelled (first a k) p)) (parts-read a k 0 end f e g) (first-worded a k 0 end f e i at kept))
+    (subst (λ (p : Parts). Respelling firstPreferred a (annotationSpelled (first a k) p)) (parts-read a k 0 end f e g) (first-respelled a k 0 end f e i at kept))

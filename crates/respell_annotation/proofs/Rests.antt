@@ -9,12 +9,11 @@ use Rattle.lang.specs.Parts.{optText, flat}
 use Rattle.lang.specs.Mark.{Kept, here, later, marksOf}
 use Rattle.lang.specs.Walk.{Walked, walked}
 use Rattle.rules.specs.Bytes.{bytes}
-use Rattle.rules.specs.Formulas.{Written}
 use Rattle.rules.specs.Ions.{ionText, ionMap}
 use Rattle.rules.specs.Losses.{lossText, lossMap}
 use Rattle.rules.specs.Isotopes.{isotopesText, isotopesMap}
 use Rattle.rules.specs.Adducts.{adductText}
-use Rattle.rules.specs.Annotations.{Annotation, flagText, analyteText, chargeText, deviationText, confidenceText}
+use Rattle.rules.specs.Annotations.{SpelledAnnotation, flagText, analyteText, chargeText, deviationText, confidenceText}
 use Rattle.rules.specs.Fields.{filled}
 use Rattle.rules.specs.Preferred.{shortened, lossLe}
 use Rattle.rules.specs.Limits.{part, rowPart, ionParts, lossMarks, isotopesMarks, adductMarks, annotationParts, annotationMarks}
@@ -51,7 +50,7 @@ take-three u v w k =
 
 -- ---- part by part
 
-module _ (a : Annotation Written) (k : List ℕ) where
+module _ (a : SpelledAnnotation) (k : List ℕ) where
   pub prefix-is : take (prefixLength (a .marked) (a .analyte)) (first a k) ≡ flagText (bytes "&") (a .marked) ++ optText analyteText (a .analyte)
   prefix-is = take-two (flagText (bytes "&") (a .marked)) (optText analyteText (a .analyte)) (ionText (a .ion) ++ second a k)
 

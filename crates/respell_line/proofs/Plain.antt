@@ -17,10 +17,10 @@ use Rattle.rules.specs.Ions.{Ion, ionMap}
 use Rattle.rules.specs.Losses.{lossMap}
 use Rattle.rules.specs.Isotopes.{Isotopes, no-isotope, plain-isotope, average-isotope, specific-isotopes, isotopesMap}
 use Rattle.rules.specs.Adducts.{itemMap}
-use Rattle.rules.specs.Annotations.{Annotation, annotationMap}
+use Rattle.rules.specs.Annotations.{TableAnnotation, SpelledAnnotation}
 use Rattle.rules.specs.Lines.{Spelling, lineText}
-use Rattle.rules.specs.Fields.{Table, filled, Says}
-use Rattle.rules.specs.Preferred.{shortened, preferredSpelling, preferred}
+use Rattle.rules.specs.Fields.{filledAnnotation, Table, filled, Says}
+use Rattle.rules.specs.Preferred.{shortenedAnnotation, shortened, preferredSpelling, preferred}
 use Rattle.rules.specs.Stored.{ionFields, lostUnits, addedUnits, isotopeRecords}
 use Rattle.rules.proofs.Totals.{perm-length}
 use Rattle.put_bytes.specs.Puts.{maxPlace}
@@ -71,13 +71,13 @@ plain-parts n m p =
       record { losses = losses .1; isotopes = isotopes .1; items = items .1; units = units .1 },
     )
 
-ion-plain : (a : Annotation Written) → countsIn a .units ≡ 0 → length (ionFields (ionMap filled (a .ion)) .units) ≡ 0
+ion-plain : (a : SpelledAnnotation) → countsIn a .units ≡ 0 → length (ionFields (ionMap filled (a .ion)) .units) ≡ 0
 ion-plain a e =
-    let b = annotationMap filled a in
+    let b = filledAnnotation a in
     let others = flat (λ l. lostUnits (l .what)) (b .losses) ++ flat (λ x. addedUnits (x .what)) (b .adduct) in
     omega (arith, e, length-append (ionFields (b .ion) .units) others)
 
-first-said : (a : Annotation Written) (b : Annotation Number) → Says a b → Plain (countsIn a) → a ≡ annotationMap shortened b
+first-said : (a : SpelledAnnotation) (b : TableAnnotation) → Says a b → Plain (countsIn a) → a ≡ shortenedAnnotation b
 first-said a b s p =
     let e = s .fields in
     let ion = ion-said (a .ion) (b .ion) (e .ion) (ion-plain a (p .units)) in

@@ -16,25 +16,25 @@ use Rattle.put_bytes.specs.Puts.{maxPlace}
 use Rattle.shape.proofs.OneSpelling.{one-spelling}
 use Rattle.read_annotation.proofs.Respelling.{firstPreferred, nextPreferred, Respelling}
 use Rattle.respell_annotation.specs.Annotations.{annotationSpelled}
-use Rattle.respell_annotation.proofs.RespelledAnnotation.{annotation-worded}
+use Rattle.respell_annotation.proofs.RespelledAnnotation.{annotation-respelled}
 use Rattle.measure_line.specs.Totals.{partsAt, totalsOf}
-use Rattle.measure_line.proofs.EachGives.{Gives, line-given}
-use Rattle.measure_line.proofs.RespelledLine.{line-worded}
+use Rattle.measure_line.proofs.EachGives.{Gives, line-gives}
+use Rattle.measure_line.proofs.RespelledLine.{line-respelled}
 use Rattle.respell_line.specs.Plain.{isPlain, nextSpelled, lineSpelled, spellingOf}
 use Rattle.respell_line.proofs.Plain.{plain-preferred}
 
 -- a comma before each annotation but the first
-next-worded : Gives nextSpelled (Respelling nextPreferred)
-next-worded a k end i at e kept h small =
-    let x = annotation-worded a k end i at e kept h small in
+next-respelled : Gives nextSpelled (Respelling nextPreferred)
+next-respelled a k end i at e kept h small =
+    let x = annotation-respelled a k end i at e kept h small in
     record { table = x .table; says = x .says; is = ap (λ (w : List ℕ). bytes "," ++ w) (x .is) }
 
 -- annotation by annotation
 pub anew-preferred : (s : Spelling) (t : Table) → length (lineText s) ≤ maxPlace → Each Says s t → Kept (lineMarks s)
     → lineSpelled (lineText s) (partsAt (lineText s) 0) ≡ preferred t
 anew-preferred s t small says kept =
-    let g = line-given annotationSpelled nextSpelled (Respelling firstPreferred) (Respelling nextPreferred) annotation-worded next-worded s small kept in
-    let x = line-worded g in
+    let g = line-gives annotationSpelled nextSpelled (Respelling firstPreferred) (Respelling nextPreferred) annotation-respelled next-respelled s small kept in
+    let x = line-respelled g in
     x .is ∙ ap preferred (OneTable.one-table one-spelling (x .says) says)
 
 -- either way

@@ -17,9 +17,9 @@ use Rattle.rules.specs.Losses.{Lost, lost-formula, lost-name, lostMap, L
 use Rattle.rules.specs.Isotopes.{specificText, specificMap, Isotopes, no-isotope, plain-isotope, average-isotope, specific-isotopes}
 use Rattle.rules.specs.Isotopes.{isotopesText, isotopesMap}
 use Rattle.rules.specs.Adducts.{Added, added-formula, electron, addedMap, Item, itemText, adductText, itemMap}
-use Rattle.rules.specs.Annotations.{Annotation, annotationText, annotationMap}
+use Rattle.rules.specs.Annotations.{TableAnnotation, SpelledAnnotation, annotationText}
 use Rattle.rules.specs.Lines.{Spelling, nextText}
-use Rattle.rules.specs.Fields.{Table, filled, SameFields}
+use Rattle.rules.specs.Fields.{filledAnnotation, Table, filled, SameFields}
 use Rattle.rules.specs.Limits.{maxAnnotations, maxLosses, maxIsotopes, maxItems, maxUnits, maxText}
 use Rattle.rules.specs.Limits.{bare, part, optPart, closedPart, rowMarks, rowPart}
 use Rattle.rules.specs.Limits.{unitMarks, formulaPart, ionParts, lostPart, lossParts, lossMarks, specificMarks, isotopesMarks, addedPart, itemParts, itemMarks, adductMarks}
@@ -119,7 +119,7 @@ isotopes-few (specific-isotopes xs) at k =
 -- ---- an annotation
 
 -- how much an annotation within the limits has of everything that has a length
-pub record Bounded (a : Annotation Number) : Type 0 where
+pub record Bounded (a : TableAnnotation) : Type 0 where
   pub ion : Small (ionFields (a .ion) .units) (ionFields (a .ion) .text)
   pub losses : length (a .losses) ≤ maxLosses
   pub loss : (l : Loss Number) → In l (a .losses) → Small (lostUnits (l .what)) (lostName (l .what))
@@ -127,7 +127,7 @@ pub record Bounded (a : Annotation Number) : Type 0 where
   pub adduct : length (a .adduct) ≤ maxItems
   pub item : (x : Item Number) → In x (a .adduct) → length (addedUnits (x .what)) ≤ maxUnits
 
-pub kept-bounded : (i : ℕ) (a : Annotation Written) (at : ℕ) → Kept (annotationMarks i a at) → Bounded (annotationMap filled a)
+pub kept-bounded : (i : ℕ) (a : SpelledAnnotation) (at : ℕ) → Kept (annotationMarks i a at) → Bounded (filledAnnotation a)
 kept-bounded i a at k =
     let h : Kept (marksOf at (annotationParts a)) = kept-tail k in
     let ion = kept-part at (annotationParts a) h (part (ionText (a .ion)) (λ at. marksOf at (ionParts (a .ion)))) (later (later here)) in
@@ -152,7 +152,7 @@ kept-bounded i a at k =
     }
 
 -- the bounds do not depend on the order of losses and items
-pub same-bounded : {a b : Annotation Number} → SameFields a b → Bounded a → Bounded b
+pub same-bounded : {a b : TableAnnotation} → SameFields a b → Bounded a → Bounded b
 same-bounded {a} {b} e h =
     record {
       ion = subst (λ (x : Ion Number). Small (ionFields x .units) (ionFields x .text)) (e .ion) (h .ion);
@@ -174,7 +174,7 @@ pub each-in : {A B : Type 0} {R : A → B → Type 0} {l : List A} {m : List B} 
 each-in (next {a = a} r e) b here = (a, here, r)
 each-in (next r e) b (later i) = let c = each-in e b i in (c .0, later (c .1), c .2)
 
-next-few : (i : ℕ) (a : Annotation Written) (at : ℕ) → Kept (nextMarks i a at) → i < maxAnnotations
+next-few : (i : ℕ) (a : SpelledAnnotation) (at : ℕ) → Kept (nextMarks i a at) → i < maxAnnotations
 next-few i a at k = not-many maxAnnotations i (at + 1) _ k
 
 pub line-few : (s : Spelling) → Kept (lineMarks s) → length s ≤ maxAnnotations
@@ -185,7 +185,7 @@ line-few (a ∷ more) k =
     omega arith
 
 -- each annotation of a line is kept, at its place
-pub line-each : (s : Spelling) → Kept (lineMarks s) → (a : Annotation Written) → In a s → (i : ℕ) × (at : ℕ) × Kept (annotationMarks i a at)
+pub line-each : (s : Spelling) → Kept (lineMarks s) → (a : SpelledAnnotation) → In a s → (i : ℕ) × (at : ℕ) × Kept (annotationMarks i a at)
 line-each (a ∷ more) k b here =
     (0, 0, kept-left (annotationMarks 0 a 0) (rowMarks nextText nextMarks 1 more (length (annotationText a))) k)
 line-each (a ∷ more) k b (later i) =
@@ -193,13 +193,13 @@ line-each (a ∷ more) k b (later i) =
     let c = row-each nextText nextMarks 1 more (length (annotationText a)) (kept-right (annotationMarks 0 a 0) m k) b i in
     (c .0, c .1 + 1, c .2)
 
-pub line-bounded : (s : Spelling) → Kept (lineMarks s) → (a : Annotation Written) → In a s → Bounded (annotationMap filled a)
+pub line-bounded : (s : Spelling) → Kept (lineMarks s) → (a : SpelledAnnotation) → In a s → Bounded (filledAnnotation a)
 line-bounded s k a i = let c = line-each s k a i in kept-bounded (c .0) a (c .1) (c .2)
 
 pub table-few : (t : Table) → Sound t → length t ≤ maxAnnotations
 table-few t s = subst (λ (n : ℕ). n ≤ maxAnnotations) (each-length (s .says)) (line-few (s .spelling) (s .limits))
 
-pub table-bounded : (t : Table) → Sound t → (a : Annotation Number) → In a t → Bounded a
+pub table-bounded : (t : Table) → Sound t → (a : TableAnnotation) → In a t → Bounded a
 table-bounded t s a i =
     let c = each-in (s .says) a i in
     same-bounded (c .2 .fields) (line-bounded (s .spelling) (s .limits) (c .0) (c .1))

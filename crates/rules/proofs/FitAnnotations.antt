@@ -10,14 +10,13 @@ use Rattle.lang.specs.Mark.{In, here, later, Kept, marksOf}
 use Rattle.lang.proofs.Deriv.{and-0, and-1}
 use Rattle.rules.specs.Bytes.{bytes}
 use Rattle.rules.specs.Numbers.{From, Number}
-use Rattle.rules.specs.Formulas.{Written}
 use Rattle.rules.specs.Ions.{ionText}
 use Rattle.rules.specs.Losses.{Loss, lossText, lossMap}
 use Rattle.rules.specs.Isotopes.{Isotopes, isotopesText}
 use Rattle.rules.specs.Adducts.{Item, itemText, adductText, itemMap}
-use Rattle.rules.specs.Annotations.{Annotation, annotationMap}
+use Rattle.rules.specs.Annotations.{TableAnnotation, SpelledAnnotation}
 use Rattle.rules.specs.Lines.{Spelling}
-use Rattle.rules.specs.Fields.{Table, filled, SameFields}
+use Rattle.rules.specs.Fields.{filledAnnotation, Table, filled, SameFields}
 use Rattle.rules.specs.Limits.{maxPosition, maxCharge, bare, part, optPart, rowPart, ionParts}
 use Rattle.rules.specs.Limits.{lossMarks, isotopesMarks, itemMarks, adductMarks, analytePart, chargePart, deviationPart, confidencePart, annotationParts, annotationMarks}
 use Rattle.rules.specs.House.{isEmpty, ionRule, deviationRule, confidenceOf, one, annotationRules, firstBreach}
@@ -44,7 +43,7 @@ charge-within : (x : Opt (From 2)) (at : ℕ) → Kept (optPart chargePart x .ma
 charge-within silent at k = omega arith
 charge-within (written n) at k = not-past maxCharge (n .value) (λ b. k _ here b)
 
-pub record InRange (a : Annotation Number) : Type 0 where
+pub record InRange (a : TableAnnotation) : Type 0 where
   pub analyte : valueOr0 (λ n. n) (a .analyte) ≤ maxPosition
   pub ion : IonFits (a .ion)
   pub loss : (l : Loss Number) → In l (a .losses) → LossFits l
@@ -54,7 +53,7 @@ pub record InRange (a : Annotation Number) : Type 0 where
   pub deviation : DeviationFits (a .deviation)
   pub confidence : ConfidenceFits (a .confidence)
 
-kept-in-range : (i : ℕ) (a : Annotation Written) (at : ℕ) → Kept (annotationMarks i a at) → T (annotationRules a) → InRange (annotationMap filled a)
+kept-in-range : (i : ℕ) (a : SpelledAnnotation) (at : ℕ) → Kept (annotationMarks i a at) → T (annotationRules a) → InRange (filledAnnotation a)
 kept-in-range i a at k t =
     let h : Kept (marksOf at (annotationParts a)) = kept-tail k in
     let keep = kept-part at (annotationParts a) h in
@@ -87,7 +86,7 @@ kept-in-range i a at k t =
     }
 
 -- the ranges do not depend on the order of losses and items
-same-in-range : {a b : Annotation Number} → SameFields a b → InRange a → InRange b
+same-in-range : {a b : TableAnnotation} → SameFields a b → InRange a → InRange b
 same-in-range e r =
     record {
       analyte = subst (λ (x : Opt ℕ). valueOr0 (λ n. n) x ≤ maxPosition) (e .analyte) (r .analyte);
@@ -108,11 +107,11 @@ passed true more at e = (tt, e)
 passed false more at e = absurd (written-not-silent (written at) refl e)
 
 -- where no annotation of a line is the first that breaks a rule, each keeps the rules
-rules-each : (at : ℕ) (s : Spelling) → firstBreach at s ≡ silent → (a : Annotation Written) → In a s → T (annotationRules a)
+rules-each : (at : ℕ) (s : Spelling) → firstBreach at s ≡ silent → (a : SpelledAnnotation) → In a s → T (annotationRules a)
 rules-each at (a ∷ s) e b here = passed (annotationRules a) (firstBreach _ s) at e .0
 rules-each at (a ∷ s) e b (later i) = rules-each _ s (passed (annotationRules a) (firstBreach _ s) at e .1) b i
 
-pub table-in-range : (t : Table) → Sound t → (a : Annotation Number) → In a t → InRange a
+pub table-in-range : (t : Table) → Sound t → (a : TableAnnotation) → In a t → InRange a
 table-in-range t s a i =
     let c = each-in (s .says) a i in
     let k = line-each (s .spelling) (s .limits) (c .0) (c .1) in
@@ -124,7 +123,7 @@ present-small : {A : Type 0} (x : Opt A) → present x ≤ 1
 present-small silent = omega arith
 present-small (written x) = omega arith
 
-pub annotation-fits : (a : Annotation Number) → Bounded a → InRange a → Fits annotationWidths (annotationRecord a)
+pub annotation-fits : (a : TableAnnotation) → Bounded a → InRange a → Fits annotationWidths (annotationRecord a)
 annotation-fits a b r =
     omega (
       arith,

@@ -11,7 +11,7 @@ use Rattle.rules.specs.Formulas.{FormulaUnit, plain, labelled}
 use Rattle.rules.specs.Losses.{Loss}
 use Rattle.rules.specs.Isotopes.{Shift, Isotopes, no-isotope, plain-isotope, average-isotope, specific-isotopes}
 use Rattle.rules.specs.Adducts.{Item}
-use Rattle.rules.specs.Annotations.{Annotation}
+use Rattle.rules.specs.Annotations.{TableAnnotation}
 use Rattle.rules.specs.Fields.{Table}
 use Rattle.rules.specs.Stored.{little, Field, stores, unitRecord, lossRecord}
 use Rattle.rules.specs.Stored.{isotopeRecord, specificRecord, isotopeRecords, itemRecord, annotationRecord}
@@ -51,7 +51,7 @@ each-isotope (specific-isotopes xs) fs i = in-map specificRecord (λ fs. length 
 pub item-length : (x : Item Number) → length (stores (itemRecord x)) ≡ itemWidth
 item-length x = refl
 
-pub annotation-length : (a : Annotation Number) → length (stores (annotationRecord a)) ≡ annotationWidth
+pub annotation-length : (a : TableAnnotation) → length (stores (annotationRecord a)) ≡ annotationWidth
 annotation-length a = refl
 
 pub header-length : (t : Table) → length (stores (header t)) ≡ headerSize
@@ -113,7 +113,7 @@ stored-length t = omega (arith, body-length t)
 -- ---- the whole, annotation by annotation
 
 -- the bytes of the table that are an annotation's
-abbrev pub weight : Annotation Number → ℕ
+abbrev pub weight : TableAnnotation → ℕ
 weight a =
     annotationWidth + (lossWidth * length (a .losses) + (isotopeWidth * length (isotopeRecords (a .isotopes))
     + (itemWidth * length (a .adduct) + (unitWidth * length (annotationUnits a) + length (annotationTexts a)))))

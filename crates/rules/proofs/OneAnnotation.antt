@@ -9,7 +9,7 @@ use Rattle.lang.specs.Mark.{In, here, later}
 use Rattle.rules.specs.Numbers.{Number}
 use Rattle.rules.specs.Formulas.{FormulaUnit}
 use Rattle.rules.specs.Decimals.{Decimal}
-use Rattle.rules.specs.Annotations.{Deviation, Annotation}
+use Rattle.rules.specs.Annotations.{TableAnnotation, Deviation}
 use Rattle.rules.specs.Fields.{Table}
 use Rattle.rules.specs.Stored.{present, valueOr0, ionFields, lostUnits, lostName, lossRecord, isotopeRecords, addedUnits, itemRecord}
 use Rattle.rules.specs.Stored.{deviationKind, signed, annotationRecord}
@@ -61,7 +61,7 @@ pub record SameParts (t u : Table) : Type 0 where
   pub texts : textsOf t ≡ textsOf u
 
 -- the units of the first annotation: its ion's, its losses', its items', and then those of the others
-units-along : (a : Annotation Number) (t : Table) → unitsOf (a ∷ t)
+units-along : (a : TableAnnotation) (t : Table) → unitsOf (a ∷ t)
     ≡ ionFields (a .ion) .units ++ (flat (λ l. lostUnits (l .what)) (a .losses) ++ (flat (λ x. addedUnits (x .what)) (a .adduct) ++ unitsOf t))
 units-along a t =
     let u = ionFields (a .ion) .units in
@@ -70,11 +70,11 @@ units-along a t =
     append-assoc u (l ++ x) (unitsOf t) ∙ ap (λ (r : List (FormulaUnit Number)). u ++ r) (append-assoc l x (unitsOf t))
 
 -- the text of its ion, the names of its losses, and then the texts of the others
-texts-along : (a : Annotation Number) (t : Table) → textsOf (a ∷ t) ≡ ionFields (a .ion) .text ++ (flat (λ l. lostName (l .what)) (a .losses) ++ textsOf t)
+texts-along : (a : TableAnnotation) (t : Table) → textsOf (a ∷ t) ≡ ionFields (a .ion) .text ++ (flat (λ l. lostName (l .what)) (a .losses) ++ textsOf t)
 texts-along a t = append-assoc (ionFields (a .ion) .text) (flat (λ l. lostName (l .what)) (a .losses)) (textsOf t)
 
 -- the numbers below are places of fields in the record
-annotation-one : (a b : Annotation Number) (t u : Table) → sizeOf (a .deviation) < 10 ^ maxDigits → sizeOf (b .deviation) < 10 ^ maxDigits
+annotation-one : (a b : TableAnnotation) (t u : Table) → sizeOf (a .deviation) < 10 ^ maxDigits → sizeOf (b .deviation) < 10 ^ maxDigits
     → annotationRecord a ≡ annotationRecord b → SameParts (a ∷ t) (b ∷ u) → (a ≡ b) × SameParts t u
 annotation-one a b t u h g e p =
     let ls = cut-map lossRecord (a .losses) (lossesOf t) (b .losses) (lossesOf u) (ap (valueAt 17) e) (p .losses) in
@@ -104,8 +104,8 @@ annotation-one a b t u h g e p =
     } in
     (one, record { losses = ls .1; isotopes = is .1; items = xs .1; units = x .1; texts = l .2 })
 
-pub table-one : (t u : Table) → ((a : Annotation Number) → In a t → sizeOf (a .deviation) < 10 ^ maxDigits)
-    → ((a : Annotation Number) → In a u → sizeOf (a .deviation) < 10 ^ maxDigits)
+pub table-one : (t u : Table) → ((a : TableAnnotation) → In a t → sizeOf (a .deviation) < 10 ^ maxDigits)
+    → ((a : TableAnnotation) → In a u → sizeOf (a .deviation) < 10 ^ maxDigits)
     → map annotationRecord t ≡ map annotationRecord u → SameParts t u → t ≡ u
 table-one [] [] h g e p = refl
 table-one [] (b ∷ u) h g e p = absurd (nil≢cons e)

@@ -10,7 +10,7 @@ use Rattle.rules.specs.Numbers.{Number}
 use Rattle.rules.specs.Formulas.{FormulaUnit}
 use Rattle.rules.specs.Losses.{Loss}
 use Rattle.rules.specs.Adducts.{Item}
-use Rattle.rules.specs.Annotations.{Annotation}
+use Rattle.rules.specs.Annotations.{TableAnnotation}
 use Rattle.rules.specs.Fields.{Table}
 use Rattle.rules.specs.Stored.{Field, stores, ionFields, lostUnits, lossRecord, isotopeRecords, addedUnits, itemRecord, unitRecord}
 use Rattle.rules.specs.Stored.{annotationRecord, annotationUnits, Section, section, sections, headerSize, counts, body, header, stored}
@@ -79,7 +79,7 @@ body-one t u h e =
 -- ---- the records of a sound table fit
 
 module _ (t : Table) (s : Sound t) where
-  annotations-fit : (a : Annotation Number) → In a t → Fits annotationWidths (annotationRecord a)
+  annotations-fit : (a : TableAnnotation) → In a t → Fits annotationWidths (annotationRecord a)
   annotations-fit a i = annotation-fits a (table-bounded t s a i) (table-in-range t s a i)
 
   losses-fit : (l : Loss Number) → In l (lossesOf t) → Fits lossWidths (lossRecord l)

@@ -7,8 +7,7 @@ use lib.Dec.{T}
 use Rattle.lang.specs.Order.{rising, Each, none, next}
 use Rattle.lang.proofs.Deriv.{and-0, and-1}
 use Rattle.lang.proofs.Sort.{perm-joined, rising-one}
-use Rattle.rules.specs.Numbers.{Number}
-use Rattle.rules.specs.Annotations.{Annotation}
+use Rattle.rules.specs.Annotations.{TableAnnotation}
 use Rattle.rules.specs.Lines.{Spelling, lineText}
 use Rattle.rules.specs.Preferred.{lossLe, itemLe}
 use Rattle.rules.specs.Fields.{Table, inOrder, SameFields, Says, Spells}
@@ -17,14 +16,14 @@ use Rattle.rules.proofs.PreferredSpells.{AllInOrder, no-more, one-more,
 use Rattle.rules.proofs.Anti.{loss-anti, item-anti}
 
 -- the two halves of the order of an annotation
-losses-rise : (a : Annotation Number) → T (inOrder a) → T (rising lossLe (a .losses))
+losses-rise : (a : TableAnnotation) → T (inOrder a) → T (rising lossLe (a .losses))
 losses-rise a h = and-0 (rising lossLe (a .losses)) (rising itemLe (a .adduct)) h
 
-items-rise : (a : Annotation Number) → T (inOrder a) → T (rising itemLe (a .adduct))
+items-rise : (a : TableAnnotation) → T (inOrder a) → T (rising itemLe (a .adduct))
 items-rise a h = and-1 (rising lossLe (a .losses)) (rising itemLe (a .adduct)) h
 
 module _ (one-spelling : (s u : Spelling) → lineText s ≡ lineText u → s ≡ u) where
-  pub same-fields-one : (a b c : Annotation Number) → SameFields a b → SameFields a c → T (inOrder b) → T (inOrder c) → b ≡ c
+  pub same-fields-one : (a b c : TableAnnotation) → SameFields a b → SameFields a c → T (inOrder b) → T (inOrder c) → b ≡ c
   same-fields-one a b c p q h g =
       λ i. record {
         marked = (sym (p .marked) ∙ q .marked) i;

@@ -3,10 +3,9 @@ use mathlib.Core.Path.{refl, sym, subst}
 use mathlib.Core.List.{[], _∷_}
 use lib.Dec.{T}
 use Rattle.lang.specs.Order.{same, Each, none, next}
-use Rattle.rules.specs.Numbers.{Number}
-use Rattle.rules.specs.Annotations.{Annotation, annotationMap}
+use Rattle.rules.specs.Annotations.{TableAnnotation}
 use Rattle.rules.specs.Lines.{Spelling}
-use Rattle.rules.specs.Preferred.{shortened, preferredSpelling, preferred}
+use Rattle.rules.specs.Preferred.{shortenedAnnotation, preferredSpelling, preferred}
 use Rattle.rules.specs.Fields.{Table, inOrder, SameFields, Says, Spells}
 use Rattle.rules.specs.Answers.{Sound}
 use Rattle.rules.proofs.Shortened.{annotation-filled}
@@ -14,19 +13,19 @@ use Rattle.rules.proofs.Shortened.{annotation-filled}
 -- the losses and adduct items of each annotation stand in preferred order
 pub data AllInOrder : Table → Type 0 where
   no-more : AllInOrder []
-  one-more : {a : Annotation Number} {t : Table} → T (inOrder a) → AllInOrder t → AllInOrder (a ∷ t)
+  one-more : {a : TableAnnotation} {t : Table} → T (inOrder a) → AllInOrder t → AllInOrder (a ∷ t)
 
 -- what a spelling means is in order
 pub said-in-order : {s : Spelling} {t : Table} → Each Says s t → AllInOrder t
 said-in-order none = no-more
 said-in-order (next x e) = one-more (x .order) (said-in-order e)
 
-pub same-self : (a : Annotation Number) → SameFields a a
+pub same-self : (a : TableAnnotation) → SameFields a a
 same-self a =
     record { marked = refl; analyte = refl; ion = refl; losses = same; isotopes = refl; adduct = same; charge = refl; deviation = refl; confidence = refl }
 
-says-shortened : (a : Annotation Number) → T (inOrder a) → Says (annotationMap shortened a) a
-says-shortened a h = record { fields = subst (λ (b : Annotation Number). SameFields b a) (sym (annotation-filled a)) (same-self a); order = h }
+says-shortened : (a : TableAnnotation) → T (inOrder a) → Says (shortenedAnnotation a) a
+says-shortened a h = record { fields = subst (λ (b : TableAnnotation). SameFields b a) (sym (annotation-filled a)) (same-self a); order = h }
 
 pub preferred-says : {t : Table} → AllInOrder t → Each Says (preferredSpelling t) t
 preferred-says no-more = none

@@ -9,9 +9,8 @@ use Rattle.lang.proofs.Rising.{room, none, also, rise-none, rise-wide, rise-app
 use Rattle.rules.specs.Bytes.{bytes}
 use Rattle.rules.specs.Numbers.{digits, From}
 use Rattle.rules.specs.Decimals.{Decimal}
-use Rattle.rules.specs.Formulas.{Written}
 use Rattle.rules.specs.Losses.{lossText}
-use Rattle.rules.specs.Annotations.{Deviation, Annotation, flagText, chargeText, deviationText, confidenceText, annotationText}
+use Rattle.rules.specs.Annotations.{SpelledAnnotation, Deviation, flagText, chargeText, deviationText, confidenceText, annotationText}
 use Rattle.rules.specs.Lines.{Spelling, nextText, lineText}
 use Rattle.rules.specs.Limits.{maxPosition, maxCharge, lossMarks, analytePart, chargePart, deviationPart, confidencePart}
 use Rattle.rules.specs.Limits.{annotationParts, annotationMarks, nextMarks, lineMarks}
@@ -40,7 +39,7 @@ confidence-fits d =
     let s = decimal-some d in
     record { rises = λ at. rise-wide (omega arith) (le-refl _) (decimal-rises d (at + 1) (at + length (confidenceText d)) (omega arith)) }
 
-annotation-parts : (a : Annotation Written) → AllFit (annotationParts a)
+annotation-parts : (a : SpelledAnnotation) → AllFit (annotationParts a)
 annotation-parts a =
     also (bare-fits (flagText (bytes "&") (a .marked))) (also (opt-fits analytePart analyte-fits (a .analyte))
     (also (record { rises = ion-rises (a .ion) }) (also (row-fits lossText lossMarks loss-rises (a .losses))
@@ -48,7 +47,7 @@ annotation-parts a =
     (also (opt-fits chargePart charge-fits (a .charge)) (also (opt-fits deviationPart deviation-fits (a .deviation))
     (also (opt-fits confidencePart confidence-fits (a .confidence)) none))))))))
 
-annotation-room : (a : Annotation Written) → room (annotationParts a) ≤ length (annotationText a)
+annotation-room : (a : SpelledAnnotation) → room (annotationParts a) ≤ length (annotationText a)
 annotation-room a =
     simp length-append (omega (
       arith,
@@ -58,17 +57,17 @@ annotation-room a =
       opt-length confidencePart (a .confidence),
     ))
 
-annotation-some : (a : Annotation Written) → 0 < length (annotationText a)
+annotation-some : (a : SpelledAnnotation) → 0 < length (annotationText a)
 annotation-some a = simp length-append (omega (arith, ion-some (a .ion)))
 
-annotation-rises : (i : ℕ) (a : Annotation Written) (at : ℕ) → Rises at (at + length (annotationText a)) (annotationMarks i a at)
+annotation-rises : (i : ℕ) (a : SpelledAnnotation) (at : ℕ) → Rises at (at + length (annotationText a)) (annotationMarks i a at)
 annotation-rises i a at =
     let n = length (annotationText a) in
     many-first _ i at n (annotation-some a) (parts-within (annotation-parts a) at n (annotation-room a))
 
 -- ---- a line
 
-next-rises : (i : ℕ) (a : Annotation Written) (at : ℕ) → Rises at (at + length (nextText a)) (nextMarks i a at)
+next-rises : (i : ℕ) (a : SpelledAnnotation) (at : ℕ) → Rises at (at + length (nextText a)) (nextMarks i a at)
 next-rises i a at = rise-wide (omega arith) (omega arith) (annotation-rises i a (at + 1))
 
 pub line-rises : (s : Spelling) → Rises 0 (length (lineText s)) (lineMarks s)

@@ -15,9 +15,9 @@ use Rattle.rules.specs.Ions.{Ion, series, internal, immonium, precursor,
 use Rattle.rules.specs.Losses.{Lost, lost-formula, lost-name, lostMap, Loss, lossMap}
 use Rattle.rules.specs.Isotopes.{Shift, shiftMap, Specific, specificMap, Isotopes, no-isotope, plain-isotope, average-isotope, specific-isotopes, isotopesMap}
 use Rattle.rules.specs.Adducts.{Added, added-formula, electron, addedMap, Item, itemMap}
-use Rattle.rules.specs.Annotations.{Annotation, annotationMap}
-use Rattle.rules.specs.Fields.{Table, filled}
-use Rattle.rules.specs.Preferred.{shortened, preferredSpelling}
+use Rattle.rules.specs.Annotations.{TableAnnotation, Annotation, annotationMap}
+use Rattle.rules.specs.Fields.{filledAnnotation, Table, filled}
+use Rattle.rules.specs.Preferred.{shortenedAnnotation, shortened, preferredSpelling}
 
 -- numbers with a least value are equal where their values are
 pub from-path : {m : ℕ} (x y : From m) → x .value ≡ y .value → x ≡ y
@@ -110,8 +110,8 @@ lost-filled = lost-back shortened filled filled-shortened
 pub added-filled : (v : Added Number) → addedMap filled (addedMap shortened v) ≡ v
 added-filled = added-back shortened filled filled-shortened
 
-pub annotation-filled : (v : Annotation Number) → annotationMap filled (annotationMap shortened v) ≡ v
+pub annotation-filled : (v : TableAnnotation) → filledAnnotation (shortenedAnnotation v) ≡ v
 annotation-filled = annotation-back shortened filled filled-shortened
 
-pub table-filled : (t : Table) → map (annotationMap filled) (preferredSpelling t) ≡ t
-table-filled = map-back (annotationMap shortened) (annotationMap filled) annotation-filled
+pub table-filled : (t : Table) → map filledAnnotation (preferredSpelling t) ≡ t
+table-filled = map-back shortenedAnnotation filledAnnotation annotation-filled

@@ -7,7 +7,7 @@ use Rattle.lang.specs.Parts.{flat}
 use Rattle.lang.specs.Mark.{In, here, later}
 use Rattle.rules.specs.Numbers.{Number}
 use Rattle.rules.specs.Losses.{Loss}
-use Rattle.rules.specs.Annotations.{Annotation}
+use Rattle.rules.specs.Annotations.{TableAnnotation}
 use Rattle.rules.specs.Fields.{Table}
 use Rattle.rules.specs.Limits.{maxUnits, maxText}
 use Rattle.rules.specs.Layout.{unitWidth}
@@ -29,7 +29,7 @@ losses-weigh ls h =
       total-times unitWidth (λ l. length (lostUnits (l .what))) ls,
     )
 
-pub weight-fits : (a : Annotation Number) → Bounded a → weight a ≤ maxAnnotationBytes
+pub weight-fits : (a : TableAnnotation) → Bounded a → weight a ≤ maxAnnotationBytes
 weight-fits a h =
     let u = ionFields (a .ion) .units in
     let lu = flat (λ l. lostUnits (l .what)) (a .losses) in

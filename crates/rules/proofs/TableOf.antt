@@ -1,14 +1,13 @@
 -- The table of a spelling, as a function: its losses and adduct items sorted. Assumes nothing.
 use mathlib.Core.List.{map}
 use Rattle.lang.proofs.Sort.{sorted}
-use Rattle.rules.specs.Numbers.{Number}
-use Rattle.rules.specs.Annotations.{Annotation, annotationMap}
+use Rattle.rules.specs.Annotations.{TableAnnotation}
 use Rattle.rules.specs.Lines.{Spelling}
 use Rattle.rules.specs.Preferred.{lossLe, itemLe}
-use Rattle.rules.specs.Fields.{Table, filled}
+use Rattle.rules.specs.Fields.{filledAnnotation, Table}
 
 -- an annotation with its losses and its adduct items in preferred order
-abbrev pub arranged : Annotation Number → Annotation Number
+abbrev pub arranged : TableAnnotation → TableAnnotation
 arranged a =
     record {
       marked = a .marked;
@@ -23,4 +22,4 @@ arranged a =
     }
 
 abbrev pub tableOf : Spelling → Table
-tableOf s = map (λ a. arranged (annotationMap filled a)) s
+tableOf s = map (λ a. arranged (filledAnnotation a)) s

@@ -7,7 +7,7 @@ use Rattle.rules.specs.Formulas.{FormulaUnit, plain, labelled}
 use Rattle.rules.specs.Losses.{Loss}
 use Rattle.rules.specs.Isotopes.{Shift}
 use Rattle.rules.specs.Adducts.{Item}
-use Rattle.rules.specs.Annotations.{Annotation}
+use Rattle.rules.specs.Annotations.{TableAnnotation}
 use Rattle.rules.specs.Fields.{Table}
 use Rattle.rules.specs.Stored.{unitRecord, lossRecord, isotopeRecord, itemRecord, annotationRecord, headerSize, header}
 use Rattle.rules.specs.Largest.{maxAnyTable, maxTable}
@@ -19,7 +19,7 @@ header-widths t = refl
 pub header-sum : sum headerWidths ≡ headerSize
 header-sum = refl
 
-pub annotation-widths : (a : Annotation Number) → widths (annotationRecord a) ≡ annotationWidths
+pub annotation-widths : (a : TableAnnotation) → widths (annotationRecord a) ≡ annotationWidths
 annotation-widths a = refl
 
 pub loss-widths : (l : Loss Number) → widths (lossRecord l) ≡ lossWidths

@@ -1,3 +1,4 @@
+-- The worked lines with their tables, and computed cases of classes, order and bounds: the list of these files. Assumes nothing.
 pub mod Spell
 pub mod Row
 pub mod Ions

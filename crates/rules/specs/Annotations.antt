@@ -5,7 +5,7 @@ use mathlib.Core.Bool.{Bool, true, false}
 use mathlib.Core.List.{List, [], _++_, map}
 use Rattle.lang.specs.Parts.{Opt, optText, flat}
 use Rattle.rules.specs.Bytes.{bytes}
-use Rattle.rules.specs.Numbers.{digits, From, numberText}
+use Rattle.rules.specs.Numbers.{digits, From, Number, numberText}
 use Rattle.rules.specs.Decimals.{Decimal, decimalText}
 use Rattle.rules.specs.Formulas.{Written}
 use Rattle.rules.specs.Ions.{Ion, ionText, ionMap}
@@ -30,6 +30,13 @@ pub record Annotation (Free : Type 0) : Type 0 where
   pub deviation : Opt Deviation
   pub confidence : Opt Decimal
 
+-- an annotation as it is spelled, and as a table has it
+abbrev pub SpelledAnnotation : Type 0
+SpelledAnnotation = Annotation Written
+
+abbrev pub TableAnnotation : Type 0
+TableAnnotation = Annotation Number
+
 -- there, or not
 abbrev pub flagText : List ℕ → Bool → List ℕ
 flagText w true = w
@@ -49,7 +56,7 @@ deviationText d = bytes "/" ++ (flagText (bytes "-") (d .minus) ++ (decimalText 
 abbrev pub confidenceText : Decimal → List ℕ
 confidenceText d = bytes "*" ++ decimalText d
 
-abbrev pub annotationText : Annotation Written → List ℕ
+abbrev pub annotationText : SpelledAnnotation → List ℕ
 annotationText a =
     flagText (bytes "&") (a .marked) ++ (optText analyteText (a .analyte) ++ (ionText (a .ion)
     ++ (flat lossText (a .losses) ++ (isotopesText (a .isotopes) ++ (adductText (a .adduct)

@@ -10,24 +10,28 @@ use Rattle.lang.specs.Parts.{silent, written}
 use Rattle.lang.specs.Order.{Perm, rising, Each}
 use Rattle.rules.specs.Numbers.{Number}
 use Rattle.rules.specs.Formulas.{Written}
-use Rattle.rules.specs.Annotations.{Annotation, annotationMap}
+use Rattle.rules.specs.Annotations.{TableAnnotation, SpelledAnnotation, annotationMap}
 use Rattle.rules.specs.Lines.{Spelling, lineText}
 use Rattle.rules.specs.Preferred.{lossLe, itemLe}
 
 abbrev pub Table : Type 0
-Table = List (Annotation Number)
+Table = List TableAnnotation
 
 -- a count left out is 1
 abbrev pub filled : Written → Number
 filled silent = record { value = 1; least = tt }
 filled (written n) = n
 
+-- an annotation with every count that is left out filled in
+abbrev pub filledAnnotation : SpelledAnnotation → TableAnnotation
+filledAnnotation a = annotationMap filled a
+
 -- the losses, and the adduct items, stand in preferred order
-abbrev pub inOrder : Annotation Number → Bool
+abbrev pub inOrder : TableAnnotation → Bool
 inOrder a = rising lossLe (a .losses) && rising itemLe (a .adduct)
 
 -- the fields of an annotation are those of another: the losses and the adduct items in any order, all else the same
-pub record SameFields (a b : Annotation Number) : Type 0 where
+pub record SameFields (a b : TableAnnotation) : Type 0 where
   pub marked : a .marked ≡ b .marked
   pub analyte : a .analyte ≡ b .analyte
   pub ion : a .ion ≡ b .ion
@@ -39,8 +43,8 @@ pub record SameFields (a b : Annotation Number) : Type 0 where
   pub confidence : a .confidence ≡ b .confidence
 
 -- an annotation as it is written, and as a table has it
-pub record Says (a : Annotation Written) (b : Annotation Number) : Type 0 where
-  pub fields : SameFields (annotationMap filled a) b
+pub record Says (a : SpelledAnnotation) (b : TableAnnotation) : Type 0 where
+  pub fields : SameFields (filledAnnotation a) b
   pub order : T (inOrder b)
 
 -- some spelling of the line means the table

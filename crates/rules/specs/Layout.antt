@@ -13,7 +13,7 @@ use Rattle.rules.specs.Ions.{precursor}
 use Rattle.rules.specs.Losses.{minus, lost-name, Loss}
 use Rattle.rules.specs.Isotopes.{Shift, no-isotope}
 use Rattle.rules.specs.Adducts.{electron, Item}
-use Rattle.rules.specs.Annotations.{Annotation}
+use Rattle.rules.specs.Annotations.{TableAnnotation}
 use Rattle.rules.specs.Elements.{symbols}
 use Rattle.rules.specs.Stored.{Field, unitRecord, lossRecord, isotopeRecord, itemRecord, annotationRecord, header}
 
@@ -60,7 +60,7 @@ abbrev pub plainItem : Item Number
 plainItem = record { sign = minus; count = one; what = electron }
 
 -- `p`
-abbrev pub plainAnnotation : Annotation Number
+abbrev pub plainAnnotation : TableAnnotation
 plainAnnotation =
     record {
       marked = false;

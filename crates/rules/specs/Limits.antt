@@ -16,7 +16,7 @@ use Rattle.rules.specs.Ions.{Ion, series, internal, immonium, precursor,
 use Rattle.rules.specs.Losses.{signText, Lost, lost-formula, lost-name, Loss, lossText}
 use Rattle.rules.specs.Isotopes.{Shift, shiftText, Specific, specificText, Isotopes, no-isotope, plain-isotope, average-isotope, specific-isotopes, isotopesText}
 use Rattle.rules.specs.Adducts.{Added, added-formula, electron, addedText, Item, itemText, adductText}
-use Rattle.rules.specs.Annotations.{Deviation, Annotation, flagText, analyteText, chargeText, deviationText, confidenceText, annotationText}
+use Rattle.rules.specs.Annotations.{SpelledAnnotation, Deviation, flagText, analyteText, chargeText, deviationText, confidenceText, annotationText}
 use Rattle.rules.specs.Lines.{Spelling, nextText}
 
 -- ---- the bounds
@@ -179,18 +179,18 @@ deviationPart d = part (deviationText d) (λ at. marksOf at (bare (bytes "/") �
 abbrev pub confidencePart : Decimal → Part
 confidencePart d = part (confidenceText d) (λ at. decimalMark d (at + 1))
 
-abbrev pub annotationParts : Annotation Written → List Part
+abbrev pub annotationParts : SpelledAnnotation → List Part
 annotationParts a =
     bare (flagText (bytes "&") (a .marked)) ∷ optPart analytePart (a .analyte) ∷ part (ionText (a .ion)) (λ at. marksOf at (ionParts (a .ion)))
     ∷ rowPart lossText lossMarks (a .losses) ∷ part (isotopesText (a .isotopes)) (isotopesMarks (a .isotopes))
     ∷ part (adductText (a .adduct)) (adductMarks (a .adduct)) ∷ optPart chargePart (a .charge) ∷ optPart deviationPart (a .deviation)
     ∷ optPart confidencePart (a .confidence) ∷ []
 
-abbrev pub annotationMarks : ℕ → Annotation Written → ℕ → List Mark
+abbrev pub annotationMarks : ℕ → SpelledAnnotation → ℕ → List Mark
 annotationMarks i a at = manyMark maxAnnotations i at ∷ marksOf at (annotationParts a)
 
 -- an annotation after the first stands behind its comma
-abbrev pub nextMarks : ℕ → Annotation Written → ℕ → List Mark
+abbrev pub nextMarks : ℕ → SpelledAnnotation → ℕ → List Mark
 nextMarks i a at = annotationMarks i a (at + 1)
 
 abbrev pub lineMarks : Spelling → List Mark

@@ -6,14 +6,13 @@ use lib.ListN.{length}
 use Rattle.lang.specs.Parts.{flat}
 use Rattle.lang.specs.Scan.{Begins, Stray}
 use Rattle.rules.specs.Bytes.{bytes}
-use Rattle.rules.specs.Formulas.{Written}
-use Rattle.rules.specs.Annotations.{Annotation, annotationText}
+use Rattle.rules.specs.Annotations.{SpelledAnnotation, annotationText}
 
 -- a spelling: every choice that a writer of lines has
 abbrev pub Spelling : Type 0
-Spelling = List (Annotation Written)
+Spelling = List SpelledAnnotation
 
-abbrev pub nextText : Annotation Written → List ℕ
+abbrev pub nextText : SpelledAnnotation → List ℕ
 nextText a = bytes "," ++ annotationText a
 
 abbrev pub lineText : Spelling → List ℕ

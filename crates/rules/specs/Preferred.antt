@@ -10,7 +10,7 @@ use Rattle.rules.specs.Numbers.{From, Number}
 use Rattle.rules.specs.Formulas.{Written}
 use Rattle.rules.specs.Losses.{Sign, minus, plus, Loss, lostText, lostMap}
 use Rattle.rules.specs.Adducts.{Item, addedText, addedMap}
-use Rattle.rules.specs.Annotations.{Annotation, annotationMap}
+use Rattle.rules.specs.Annotations.{TableAnnotation, SpelledAnnotation, annotationMap}
 use Rattle.rules.specs.Lines.{Spelling, lineText}
 
 -- a 1 is left out
@@ -55,8 +55,12 @@ itemLe x y = lexLe (itemKey x) (itemKey y)
 
 -- ---- the spelling of a table, whose losses and adduct items stand in order
 
-abbrev pub preferredSpelling : List (Annotation Number) → Spelling
-preferredSpelling t = map (annotationMap shortened) t
+-- an annotation of a table, each 1 left out that may be
+abbrev pub shortenedAnnotation : TableAnnotation → SpelledAnnotation
+shortenedAnnotation a = annotationMap shortened a
 
-abbrev pub preferred : List (Annotation Number) → List ℕ
+abbrev pub preferredSpelling : List TableAnnotation → Spelling
+preferredSpelling t = map shortenedAnnotation t
+
+abbrev pub preferred : List TableAnnotation → List ℕ
 preferred t = lineText (preferredSpelling t)

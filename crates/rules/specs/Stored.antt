@@ -11,7 +11,7 @@ use Rattle.rules.specs.Ions.{Ion, series, internal, immonium, precursor,
 use Rattle.rules.specs.Losses.{Lost, lost-formula, lost-name, Loss}
 use Rattle.rules.specs.Isotopes.{Shift, Specific, Isotopes, no-isotope, plain-isotope, average-isotope, specific-isotopes}
 use Rattle.rules.specs.Adducts.{Added, added-formula, electron, Item}
-use Rattle.rules.specs.Annotations.{Deviation, Annotation}
+use Rattle.rules.specs.Annotations.{TableAnnotation, Deviation}
 use Rattle.rules.specs.Preferred.{signRank, countOr1}
 
 -- n bytes of v, little-endian
@@ -152,7 +152,7 @@ abbrev pub signed : Bool → ℕ → ℕ
 signed true n = 2 ^ 64 - n
 signed false n = n
 
-abbrev pub annotationRecord : Annotation Number → List Field
+abbrev pub annotationRecord : TableAnnotation → List Field
 annotationRecord a =
     u8 (kind (a .ion)) ∷ u8 (flag (a .marked)) ∷ u8 (present (a .analyte)) ∷ u8 (ionFields (a .ion) .letter)
     ∷ u16 (valueOr0 (λ n. n) (a .analyte)) ∷ u16 (ionFields (a .ion) .position) ∷ u16 (ionFields (a .ion) .end)
@@ -165,10 +165,10 @@ annotationRecord a =
 -- ---- sections
 
 -- the ion's, then each loss's, then each adduct item's
-abbrev pub annotationUnits : Annotation Number → List (FormulaUnit Number)
+abbrev pub annotationUnits : TableAnnotation → List (FormulaUnit Number)
 annotationUnits a = ionFields (a .ion) .units ++ (flat (λ l. lostUnits (l .what)) (a .losses) ++ flat (λ x. addedUnits (x .what)) (a .adduct))
 
-abbrev pub annotationTexts : Annotation Number → List ℕ
+abbrev pub annotationTexts : TableAnnotation → List ℕ
 annotationTexts a = ionFields (a .ion) .text ++ flat (λ l. lostName (l .what)) (a .losses)
 
 -- a section: how many, and their bytes
@@ -179,7 +179,7 @@ pub record Section : Type 0 where
 abbrev pub section : {A : Type 0} → (A → List Field) → List A → Section
 section f xs = record { count = length xs; bytes = flat (λ x. stores (f x)) xs }
 
-abbrev pub sections : List (Annotation Number) → List Section
+abbrev pub sections : List TableAnnotation → List Section
 sections t =
     section annotationRecord t ∷ section lossRecord (flat (λ a. a .losses) t) ∷ section (λ x. x) (flat (λ a. isotopeRecords (a .isotopes)) t)
     ∷ section itemRecord (flat (λ a. a .adduct) t) ∷ section unitRecord (flat annotationUnits t)
@@ -198,11 +198,11 @@ abbrev pub counts : ℕ → List Section → List Field
 counts at [] = []
 counts at (s ∷ ss) = u16 (s .count) ∷ u16 at ∷ counts (at + length (s .bytes)) ss
 
-abbrev pub body : List (Annotation Number) → List ℕ
+abbrev pub body : List TableAnnotation → List ℕ
 body t = flat (λ s. s .bytes) (sections t)
 
-abbrev pub header : List (Annotation Number) → List Field
+abbrev pub header : List TableAnnotation → List Field
 header t = u16 edition ∷ u16 (headerSize + length (body t)) ∷ counts headerSize (sections t)
 
-abbrev pub stored : List (Annotation Number) → List ℕ
+abbrev pub stored : List TableAnnotation → List ℕ
 stored t = stores (header t) ++ body t

@@ -7,8 +7,8 @@ use Rattle.put_bytes.proofs.One.{put-one}
 use Rattle.answers.specs.declared.Answer.{Answer}
 use Rattle.run_relabel.specs.AnswerPut.{AnswerPut}
 
-pub told-one : {d e f : List ℕ} {at r q : ℕ} {a : Answer} → AnswerPut d at a e r → AnswerPut d at a f q → (e ≡ f) × (r ≡ q)
-told-one {e = e} {f = f} {r = r} {q = q} {a = a} x y = by (ℕ-discrete (a .number) 0)
+pub answer-put-one : {d e f : List ℕ} {at r q : ℕ} {a : Answer} → AnswerPut d at a e r → AnswerPut d at a f q → (e ≡ f) × (r ≡ q)
+answer-put-one {e = e} {f = f} {r = r} {q = q} {a = a} x y = by (ℕ-discrete (a .number) 0)
   where
     by : Dec (a .number ≡ 0) → (e ≡ f) × (r ≡ q)
     by (yes z) = (x .spelled z ∙ sym (y .spelled z), x .behind z ∙ sym (y .behind z))

@@ -57,7 +57,7 @@ fn one_line(machine: &[u8], buf: &[u8], out: &mut [u8], s: Stream) -> Stream
     let t = room(out, s, MAX_LINE + 1);
     let line = part(buf, s.from, s.len);
     let a = spell(machine, line, out, t.waiting);
-    let end = put_told(out, t.waiting, a);
+    let end = put_answer(out, t.waiting, a);
     t.answered(put8(out, end, b'\n'))
 }
 
@@ -72,7 +72,7 @@ fn spell(machine: &[u8], line: &[u8], out: &mut [u8], at: usize) -> Answer
 }
 
 // The place behind a spelling that stands at a place already, or behind the refusal that is put there.
-fn put_told(out: &mut [u8], at: usize, a: Answer) -> usize
+fn put_answer(out: &mut [u8], at: usize, a: Answer) -> usize
     ensures { λ r. ⌜ AnswerPut (now (out .entry)) at a (now (out .exit)) r ⌝ }
 {
     if a.number != 0 {

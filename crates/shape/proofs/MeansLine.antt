@@ -8,8 +8,7 @@ use Rattle.lang.proofs.Means.{Means, optRe, means-many, means-opt, means-pair, 
 use Rattle.rules.specs.Bytes.{bytes}
 use Rattle.rules.specs.Numbers.{From}
 use Rattle.rules.specs.Decimals.{Decimal}
-use Rattle.rules.specs.Formulas.{Written}
-use Rattle.rules.specs.Annotations.{Deviation, Annotation, flagText, analyteText, chargeText, deviationText, confidenceText, annotationText}
+use Rattle.rules.specs.Annotations.{SpelledAnnotation, Deviation, flagText, analyteText, chargeText, deviationText, confidenceText, annotationText}
 use Rattle.rules.specs.Lines.{Spelling, nextText, lineText}
 use Rattle.shape.proofs.Grammar.{word, analyteRe, chargeRe, deviationRe, confidenceRe, annotationRe, nextRe, lineRe}
 use Rattle.shape.proofs.MeansNumbers.{means-two, means-nat, means-decimal}
@@ -52,7 +51,7 @@ means-confidence = means-as (means-pair (means-word (bytes "*")) means-decimal) 
 
 -- ---- annotations and lines
 
-pub means-annotation : Means (Annotation Written) annotationText annotationRe
+pub means-annotation : Means SpelledAnnotation annotationText annotationRe
 means-annotation =
     means-as
     (means-pair (means-flag (bytes "&")) (means-pair (means-opt means-analyte) (means-pair means-ion (means-pair (means-many means-loss)
@@ -72,11 +71,11 @@ means-annotation =
     })
     (λ a. refl) (λ a. refl) (λ p. refl)
 
-means-next : Means (Annotation Written) nextText nextRe
+means-next : Means SpelledAnnotation nextText nextRe
 means-next = means-as (means-pair (means-word (bytes ",")) means-annotation) (λ a. (tt, a)) (λ p. p .1) (λ a. refl) (λ a. refl) (λ p. refl)
 
 abbrev Rest : Type 0
-Rest = Annotation Written × List (Annotation Written)
+Rest = SpelledAnnotation × List SpelledAnnotation
 
 line-to : Spelling → Opt Rest
 line-to [] = silent

@@ -5,12 +5,11 @@ use mathlib.Core.List.{List, [], _∷_, _++_}
 use lib.ListN.{length}
 use Rattle.lang.specs.Mark.{Kept, here, later, marksOf}
 use Rattle.rules.specs.Numbers.{Number}
-use Rattle.rules.specs.Formulas.{Written}
 use Rattle.rules.specs.Ions.{ionText}
 use Rattle.rules.specs.Losses.{Loss}
 use Rattle.rules.specs.Isotopes.{isotopesMap}
 use Rattle.rules.specs.Adducts.{Item}
-use Rattle.rules.specs.Annotations.{Annotation}
+use Rattle.rules.specs.Annotations.{SpelledAnnotation}
 use Rattle.rules.specs.Fields.{filled}
 use Rattle.rules.specs.Limits.{part, optPart, ionParts, analytePart, chargePart, deviationPart, confidencePart, annotationParts, annotationMarks}
 use Rattle.rules.specs.Stored.{u8, u16, u32, stores, isotopeRecords, annotationRecord}
@@ -26,7 +25,7 @@ use Rattle.store_annotation.proofs.Numbers.{analyte-told, charge-told, 
 use Rattle.store_annotation.proofs.Ions.{ion-stored}
 
 -- of the annotation a, followed by k, read as number `nth` of a line of `end` bytes, from f on
-module _ (a : Annotation Written) (k : List ℕ) (nth end : ℕ) (f : Fault) where
+module _ (a : SpelledAnnotation) (k : List ℕ) (nth end : ℕ) (f : Fault) where
   abbrev pub seen : Parts
   seen = partsRead a k nth end f
 

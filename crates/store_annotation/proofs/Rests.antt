@@ -7,12 +7,11 @@ use lib.ListN.{length, drop, length-append}
 use Rattle.lang.specs.Parts.{flat}
 use Rattle.lang.specs.Mark.{Kept, here, later}
 use Rattle.lang.specs.Walk.{Walked}
-use Rattle.rules.specs.Formulas.{Written}
 use Rattle.rules.specs.Ions.{ionText}
 use Rattle.rules.specs.Losses.{lossText, lossMap}
 use Rattle.rules.specs.Isotopes.{isotopesText, isotopesMap}
 use Rattle.rules.specs.Adducts.{adductText}
-use Rattle.rules.specs.Annotations.{Annotation}
+use Rattle.rules.specs.Annotations.{SpelledAnnotation}
 use Rattle.rules.specs.Fields.{filled}
 use Rattle.rules.specs.Limits.{part, rowPart, lossMarks, isotopesMarks, adductMarks, annotationParts, annotationMarks}
 use Rattle.rules.specs.Stored.{stores, isotopeRecords}
@@ -27,7 +26,7 @@ use Rattle.read_annotation.proofs.SpelledAnnotation.{EndsAnnotation, prefixLeng
 use Rattle.store_annotation.specs.Events.{behindFiledIsotopes}
 use Rattle.store_annotation.proofs.Adducts.{AdductStored, adduct-stored}
 
-module _ (a : Annotation Written) (k : List ℕ) where
+module _ (a : SpelledAnnotation) (k : List ℕ) where
   -- what is left behind the prefix
   pub ion-at : drop (prefixLength (a .marked) (a .analyte)) (first a k) ≡ ionText (a .ion) ++ second a k
   ion-at = behind-prefix (a .marked) (a .analyte) (a .ion) (second a k)

@@ -3,8 +3,7 @@ use Prim.Native.Nat.{ℕ}
 use mathlib.Core.Path.{_≡_, ap, _∙_}
 use mathlib.Core.List.{List, [], _∷_, _++_}
 use Rattle.lang.specs.Mark.{Kept}
-use Rattle.rules.specs.Formulas.{Written}
-use Rattle.rules.specs.Annotations.{Annotation}
+use Rattle.rules.specs.Annotations.{SpelledAnnotation}
 use Rattle.rules.specs.Limits.{annotationMarks}
 use Rattle.rules.specs.Layout.{annotationSection, isotopeSection}
 use Rattle.faults.specs.declared.Fault.{Fault}
@@ -28,7 +27,7 @@ share-all j is ls b xs r =
 
 -- ---- what is read, all at once
 
-module _ (a : Annotation Written) (k : List ℕ) (nth end : ℕ) (f : Fault) (e : EndsAnnotation k) (i at : ℕ) (kept : Kept (annotationMarks i a at)) where
+module _ (a : SpelledAnnotation) (k : List ℕ) (nth end : ℕ) (f : Fault) (e : EndsAnnotation k) (i at : ℕ) (kept : Kept (annotationMarks i a at)) where
   pub events-are : annotationEvents (first a k) (seen a k nth end f)
       ≡ eventsWith (first a k) (second a k) (isotopesOn a k) (adductOn a k) (seen a k nth end f .front) (seen a k nth end f .tail)
   unfolding annotationEvents

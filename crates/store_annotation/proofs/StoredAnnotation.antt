@@ -7,12 +7,12 @@ use Rattle.lang.specs.Parts.{flat}
 use Rattle.lang.specs.Mark.{Kept, here, later, marksOf}
 use Rattle.lang.specs.Walk.{Walked}
 use Rattle.rules.specs.Numbers.{Number}
-use Rattle.rules.specs.Formulas.{Written, FormulaUnit}
+use Rattle.rules.specs.Formulas.{FormulaUnit}
 use Rattle.rules.specs.Ions.{ionText, ionMap}
 use Rattle.rules.specs.Losses.{Loss}
 use Rattle.rules.specs.Adducts.{Item}
 use Rattle.rules.specs.Isotopes.{isotopesMap}
-use Rattle.rules.specs.Annotations.{Annotation, annotationText}
+use Rattle.rules.specs.Annotations.{TableAnnotation, SpelledAnnotation, annotationText}
 use Rattle.rules.specs.Fields.{filled, Says}
 use Rattle.rules.specs.Limits.{part, ionParts, annotationParts, annotationMarks}
 use Rattle.rules.specs.Stored.{stores, unitRecord, lossRecord, itemRecord, lostUnits, lostName, addedUnits, ionFields, isotopeRecords, annotationRecord, annotationUnits, annotationTexts}
@@ -29,7 +29,7 @@ use Rattle.read_isotopes.specs.Records.{Filed, filedIsotopes}
 use Rattle.sort_changes.specs.Events.{changeEvents}
 use Rattle.read_annotation.specs.declared.Parts.{Parts}
 use Rattle.read_annotation.specs.Measured.{partsOf}
-use Rattle.read_annotation.proofs.SaysWhat.{tableOf, said-so}
+use Rattle.read_annotation.proofs.SaysWhat.{tableOf, says-so}
 use Rattle.read_annotation.proofs.SpelledAnnotation.{EndsAnnotation, first, second, isotopesOn, adductOn, text-is, parts-read}
 use Rattle.store_annotation.specs.Records.{recordBytes}
 use Rattle.store_annotation.specs.Events.{ionEvents, adductEvents, storedCounts, annotationEvents}
@@ -39,12 +39,12 @@ use Rattle.store_annotation.proofs.Rests.{ion-at, losses-are, isotopes-
 use Rattle.store_annotation.proofs.Sections.{share-all, events-are}
 
 -- events that store what an annotation says
-pub record StoresRead (a : Annotation Written) (es : List Event) : Type 0 where
-  pub table : Annotation Number
+pub record StoresRead (a : SpelledAnnotation) (es : List Event) : Type 0 where
+  pub table : TableAnnotation
   pub says : Says a table
   pub fills : Fills (table ∷ []) es
 
-module _ (a : Annotation Written) (k : List ℕ) (nth end : ℕ) (f : Fault) (e : EndsAnnotation k) (i at : ℕ) (kept : Kept (annotationMarks i a at)) where
+module _ (a : SpelledAnnotation) (k : List ℕ) (nth end : ℕ) (f : Fault) (e : EndsAnnotation k) (i at : ℕ) (kept : Kept (annotationMarks i a at)) where
   abbrev read : Parts
   read = seen a k nth end f
 
@@ -54,14 +54,14 @@ module _ (a : Annotation Written) (k : List ℕ) (nth end : ℕ) (f : Fault) (e 
   abbrev added : List (Item Number)
   added = adduct-is a k e i at kept .ls
 
-  abbrev table : Annotation Number
+  abbrev table : TableAnnotation
   table = tableOf a lost added
 
   table-says : Says a table
   table-says =
       let l = losses-are a k e i at kept in
       let x = adduct-is a k e i at kept in
-      said-so a lost added (l .same) (l .rise) (x .same) (x .rise)
+      says-so a lost added (l .same) (l .rise) (x .same) (x .rise)
 
   -- ---- section by section
 
@@ -154,7 +154,7 @@ module _ (a : Annotation Written) (k : List ℕ) (nth end : ℕ) (f : Fault) (e 
       }
 
 -- whichever of a line it was read as, from whichever fault on: a fault is not stored
-pub store-read : (a : Annotation Written) (k : List ℕ) (nth end : ℕ) (f : Fault) (i at : ℕ) → EndsAnnotation k → Kept (annotationMarks i a at) → length (annotationText a ++ k) ≤ end
+pub store-read : (a : SpelledAnnotation) (k : List ℕ) (nth end : ℕ) (f : Fault) (i at : ℕ) → EndsAnnotation k → Kept (annotationMarks i a at) → length (annotationText a ++ k) ≤ end
     → StoresRead a (annotationEvents (annotationText a ++ k) (partsOf nth end (annotationText a ++ k) f))
 store-read a k nth end f i at e kept h =
     let t = text-is a k in

@@ -3,8 +3,7 @@ use Prim.Native.Nat.{ℕ}
 use mathlib.Core.Path.{_≡_, refl, sym, ap, ap₂, _∙_}
 use mathlib.Core.List.{List, [], _∷_, _++_, append-nil}
 use Rattle.lang.specs.Parts.{flat}
-use Rattle.rules.specs.Numbers.{Number}
-use Rattle.rules.specs.Annotations.{Annotation}
+use Rattle.rules.specs.Annotations.{TableAnnotation}
 use Rattle.rules.specs.Fields.{Table}
 use Rattle.rules.specs.Stored.{stores, annotationRecord, lossRecord, isotopeRecords, itemRecord, unitRecord, annotationUnits, annotationTexts}
 use Rattle.rules.specs.Layout.{annotationSection, lossSection, isotopeSection, itemSection, unitSection, textSection}
@@ -16,7 +15,7 @@ pub fills-none : Fills [] []
 fills-none = record { annotations = refl; losses = refl; isotopes = refl; items = refl; units = refl; text = refl }
 
 -- the events of one annotation
-pub fills-one : {es : List Event} (a : Annotation Number) → bytesOf annotationSection es ≡ stores (annotationRecord a)
+pub fills-one : {es : List Event} (a : TableAnnotation) → bytesOf annotationSection es ≡ stores (annotationRecord a)
     → bytesOf lossSection es ≡ flat (λ l. stores (lossRecord l)) (a .losses) → bytesOf isotopeSection es ≡ flat (λ x. stores x) (isotopeRecords (a .isotopes))
     → bytesOf itemSection es ≡ flat (λ x. stores (itemRecord x)) (a .adduct) → bytesOf unitSection es ≡ flat (λ u. stores (unitRecord u)) (annotationUnits a)
     → bytesOf textSection es ≡ annotationTexts a → Fills (a ∷ []) es

@@ -16,8 +16,8 @@ use Rattle.rules.specs.Losses.{signText, Lost, lost-formula, lost-name, lostMap
 use Rattle.rules.specs.Isotopes.{Shift, Specific, Isotopes, no-isotope, plain-isotope, average-isotope, specific-isotopes, shiftText, specificText, isotopesText}
 use Rattle.rules.specs.Isotopes.{shiftMap, specificMap, isotopesMap}
 use Rattle.rules.specs.Adducts.{Added, added-formula, electron, addedMap, Item, itemText, adductText, itemMap}
-use Rattle.rules.specs.Annotations.{Deviation, flagText, Annotation, annotationMap}
-use Rattle.rules.specs.Fields.{Table, filled}
+use Rattle.rules.specs.Annotations.{SpelledAnnotation, Deviation, flagText}
+use Rattle.rules.specs.Fields.{filledAnnotation, Table, filled}
 use Rattle.rules.specs.Answers.{Sound}
 use Rattle.rules.specs.Limits.{maxAnnotations, maxLosses, maxIsotopes, maxItems, maxUnits, maxText, maxPosition, maxCount, maxCharge, fits}
 use Rattle.rules.specs.Limits.{bare, part, optPart, numberPart, closedPart, decimalPart, rowMarks, rowPart, unitMarks, formulaPart, ionParts, lostPart, lossParts, lossMarks}
@@ -172,7 +172,7 @@ confidence-limited : (x : Opt Decimal) (at : ℕ) → Kept (optPart confidencePa
 confidence-limited silent at k = tt
 confidence-limited (written d) at k = kept-true (fits d) (λ b. k _ here b)
 
-annotation-limited : (i : ℕ) (a : Annotation Written) (at : ℕ) → Kept (annotationMarks i a at) → AnnotationWithin (annotationMap filled a)
+annotation-limited : (i : ℕ) (a : SpelledAnnotation) (at : ℕ) → Kept (annotationMarks i a at) → AnnotationWithin (filledAnnotation a)
 annotation-limited i a at k =
     let h : Kept (marksOf at (annotationParts a)) = kept-tail k in
     let keep = kept-part at (annotationParts a) h in

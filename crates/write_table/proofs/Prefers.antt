@@ -10,12 +10,11 @@ use Rattle.lang.specs.Mark.{Kept}
 use Rattle.lang.specs.Order.{Perm, same, swap, keep, then, Each, none, next}
 use Rattle.rules.specs.Numbers.{Number}
 use Rattle.rules.specs.Decimals.{Decimal}
-use Rattle.rules.specs.Formulas.{Written}
 use Rattle.rules.specs.Ions.{Ion, series, internal, immonium, precursor, reference, named, composed, smiles, unknown, ionMap}
 use Rattle.rules.specs.Adducts.{itemMap}
-use Rattle.rules.specs.Annotations.{Annotation, Deviation, annotationMap}
+use Rattle.rules.specs.Annotations.{TableAnnotation, SpelledAnnotation, Annotation, Deviation, annotationMap}
 use Rattle.rules.specs.Lines.{Spelling}
-use Rattle.rules.specs.Preferred.{shortened, preferredSpelling}
+use Rattle.rules.specs.Preferred.{shortenedAnnotation, shortened, preferredSpelling}
 use Rattle.rules.specs.Fields.{Table, filled, SameFields, Says}
 use Rattle.rules.specs.Limits.{lineMarks}
 use Rattle.rules.specs.House.{isEmpty, ionRule, deviationRule, confidenceOf, one, annotationRules, firstBreach, firstExcess}
@@ -62,14 +61,14 @@ rules-map f a =
     ∙ ap (λ (r : Bool). r && (deviationRule (a .deviation) && leb (confidenceOf (a .confidence)) one))
     (ion-rule-map f (a .ion) (not (isEmpty (a .adduct))))
 
-rules-same : {a b : Annotation Number} → SameFields a b → annotationRules a ≡ annotationRules b
+rules-same : {a b : TableAnnotation} → SameFields a b → annotationRules a ≡ annotationRules b
 rules-same {a} {b} e =
     ap (λ (x : Ion Number). rulesOf x (isEmpty (a .adduct)) (a .deviation) (a .confidence)) (e .ion)
     ∙ ap (λ (x : Bool). rulesOf (b .ion) x (a .deviation) (a .confidence)) (empty-perm (e .adduct))
     ∙ ap (λ (x : Opt Deviation). rulesOf (b .ion) (isEmpty (b .adduct)) x (a .confidence)) (e .deviation)
     ∙ ap (λ (x : Opt Decimal). rulesOf (b .ion) (isEmpty (b .adduct)) (b .deviation) x) (e .confidence)
 
-rules-kept : {a : Annotation Written} {b : Annotation Number} → Says a b → annotationRules a ≡ annotationRules (annotationMap shortened b)
+rules-kept : {a : SpelledAnnotation} {b : TableAnnotation} → Says a b → annotationRules a ≡ annotationRules (shortenedAnnotation b)
 rules-kept {a} {b} s = sym (rules-map filled a) ∙ rules-same (s .fields) ∙ sym (rules-map shortened b)
 
 -- ---- a search for a place
@@ -82,7 +81,7 @@ rules-each : {s : Spelling} {t : Table} → Each Says s t → (p q : ℕ) → fi
 rules-each none p q e = refl
 rules-each (next {a = a} {b = b} {l = s} {m = t} r x) p q e =
     let h = passed (annotationRules a) (firstBreach _ s) p e in
-    passes (annotationRules (annotationMap shortened b)) (firstBreach _ (preferredSpelling t)) q
+    passes (annotationRules (shortenedAnnotation b)) (firstBreach _ (preferredSpelling t)) q
     (subst T (rules-kept r) (h .0)) (rules-each x _ _ (h .1))
 
 pub preferred-rules : (t : Table) → Sound t → firstBreach 0 (preferredSpelling t) ≡ silent

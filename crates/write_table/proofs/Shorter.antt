@@ -17,9 +17,9 @@ use Rattle.rules.specs.Losses.{signText, Lost, lost-formula, lost-name, lostTex
 use Rattle.rules.specs.Isotopes.{Shift, shiftText, shiftMap, Specific, specificText, specificMap}
 use Rattle.rules.specs.Isotopes.{Isotopes, no-isotope, plain-isotope, average-isotope, specific-isotopes, isotopesText, isotopesMap}
 use Rattle.rules.specs.Adducts.{Added, added-formula, electron, addedText, addedMap, Item, itemText, itemMap, adductText}
-use Rattle.rules.specs.Annotations.{Annotation, flagText, analyteText, chargeText, deviationText, confidenceText, annotationText, annotationMap}
+use Rattle.rules.specs.Annotations.{TableAnnotation, SpelledAnnotation, flagText, analyteText, chargeText, deviationText, confidenceText, annotationText}
 use Rattle.rules.specs.Lines.{Spelling, lineText, nextText}
-use Rattle.rules.specs.Preferred.{shortened, preferredSpelling, preferred}
+use Rattle.rules.specs.Preferred.{shortenedAnnotation, shortened, preferredSpelling, preferred}
 use Rattle.rules.specs.Fields.{Table, filled, Says}
 use Rattle.rules.proofs.Totals.{total, perm-total, perm-length}
 
@@ -158,7 +158,7 @@ said-adduct (x ∷ l) (y ∷ m) p =
 
 -- ---- annotations and lines
 
-said-annotation : {a : Annotation Written} {b : Annotation Number} → Says a b → NoLonger (annotationText (annotationMap shortened b)) (annotationText a)
+said-annotation : {a : SpelledAnnotation} {b : TableAnnotation} → Says a b → NoLonger (annotationText (shortenedAnnotation b)) (annotationText a)
 said-annotation {a} {b} s =
     let e = s .fields in
     joined (flagText (bytes "&") (b .marked)) (flagText (bytes "&") (a .marked)) (alike (flagText (bytes "&")) (e .marked))
@@ -175,11 +175,11 @@ said-annotation {a} {b} s =
 said-more : {s : Spelling} {t : Table} → Each Says s t → NoLonger (flat nextText (preferredSpelling t)) (flat nextText s)
 said-more none = as-long
 said-more (next {a = a} {b = b} x e) =
-    joined (nextText (annotationMap shortened b)) (nextText a) (after (bytes ",") (said-annotation x)) (said-more e)
+    joined (nextText (shortenedAnnotation b)) (nextText a) (after (bytes ",") (said-annotation x)) (said-more e)
 
 said-line : {s : Spelling} {t : Table} → Each Says s t → NoLonger (preferred t) (lineText s)
 said-line none = as-long
-said-line (next {a = a} {b = b} x e) = joined (annotationText (annotationMap shortened b)) (annotationText a) (said-annotation x) (said-more e)
+said-line (next {a = a} {b = b} x e) = joined (annotationText (shortenedAnnotation b)) (annotationText a) (said-annotation x) (said-more e)
 
 pub preferred-shorter : {s : Spelling} {t : Table} → Each Says s t → length (preferred t) ≤ length (lineText s)
 preferred-shorter e = said-line e .le

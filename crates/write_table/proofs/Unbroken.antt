@@ -17,9 +17,9 @@ use Rattle.rules.specs.Losses.{signText, Lost, lost-formula, lost-name, lostMap
 use Rattle.rules.specs.Isotopes.{Shift, Specific, Isotopes, no-isotope, plain-isotope, average-isotope, specific-isotopes, shiftText, specificText, isotopesText}
 use Rattle.rules.specs.Isotopes.{shiftMap, specificMap, isotopesMap}
 use Rattle.rules.specs.Adducts.{Added, added-formula, electron, addedMap, Item, itemText, adductText, itemMap}
-use Rattle.rules.specs.Annotations.{Deviation, flagText, Annotation, annotationText, annotationMap}
+use Rattle.rules.specs.Annotations.{TableAnnotation, Deviation, flagText, annotationText}
 use Rattle.rules.specs.Lines.{nextText}
-use Rattle.rules.specs.Preferred.{shortened, preferredSpelling}
+use Rattle.rules.specs.Preferred.{shortenedAnnotation, shortened, preferredSpelling}
 use Rattle.rules.specs.Fields.{Table}
 use Rattle.rules.specs.Limits.{maxAnnotations, maxLosses, maxIsotopes, maxItems, maxUnits, maxText, maxPosition, maxCount, maxCharge, fits, manyMark}
 use Rattle.rules.specs.Limits.{bare, part, optPart, numberPart, closedPart, decimalPart, rowMarks, rowPart, unitMarks, formulaPart, ionParts, lostPart, lossMarks}
@@ -186,9 +186,9 @@ deviation-ok d h =
 confidence-ok : (d : Decimal) → DecimalWithin d → Unbroken (confidencePart d)
 confidence-ok d h = record { ok = λ at. kept-more _ [] (not-refused (fits d) h) kept-none }
 
-pub annotation-ok : (i : ℕ) (b : Annotation Number) (at : ℕ) → i < maxAnnotations → AnnotationWithin b → Kept (annotationMarks i (annotationMap shortened b) at)
+pub annotation-ok : (i : ℕ) (b : TableAnnotation) (at : ℕ) → i < maxAnnotations → AnnotationWithin b → Kept (annotationMarks i (shortenedAnnotation b) at)
 annotation-ok i b at l w =
-    let a = annotationMap shortened b in
+    let a = shortenedAnnotation b in
     counted maxAnnotations i at _ l
     (parts
     (also (bare-ok (flagText (bytes "&") (b .marked)))
@@ -208,9 +208,9 @@ annotation-ok i b at l w =
 pub line-kept : (t : Table) → Row maxAnnotations AnnotationWithin t → Kept (lineMarks (preferredSpelling t))
 line-kept [] w = kept-none
 line-kept (b ∷ t) w =
-    let a = annotationMap shortened b in
+    let a = shortenedAnnotation b in
     let n = length (annotationText a) in
     kept-join (annotationMarks 0 a 0) (rowMarks nextText nextMarks 1 (preferredSpelling t) n)
     (annotation-ok 0 b 0 (omega arith) (w .each b here))
-    (row-kept nextText nextMarks maxAnnotations (annotationMap shortened) AnnotationWithin (λ i x at. annotation-ok i x (at + 1)) 1 t n
+    (row-kept nextText nextMarks maxAnnotations shortenedAnnotation AnnotationWithin (λ i x at. annotation-ok i x (at + 1)) 1 t n
     (omega (arith, w .few)) (λ y j. w .each y (later j)))

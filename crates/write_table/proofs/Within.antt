@@ -16,7 +16,7 @@ use Rattle.rules.specs.Ions.{Ion, series, internal, immonium, precursor, refere
 use Rattle.rules.specs.Losses.{Lost, lost-formula, lost-name, Loss}
 use Rattle.rules.specs.Isotopes.{Shift, Specific, Isotopes, no-isotope, plain-isotope, average-isotope, specific-isotopes}
 use Rattle.rules.specs.Adducts.{Added, added-formula, electron, Item}
-use Rattle.rules.specs.Annotations.{Deviation, Annotation}
+use Rattle.rules.specs.Annotations.{TableAnnotation, Deviation}
 use Rattle.rules.specs.Fields.{SameFields}
 use Rattle.rules.specs.Limits.{maxLosses, maxIsotopes, maxItems, maxUnits, maxText, maxPosition, maxCount, maxCharge, fits}
 use Rattle.rules.proofs.Totals.{perm-length, perm-in}
@@ -98,7 +98,7 @@ DecimalWithin d = T (fits d)
 abbrev pub DeviationWithin : Deviation → Type 0
 DeviationWithin d = DecimalWithin (d .size)
 
-pub record AnnotationWithin (a : Annotation Number) : Type 0 where
+pub record AnnotationWithin (a : TableAnnotation) : Type 0 where
   pub analyte : IfThere (λ n. n ≤ maxPosition) (a .analyte)
   pub ion : IonWithin (a .ion)
   pub losses : Row maxLosses LossWithin (a .losses)
@@ -110,7 +110,7 @@ pub record AnnotationWithin (a : Annotation Number) : Type 0 where
 
 -- ---- the order of losses and items does not matter
 
-pub same-within : {a b : Annotation Number} → SameFields a b → AnnotationWithin a → AnnotationWithin b
+pub same-within : {a b : TableAnnotation} → SameFields a b → AnnotationWithin a → AnnotationWithin b
 same-within e w =
     record {
       analyte = subst (IfThere (λ n. n ≤ maxPosition)) (e .analyte) (w .analyte);

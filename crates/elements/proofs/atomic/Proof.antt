@@ -1,3 +1,4 @@
+-- `elements::atomic` meets its contract: each symbol's arm computed; other letters fail a test that all symbols pass. Assumes nothing.
 use mathlib.Core.List.{[], _∷_}
 use native.Mathlib.Omega.{arith}
 use Rattle.rules.specs.Bytes.{bytes}

@@ -1,3 +1,4 @@
+-- `elements::code_of` meets its contract: each of the 118 arms computed, and no symbol for any other number. Assumes nothing.
 use Rattle.rules.specs.Elements.{symbols}
 use Rattle.elements.specs.Numbers.{lettersOf, codeOf}
 use Rattle.elements.proofs.Codes.{code-is, no-code}

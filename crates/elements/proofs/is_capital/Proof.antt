@@ -1,3 +1,4 @@
+-- `elements::is_capital` meets its contract: by the two ends of the range. Assumes nothing.
 use Rattle.lang.proofs.Ranges.{range-below, range-from}
 use mathlib.Core.Path.{sym}
 use Rattle.elements.proofs.is_capital.Statement.{statement}

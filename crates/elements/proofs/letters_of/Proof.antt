@@ -1,3 +1,4 @@
+-- `elements::letters_of` meets its contract: a code divided by 256 gives back its two letters. Assumes nothing.
 use borrow.Author.Needs.{needs}
 use Rattle.elements.proofs.Codes.{letters-by-code}
 use Rattle.elements.proofs.letters_of.Statement.{statement}

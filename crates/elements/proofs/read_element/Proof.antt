@@ -1,3 +1,4 @@
+-- `elements::read_element` meets its contract: no capital first, or the number of the letters read. Assumes nothing.
 use Rattle.elements.proofs.Begins.{element-none, element-some, element-is}
 use borrow.Author.Needs.{needs}
 use Rattle.elements.proofs.read_element.Statement.{statement}

@@ -1,3 +1,4 @@
+-- `elements::second_letter` meets its contract: no second byte, one below `a`, above `z`, or a small letter. Assumes nothing.
 use Rattle.elements.proofs.Begins.{second-none, second-below, second-above, second-in}
 use borrow.Author.Needs.{needs}
 use Rattle.elements.proofs.second_letter.Statement.{statement}

@@ -1,3 +1,4 @@
+-- `elements::symbol_len` meets its contract: nothing left, no capital, then one letter or two. Assumes nothing.
 use mathlib.Core.Path.{sym, _∙_}
 use borrow.Author.Tests.{not-true, not-false}
 use Rattle.elements.proofs.Begins.{letters-none, letters-other, letters-one, letters-two}

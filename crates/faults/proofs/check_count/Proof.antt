@@ -1,3 +1,4 @@
+-- `faults::check_count` meets its contract: a fault known before, one too many, or neither. Assumes nothing.
 use Rattle.faults.proofs.Marks.{join-known, join-kept, join-broken}
 use borrow.Author.Tests.{le-leb, lt-leb}
 use mathlib.Core.Path.{sym}

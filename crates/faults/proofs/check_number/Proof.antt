@@ -1,3 +1,4 @@
+-- `faults::check_number` meets its contract: a fault known before, a number past its bound, or neither. Assumes nothing.
 use Rattle.faults.proofs.Marks.{join-known, join-kept, join-broken}
 use borrow.Author.Tests.{lt-ltb, le-ltb}
 use mathlib.Core.Path.{sym}

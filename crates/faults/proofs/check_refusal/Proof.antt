@@ -1,3 +1,4 @@
+-- `faults::check_refusal` meets its contract: a fault known before, a refusal other than 0, or neither. Assumes nothing.
 use Rattle.faults.proofs.Marks.{join-known, join-kept, join-broken}
 use borrow.Author.Tests.{eq-eqb, ne-eqb}
 use mathlib.Core.Bool.{not}

@@ -1,3 +1,4 @@
+-- `io_parts::line_end` meets its contract: in its loop no line feed is among the bytes passed. Assumes nothing.
 use Rattle.io_parts.proofs.ToLineFeed.{Before, begin, found, turn, ends}
 use lib.ListN.{length}
 use Prim.Native.Nat.{_-_}

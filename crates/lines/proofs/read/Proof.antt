@@ -1,3 +1,4 @@
+-- `lines::read` meets its contract: `read_by` with the machine's own bytes, which scan by the rules. Assumes nothing.
 use mathlib.Core.Path.{sym, ap, _∙_, subst}
 use mathlib.Core.List.{List}
 use Prim.Native.Nat.{ℕ}

@@ -1,3 +1,4 @@
+-- `lines::write` meets its contract: `write_by` with the machine's own bytes, which scan every line by the rules. Assumes nothing.
 use mathlib.Core.Path.{sym, ap, _∙_, subst}
 use mathlib.Core.List.{List}
 use Prim.Native.Nat.{ℕ}

@@ -1,3 +1,4 @@
+-- `measure_line::add` meets its contract: each field rewritten by what its call ensures. Assumes nothing.
 use borrow.Author.Needs.{needs}
 use Rattle.measure_line.proofs.add.Statement.{statement}
 use Rattle.measure_line.proofs.add.Tie as tie

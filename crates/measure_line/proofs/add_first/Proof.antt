@@ -1,3 +1,4 @@
+-- `measure_line::add_first` meets its contract: a sum with nothing is the number itself, as all fit. Assumes nothing.
 use Rattle.measure_line.proofs.AnnotationLoops.{first-added}
 use native.Mathlib.Omega.{arith}
 use borrow.Author.Needs.{needs}

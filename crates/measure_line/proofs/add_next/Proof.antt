@@ -1,3 +1,4 @@
+-- `measure_line::add_next` meets its contract: the calls in turn, behind the comma. Assumes nothing.
 use Rattle.measure_line.proofs.AnnotationLoops.{next-added}
 use borrow.Author.Needs.{needs}
 use Rattle.measure_line.proofs.add_next.Statement.{statement}

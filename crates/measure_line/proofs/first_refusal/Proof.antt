@@ -1,3 +1,4 @@
+-- `measure_line::first_refusal` meets its contract: a broken limit, else a broken rule, else the excess. Assumes nothing.
 use mathlib.Core.Path.{sym}
 use Rattle.measure_line.proofs.Firsts.{first-limit, first-breach, first-excess}
 use Rattle.measure_line.proofs.first_refusal.Statement.{statement}

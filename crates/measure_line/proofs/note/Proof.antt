@@ -1,3 +1,4 @@
+-- `measure_line::note` meets its contract: a fault known before, a rule kept, or a new fault. Assumes nothing.
 use mathlib.Core.Path.{sym, ap}
 use mathlib.Core.Bool.{not}
 use Rattle.faults.proofs.Marks.{join-known, join-kept, join-broken}

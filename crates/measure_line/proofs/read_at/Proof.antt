@@ -1,3 +1,4 @@
+-- `measure_line::read_at` meets its contract: `read_parts` on what is left, with no fault before it. Assumes nothing.
 use Rattle.read_annotation.specs.Measured.{partsOf}
 use Rattle.faults.specs.Faults.{fault}
 use lib.ListN.{length}

@@ -1,3 +1,4 @@
+-- `measure_line::total` meets its contract: an empty line, or in its loop those counted, and those left, make the whole. Assumes nothing.
 use Rattle.measure_line.proofs.AnnotationLoops.{Counting, empty-totals, counting-begins, counting-ends, counting-turns, counting-falls}
 use lib.ListN.{length}
 use Prim.Native.Nat.{_-_}

@@ -1,3 +1,4 @@
+-- `numbers::put_last` meets its contract: by recursion on how many digits, none, or all but the last and then it. Assumes nothing.
 use Rattle.numbers.proofs.Written.{put-no-place, put-place-more}
 use native.Mathlib.Omega.{arith}
 use borrow.Author.Needs.{needs}

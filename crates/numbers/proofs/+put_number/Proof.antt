@@ -1,3 +1,4 @@
+-- `numbers::put_number` meets its contract: by recursion on the number, one digit, or n / 10 and the last digit. Assumes nothing.
 use Rattle.numbers.proofs.Written.{put-digit, put-more}
 use borrow.Author.Needs.{needs}
 use Prim.Native.Nat.{ℕ, _<_}

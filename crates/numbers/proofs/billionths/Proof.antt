@@ -1,3 +1,4 @@
+-- `numbers::billionths` meets its contract: in its loop ten times for each place left, up to the largest, makes the whole. Assumes nothing.
 use Rattle.rules.specs.Limits.{maxPlaces}
 use Rattle.numbers.proofs.Shares.{Scaled, begin, turn, ends}
 use Prim.Native.Nat.{_-_}

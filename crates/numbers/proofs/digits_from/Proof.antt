@@ -1,3 +1,4 @@
+-- `numbers::digits_from` meets its contract: in its loop the digits passed, and those left, make the whole. Assumes nothing.
 use Rattle.numbers.proofs.Walks.{Passed, range, begin, turn, stops, ends}
 use borrow.Author.Tests.{not-true, not-false}
 use native.Mathlib.Omega.{arith}

@@ -1,3 +1,4 @@
+-- `numbers::fraction_from` meets its contract: nothing left, no point first, or the digits behind the point. Assumes nothing.
 use mathlib.Core.Path.{_∙_}
 use Rattle.numbers.proofs.Points.{fraction-none, fraction-empty, fraction-other, fraction-point}
 use borrow.Author.Needs.{needs}

@@ -1,3 +1,4 @@
+-- `numbers::is_digit` meets its contract: below `0`, or from it on and then by `9`. Assumes nothing.
 use mathlib.Core.Path.{sym}
 use Rattle.numbers.proofs.Walks.{below, above}
 use Rattle.numbers.proofs.is_digit.Statement.{statement}

@@ -1,3 +1,4 @@
+-- `numbers::put_pointed` meets its contract: the whole number alone, or with point and places behind it. Assumes nothing.
 use Rattle.numbers.proofs.Written.{put-whole, put-pointed}
 use Rattle.put_bytes.proofs.Putting.{put-as}
 use Rattle.rules.specs.Numbers.{digits}

@@ -1,3 +1,4 @@
+-- `numbers::read_decimal` meets its contract: whole part and fraction walked; then with places or without. Assumes nothing.
 use native.Mathlib.Omega.{arith}
 use Rattle.numbers.proofs.Points.{walked, found-whole, found-point, room, inside, capped-by}
 use borrow.Author.Needs.{needs}

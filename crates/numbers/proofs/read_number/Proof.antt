@@ -1,3 +1,4 @@
+-- `numbers::read_number` meets its contract: `digits_from` with a bound that fits the smaller type. Assumes nothing.
 use Rattle.numbers.specs.Leading.{leadingOf, numberOf}
 use Rattle.numbers.specs.declared.Digits.{Digits}
 use mathlib.Core.Path.{ap}

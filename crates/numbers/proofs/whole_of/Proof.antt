@@ -1,3 +1,4 @@
+-- `numbers::whole_of` meets its contract: after i turns of its loop it has v without its last i digits. Assumes nothing.
 use Rattle.numbers.proofs.Written.{whole-turn, whole-end}
 use Rattle.rules.specs.Decimals.{whole}
 use mathlib.Core.Path.{_≡_, refl}

@@ -1,3 +1,4 @@
+-- `print_ion::ion_bytes` meets its contract: the number at 28, no more than 255, call by call. Assumes nothing.
 use Rattle.rules.specs.Limits.{maxText}
 use Rattle.print_ion.specs.Texts.{ionBytes}
 use Prim.Native.Nat.{min}

@@ -1,3 +1,4 @@
+-- `print_ion::ion_units` meets its contract: the number at 30, no more than 12, call by call. Assumes nothing.
 use Rattle.rules.specs.Limits.{maxUnits}
 use Rattle.print_ion.specs.Texts.{ionUnits}
 use Prim.Native.Nat.{min}

@@ -1,3 +1,4 @@
+-- `print_ion::print_analyte` meets its contract: none, or its number and then `@`. Assumes nothing.
 use Rattle.print_ion.proofs.TextParts.{analyte-none, analyte-some}
 use Rattle.slices.specs.Numbers.{u16At}
 use mathlib.Core.Path.{ap, _∙_}

@@ -1,3 +1,4 @@
+-- `print_ion::print_braced` meets its contract: letter and braces, one put after the other. Assumes nothing.
 use Rattle.put_bytes.proofs.Putting.{put-then}
 use borrow.Author.Needs.{needs}
 use Rattle.print_ion.proofs.print_braced.Statement.{statement}

@@ -1,3 +1,4 @@
+-- `print_ion::print_composed` meets its contract: three puts in a row, the units by their count in the record. Assumes nothing.
 use Rattle.print_ion.specs.Ions.{composedPrinted}
 use Rattle.put_formula.specs.Preferred.{printedUnits}
 use Prim.Native.Nat.{ℕ}

@@ -1,3 +1,4 @@
+-- `print_ion::print_flag` meets its contract: by whether the flag's byte is 0. Assumes nothing.
 use Rattle.print_ion.proofs.TextParts.{flag-none, flag-some}
 use native.Mathlib.Omega.{arith}
 use Rattle.put_bytes.proofs.Putting.{put-none, put-as}

@@ -1,3 +1,4 @@
+-- `print_ion::print_front` meets its contract: flag, analyte and ion, three puts in a row. Assumes nothing.
 use Rattle.put_bytes.proofs.Putting.{put-then}
 use borrow.Author.Needs.{needs}
 use Rattle.print_ion.proofs.print_front.Statement.{statement}

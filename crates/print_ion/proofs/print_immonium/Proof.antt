@@ -1,3 +1,4 @@
+-- `print_ion::print_immonium` meets its contract: three puts in a row, the letter from the record. Assumes nothing.
 use Rattle.print_ion.specs.Ions.{immoniumPrinted}
 use mathlib.Core.List.{[], _∷_}
 use Prim.Native.Nat.{ℕ}

@@ -1,3 +1,4 @@
+-- `print_ion::print_internal` meets its contract: five puts in a row, both numbers from the record. Assumes nothing.
 use Rattle.print_ion.specs.Ions.{internalPrinted}
 use Rattle.slices.specs.Numbers.{u16At}
 use Rattle.rules.specs.Numbers.{digits}

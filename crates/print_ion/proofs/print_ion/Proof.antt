@@ -1,3 +1,4 @@
+-- `print_ion::print_ion` meets its contract: each of the nine kinds by its arm, and nothing for any other. Assumes nothing.
 use Rattle.lang.proofs.Arms.{none-to}
 use Rattle.print_ion.proofs.TextParts.{kind-is, kind-none}
 use Rattle.print_ion.specs.Ions.{kindPrinted}

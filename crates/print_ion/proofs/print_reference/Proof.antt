@@ -1,3 +1,4 @@
+-- `print_ion::print_reference` meets its contract: `r` and brackets, one put after the other. Assumes nothing.
 use Rattle.put_bytes.proofs.Putting.{put-then}
 use borrow.Author.Needs.{needs}
 use Rattle.print_ion.proofs.print_reference.Statement.{statement}

@@ -1,3 +1,4 @@
+-- `print_ion::print_series` meets its contract: three puts in a row, series and position from the record. Assumes nothing.
 use Rattle.print_ion.specs.Ions.{positionPrinted}
 use Rattle.print_ion.specs.Texts.{seriesPrinted}
 use Rattle.slices.specs.Numbers.{u16At}

@@ -1,3 +1,4 @@
+-- `print_ion::print_unknown` meets its contract: `?` alone, or its label behind it. Assumes nothing.
 use Rattle.print_ion.proofs.TextParts.{label-none, label-some}
 use Rattle.slices.specs.Numbers.{u16At}
 use mathlib.Core.Path.{ap, _∙_}

@@ -1,3 +1,4 @@
+-- `print_ion::put_enclosed` meets its contract: no bytes, or the text between its two bytes. Assumes nothing.
 use Rattle.print_ion.proofs.TextParts.{enclosed-none, enclosed-some}
 use native.Mathlib.Omega.{arith}
 use Rattle.put_bytes.proofs.Putting.{put-none, put-as}

@@ -1,3 +1,4 @@
+-- `print_ion::put_series` meets its contract: each of the 13 names by its arm, and nothing for any other. Assumes nothing.
 use Rattle.lang.proofs.Arms.{none-to}
 use Rattle.print_ion.proofs.TextParts.{series-is, series-none}
 use Rattle.print_ion.specs.Texts.{seriesPrinted}

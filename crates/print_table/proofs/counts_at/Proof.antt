@@ -1,3 +1,4 @@
+-- `print_table::counts_at` meets its contract: field by field, the number at its place. Assumes nothing.
 use Rattle.slices.specs.Numbers.{u16At}
 use mathlib.Core.Path.{ap, _∙_}
 use borrow.Author.Needs.{needs}

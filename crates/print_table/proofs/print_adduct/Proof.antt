@@ -1,3 +1,4 @@
+-- `print_table::print_adduct` meets its contract: none, or the items between `[M` and `]`. Assumes nothing.
 use Rattle.print_table.proofs.Steps.{adduct-none, adduct-some}
 use native.Mathlib.Omega.{arith}
 use borrow.Author.Needs.{needs}

@@ -1,3 +1,4 @@
+-- `print_table::print_annotation` meets its contract: the puts in a row, and each cursor behind its part. Assumes nothing.
 use Rattle.print_table.proofs.Cursors.{few-units}
 use Rattle.print_table.proofs.Steps.{annotation-printed}
 use native.Mathlib.Omega.{arith}

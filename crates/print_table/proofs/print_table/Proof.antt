@@ -1,3 +1,4 @@
+-- `print_table::print_table` meets its contract: in its loop the annotations left to print make the whole. Assumes nothing.
 use Rattle.rules.specs.Limits.{maxAnnotations}
 use Rattle.print_table.specs.Tables.{annotationsPrinted, printedTable}
 use Rattle.print_table.specs.Parts.{storedPartsAt}

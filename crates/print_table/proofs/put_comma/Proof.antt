@@ -1,3 +1,4 @@
+-- `print_table::put_comma` meets its contract: nothing before the first annotation, a comma before others. Assumes nothing.
 use Rattle.print_table.proofs.Steps.{comma-first, comma-next}
 use native.Mathlib.Omega.{arith}
 use Rattle.put_bytes.proofs.Putting.{put-none, put-as}

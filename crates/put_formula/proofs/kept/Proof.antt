@@ -1,3 +1,4 @@
+-- `put_formula::kept` meets its contract: with nucleons, with a count of at most 1, or with more. Assumes nothing.
 use Rattle.put_formula.proofs.TextParts.{kept-labelled, kept-one, kept-more}
 use native.Mathlib.Omega.{arith}
 use Rattle.put_formula.proofs.kept.Statement.{statement}

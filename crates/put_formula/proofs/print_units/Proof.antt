@@ -1,3 +1,4 @@
+-- `put_formula::print_units` meets its contract: in its loop the records left to print make the whole. Assumes nothing.
 use Rattle.rules.specs.Layout.{unitWidth}
 use Rattle.put_formula.proofs.UnitLoop.{chain-begins, chain-turn, chain-ends}
 use Rattle.put_formula.specs.Preferred.{preferredUnit}

@@ -1,3 +1,4 @@
+-- `put_formula::put_labelled` meets its contract: five puts in a row, from bracket to bracket. Assumes nothing.
 use Rattle.put_formula.specs.Preferred.{labelledText}
 use Rattle.put_bytes.proofs.Putting.{put-then}
 use borrow.Author.Needs.{needs}

@@ -1,3 +1,4 @@
+-- `put_formula::put_plain` meets its contract: the symbol alone, or a count above 1 behind it. Assumes nothing.
 use Rattle.put_formula.proofs.TextParts.{plain-one, plain-more}
 use Rattle.put_bytes.proofs.Putting.{put-then, put-as}
 use borrow.Author.Needs.{needs}

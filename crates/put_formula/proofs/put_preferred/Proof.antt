@@ -1,3 +1,4 @@
+-- `put_formula::put_preferred` meets its contract: in its loop the units left to copy make the whole. Assumes nothing.
 use Rattle.put_formula.proofs.UnitLoop.{chain-begins, chain-turn, chain-ends}
 use Rattle.put_formula.proofs.TextParts.{copied, span-size}
 use Rattle.put_formula.specs.Preferred.{keptUnit}

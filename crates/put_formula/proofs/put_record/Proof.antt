@@ -1,3 +1,4 @@
+-- `put_formula::put_record` meets its contract: three numbers put in a row. Assumes nothing.
 use Rattle.rules.specs.Stored.{little}
 use mathlib.Core.List.{append-nil}
 use mathlib.Core.Path.{sym}

@@ -1,3 +1,4 @@
+-- `put_formula::put_records` meets its contract: in its loop the units left to store make the whole. Assumes nothing.
 use Rattle.put_formula.proofs.UnitLoop.{chain-begins, chain-turn, chain-ends}
 use Rattle.put_formula.specs.Records.{recordOf}
 use Rattle.put_formula.specs.Chains.{chain}

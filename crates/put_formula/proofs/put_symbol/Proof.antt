@@ -1,3 +1,4 @@
+-- `put_formula::put_symbol` meets its contract: no symbol, one letter, or two. Assumes nothing.
 use Rattle.put_formula.proofs.TextParts.{symbol-none, symbol-one, symbol-two}
 use Rattle.put_bytes.proofs.Putting.{put-none, put-then, put-as}
 use native.Mathlib.Omega.{arith}

@@ -1,3 +1,4 @@
+-- `put_formula::put_unit` meets its contract: by whether there is a nucleon number. Assumes nothing.
 use Rattle.put_formula.proofs.TextParts.{unit-plain, unit-labelled}
 use Rattle.put_bytes.proofs.Putting.{put-as}
 use borrow.Author.Needs.{needs}

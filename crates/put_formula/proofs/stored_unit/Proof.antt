@@ -1,3 +1,4 @@
+-- `put_formula::stored_unit` meets its contract: field by field, from the number at its place. Assumes nothing.
 use Rattle.rules.specs.Layout.{unitWidth, atomCountAt}
 use Rattle.put_formula.specs.Records.{storedUnit}
 use Rattle.slices.specs.Numbers.{u16At}

@@ -1,3 +1,4 @@
+-- `read_annotation::begins_adduct` meets its contract: no bracket, or `M` behind it decides. Assumes nothing.
 use Rattle.read_annotation.proofs.Groups.{adduct-apart, adduct-behind}
 use Rattle.rules.specs.Bytes.{bytes}
 use Rattle.rules.specs.Texts.{startsWith}

@@ -1,3 +1,4 @@
+-- `read_annotation::begins_middle` meets its contract: by the sign, else by the bracket. Assumes nothing.
 use mathlib.Core.Path.{sym, _∙_}
 use borrow.Author.Needs.{needs}
 use Rattle.read_annotation.proofs.begins_middle.Statement.{statement}

@@ -1,3 +1,4 @@
+-- `read_annotation::flag` meets its contract: by whether `&` stands first. Assumes nothing.
 use mathlib.Core.Path.{sym, _∙_}
 use borrow.Author.Needs.{needs}
 use Rattle.read_annotation.proofs.flag.Statement.{statement}

@@ -1,3 +1,4 @@
+-- `read_annotation::keeps_deviation_rule` meets its contract: no minus, or the value decides. Assumes nothing.
 use Rattle.read_annotation.specs.House.{deviationRuleOf}
 use borrow.Author.Tests.{not-true, not-false}
 use borrow.Author.Needs.{needs}

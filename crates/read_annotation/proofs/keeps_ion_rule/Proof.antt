@@ -1,3 +1,4 @@
+-- `read_annotation::keeps_ion_rule` meets its contract: internal by its two ends, SMILES by its items, others keep it. Assumes nothing.
 use Rattle.read_annotation.specs.House.{ionRuleOf}
 use borrow.Author.Tests.{eq-eqb, ne-eqb, lt-leb, le-leb}
 use Rattle.read_annotation.proofs.keeps_ion_rule.Statement.{statement}

@@ -1,3 +1,4 @@
+-- `read_annotation::keeps_rules` meets its contract: the rules of ion and deviation first, then the share decides. Assumes nothing.
 use Rattle.read_annotation.specs.House.{rulesOf}
 use mathlib.Core.Path.{sym, _∙_}
 use borrow.Author.Tests.{not-true, not-false}

@@ -1,3 +1,4 @@
+-- `read_annotation::measure` meets its contract: one lemma takes what each call ensures. Assumes nothing.
 use Rattle.read_annotation.proofs.Groups.{measure-is}
 use borrow.Author.Needs.{needs}
 use Rattle.read_annotation.proofs.measure.Statement.{statement}

@@ -1,3 +1,4 @@
+-- `read_annotation::read_adduct` meets its contract: none, or what was read of the items behind `[M`. Assumes nothing.
 use Rattle.read_annotation.specs.Parts.{adductOf}
 use mathlib.Core.Path.{sym, _∙_}
 use borrow.Author.Tests.{not-true, not-false}

@@ -1,3 +1,4 @@
+-- `read_annotation::read_front` meets its contract: one lemma takes prefix, ion and what is left behind. Assumes nothing.
 use Rattle.read_annotation.proofs.Groups.{front-is}
 use borrow.Author.Needs.{needs}
 use Rattle.read_annotation.proofs.read_front.Statement.{statement}

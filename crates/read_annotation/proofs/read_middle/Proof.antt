@@ -1,3 +1,4 @@
+-- `read_annotation::read_middle` meets its contract: without sign or bracket nothing is there; else part by part. Assumes nothing.
 use Rattle.read_annotation.proofs.Groups.{middle-is}
 use Rattle.read_annotation.proofs.Nones.{middle-none}
 use mathlib.Core.Path.{sym, _∙_}

@@ -1,3 +1,4 @@
+-- `read_annotation::read_parts` meets its contract: one lemma takes the count's limit and the three groups. Assumes nothing.
 use Rattle.read_annotation.proofs.Groups.{parts-are}
 use borrow.Author.Needs.{needs}
 use Rattle.read_annotation.proofs.read_parts.Statement.{statement}

@@ -1,3 +1,4 @@
+-- `read_annotation::read_prefix` meets its contract: rewritten by the calls, with an analyte or without. Assumes nothing.
 use Rattle.read_annotation.specs.Parts.{prefixOf}
 use mathlib.Core.Path.{sym, _∙_}
 use borrow.Author.Tests.{not-true, not-false}

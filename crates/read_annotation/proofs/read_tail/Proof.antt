@@ -1,3 +1,4 @@
+-- `read_annotation::read_tail` meets its contract: one lemma takes charge, deviation and confidence in turn. Assumes nothing.
 use Rattle.read_annotation.proofs.Groups.{tail-is}
 use borrow.Author.Needs.{needs}
 use Rattle.read_annotation.proofs.read_tail.Statement.{statement}

@@ -1,3 +1,4 @@
+-- `read_annotation::share_of` meets its contract: a value of 0 has no billionths; else they are computed. Assumes nothing.
 use Rattle.read_annotation.proofs.Rules.{share-zero}
 use Rattle.read_annotation.specs.House.{shareOf}
 use mathlib.Core.Path.{sym, _∙_}

@@ -1,3 +1,4 @@
+-- `read_changes::head_fault` meets its contract: the two checks, with their places, rewritten. Assumes nothing.
 use Rattle.read_changes.specs.Changes.{headFault}
 use borrow.Author.Needs.{needs}
 use Rattle.read_changes.proofs.head_fault.Statement.{statement}

@@ -1,3 +1,4 @@
+-- `read_changes::read_change` meets its contract: head, its limits and content, each by its own contract. Assumes nothing.
 use Rattle.read_changes.specs.Changes.{changeOf}
 use borrow.Author.Needs.{needs}
 use Rattle.read_changes.proofs.read_change.Statement.{statement}

@@ -1,3 +1,4 @@
+-- `read_changes::read_changes` meets its contract: in its loop those passed, and those left, make the row. Assumes nothing.
 use mathlib.Core.Path.{refl, sym, _∙_}
 use borrow.Author.Needs.{needs}
 use Prim.Native.Nat.{_-_}

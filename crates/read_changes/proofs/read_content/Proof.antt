@@ -1,3 +1,4 @@
+-- `read_changes::read_content` meets its contract: a formula, a name or an electron, by what stands first. Assumes nothing.
 use mathlib.Core.Path.{sym, _∙_}
 use Rattle.read_changes.specs.Changes.{contentOf}
 use borrow.Author.Needs.{needs}

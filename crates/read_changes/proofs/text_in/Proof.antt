@@ -1,3 +1,4 @@
+-- `read_changes::text_in` meets its contract: by whether the kind is 1. Assumes nothing.
 use borrow.Author.Tests.{eq-eqb, ne-eqb}
 use Rattle.read_changes.proofs.text_in.Statement.{statement}
 use Rattle.read_changes.proofs.text_in.Tie as tie

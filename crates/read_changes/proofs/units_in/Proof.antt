@@ -1,3 +1,4 @@
+-- `read_changes::units_in` meets its contract: by whether the kind is 0. Assumes nothing.
 use borrow.Author.Tests.{eq-eqb, ne-eqb}
 use Rattle.read_changes.proofs.units_in.Statement.{statement}
 use Rattle.read_changes.proofs.units_in.Tie as tie

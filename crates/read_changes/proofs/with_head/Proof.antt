@@ -1,3 +1,4 @@
+-- `read_changes::with_head` meets its contract: only its length is computed, by `advance`. Assumes nothing.
 use borrow.Author.Needs.{needs}
 use Rattle.read_changes.proofs.with_head.Statement.{statement}
 use Rattle.read_changes.proofs.with_head.Tie as tie

@@ -1,3 +1,4 @@
+-- `read_formula::begins_unit` meets its contract: a capital, no bracket, or a digit behind the bracket. Assumes nothing.
 use Rattle.read_formula.specs.Units.{beginsUnit}
 use borrow.Author.Tests.{not-true, not-false}
 use mathlib.Core.Path.{sym, _∙_}

@@ -1,3 +1,4 @@
+-- `read_formula::formula` meets its contract: in its loop the units passed, and those left, make the whole. Assumes nothing.
 use mathlib.Core.Path.{sym, _∙_}
 use borrow.Author.Needs.{needs}
 use Prim.Native.Nat.{_-_}

@@ -1,3 +1,4 @@
+-- `read_formula::labelled_span` meets its contract: each sum fits the part, and one lemma takes the calls. Assumes nothing.
 use native.Mathlib.Omega.{arith}
 use Rattle.read_formula.proofs.Measures.{nucleons-fit, symbol-fits, count-fits, labelled-is}
 use borrow.Author.Needs.{needs}

@@ -1,3 +1,4 @@
+-- `read_formula::or_one` meets its contract: by whether there is a digit. Assumes nothing.
 use borrow.Author.Tests.{eq-eqb, ne-eqb}
 use Rattle.read_formula.proofs.or_one.Statement.{statement}
 use Rattle.read_formula.proofs.or_one.Tie as tie

@@ -1,3 +1,4 @@
+-- `read_formula::plain_span` meets its contract: symbol and count fit the part, and one lemma takes the calls. Assumes nothing.
 use native.Mathlib.Omega.{arith}
 use Rattle.read_formula.proofs.Measures.{plain-fits, plain-is}
 use borrow.Author.Needs.{needs}

@@ -1,3 +1,4 @@
+-- `read_formula::unit` meets its contract: the span, and the element at its symbol. Assumes nothing.
 use Rattle.read_formula.proofs.Measures.{unit-is}
 use borrow.Author.Needs.{needs}
 use Rattle.read_formula.proofs.unit.Statement.{statement}

@@ -1,3 +1,4 @@
+-- `read_formula::unit_fault` meets its contract: the three checks, with their places, rewritten. Assumes nothing.
 use Rattle.read_formula.specs.Units.{unitFault}
 use borrow.Author.Needs.{needs}
 use Rattle.read_formula.proofs.unit_fault.Statement.{statement}

@@ -1,3 +1,4 @@
+-- `read_formula::unit_span` meets its contract: by whether a bracket stands first. Assumes nothing.
 use mathlib.Core.Path.{sym, _∙_}
 use Rattle.read_formula.specs.Units.{spanOf}
 use borrow.Author.Needs.{needs}

@@ -1,3 +1,4 @@
+-- `read_formula::with_bracket` meets its contract: by arithmetic, before the end or at it. Assumes nothing.
 use native.Mathlib.Omega.{arith}
 use borrow.Author.Needs.{needs}
 use Rattle.read_formula.proofs.with_bracket.Statement.{statement}

@@ -1,3 +1,4 @@
+-- `read_ion::braced` meets its contract: rewritten by its three calls, the text in braces among them. Assumes nothing.
 use Rattle.read_ion.specs.Kinds.{bracedOf}
 use borrow.Author.Needs.{needs}
 use Rattle.read_ion.proofs.braced.Statement.{statement}

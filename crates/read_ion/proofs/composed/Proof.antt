@@ -1,3 +1,4 @@
+-- `read_ion::composed` meets its contract: rewritten by the formula behind `f{` and the two steps over it. Assumes nothing.
 use Rattle.read_ion.specs.Kinds.{composedOf}
 use borrow.Author.Needs.{needs}
 use Rattle.read_ion.proofs.composed.Statement.{statement}

@@ -1,3 +1,4 @@
+-- `read_ion::immonium` meets its contract: with a modification, or without. Assumes nothing.
 use Rattle.read_ion.specs.Kinds.{immoniumOf}
 use borrow.Author.Needs.{needs}
 use Rattle.read_ion.proofs.immonium.Statement.{statement}

@@ -1,3 +1,4 @@
+-- `read_ion::internal` meets its contract: one lemma takes both numbers, their limits and the text. Assumes nothing.
 use Rattle.read_ion.proofs.Found.{internal-is}
 use borrow.Author.Needs.{needs}
 use Rattle.read_ion.proofs.internal.Statement.{statement}

@@ -1,3 +1,4 @@
+-- `read_ion::ion` meets its contract: each first byte by its arm, and a series for any other. Assumes nothing.
 use Rattle.read_ion.specs.Ions.{ionBy}
 use Rattle.read_ion.proofs.Found.{first-is, first-other}
 use mathlib.Core.Path.{_∙_}

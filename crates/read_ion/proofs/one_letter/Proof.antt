@@ -1,3 +1,4 @@
+-- `read_ion::one_letter` meets its contract: each of the nine letters computed, and 0 for any other. Assumes nothing.
 use Rattle.read_ion.specs.Letters.{placeFrom, oneLetter}
 use Rattle.read_ion.proofs.Found.{letter-is, no-letter}
 use Rattle.read_ion.proofs.one_letter.Statement.{statement}

@@ -1,3 +1,4 @@
+-- `read_ion::opens_modification` meets its contract: no bracket, no `M`, `[M+`, or the byte behind `[M` decides. Assumes nothing.
 use Rattle.read_ion.proofs.Found.{no-bracket, no-m, m-plus, m-other}
 use mathlib.Core.Path.{sym, _∙_}
 use borrow.Author.Tests.{not-true, not-false}

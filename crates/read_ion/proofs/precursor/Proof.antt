@@ -1,3 +1,4 @@
+-- `read_ion::precursor` meets its contract: only its length is computed, by `advance`. Assumes nothing.
 use Rattle.read_ion.specs.Kinds.{precursorOf}
 use borrow.Author.Needs.{needs}
 use Rattle.read_ion.proofs.precursor.Statement.{statement}

@@ -1,3 +1,4 @@
+-- `read_ion::reference` meets its contract: rewritten by its three calls, the name in brackets among them. Assumes nothing.
 use Rattle.read_ion.specs.Kinds.{referenceOf}
 use borrow.Author.Needs.{needs}
 use Rattle.read_ion.proofs.reference.Statement.{statement}

@@ -1,3 +1,4 @@
+-- `read_ion::series` meets its contract: rewritten by its calls for letters, number, limit and text. Assumes nothing.
 use Rattle.read_ion.specs.Kinds.{seriesOf}
 use borrow.Author.Needs.{needs}
 use Rattle.read_ion.proofs.series.Statement.{statement}

@@ -1,3 +1,4 @@
+-- `read_ion::series_name` meets its contract: two letters, else one, else none. Assumes nothing.
 use Rattle.read_ion.proofs.Found.{letters-two, letters-one, letters-none}
 use borrow.Author.Needs.{needs}
 use Rattle.read_ion.proofs.series_name.Statement.{statement}

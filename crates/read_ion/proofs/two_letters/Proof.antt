@@ -1,3 +1,4 @@
+-- `read_ion::two_letters` meets its contract: each way through its ifs, computed from the two bytes. Assumes nothing.
 use borrow.Author.Tests.{eq-eqb, ne-eqb}
 use Rattle.read_ion.specs.Letters.{twoLetters}
 use Rattle.read_ion.proofs.two_letters.Statement.{statement}

@@ -1,3 +1,4 @@
+-- `read_ion::unknown` meets its contract: rewritten by its calls for the label and its limit. Assumes nothing.
 use Rattle.read_ion.specs.Kinds.{unknownOf}
 use borrow.Author.Needs.{needs}
 use Rattle.read_ion.proofs.unknown.Statement.{statement}

@@ -1,3 +1,4 @@
+-- `read_ion::with_text` meets its contract: only its length is computed, by `advance`. Assumes nothing.
 use borrow.Author.Needs.{needs}
 use Rattle.read_ion.proofs.with_text.Statement.{statement}
 use Rattle.read_ion.proofs.with_text.Tie as tie

@@ -1,3 +1,4 @@
+-- `read_isotopes::isotope` meets its contract: specific, average or plain, by the byte behind `i`. Assumes nothing.
 use mathlib.Core.Path.{sym, _∙_}
 use Rattle.read_isotopes.proofs.Parts.{specific-is, average-is, plain-is}
 use borrow.Author.Needs.{needs}

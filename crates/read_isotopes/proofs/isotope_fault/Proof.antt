@@ -1,3 +1,4 @@
+-- `read_isotopes::isotope_fault` meets its contract: the three checks, with their places, rewritten. Assumes nothing.
 use Rattle.read_isotopes.specs.Isotopes.{isotopeFault}
 use borrow.Author.Needs.{needs}
 use Rattle.read_isotopes.proofs.isotope_fault.Statement.{statement}

@@ -1,3 +1,4 @@
+-- `read_isotopes::isotopes` meets its contract: in its loop those passed, and those left, make the row. Assumes nothing.
 use borrow.Author.Needs.{needs}
 use Rattle.read_isotopes.proofs.IsotopeLoops.{Passed, begin, moves, counts, counted-all}
 use Rattle.read_isotopes.specs.Rows.{countIsotope}

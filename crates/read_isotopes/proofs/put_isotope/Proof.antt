@@ -1,3 +1,4 @@
+-- `read_isotopes::put_isotope` meets its contract: five puts in a row; sign and kind are bytes. Assumes nothing.
 use mathlib.Core.Path.{sym}
 use mathlib.Core.List.{append-nil}
 use native.Mathlib.Omega.{arith}

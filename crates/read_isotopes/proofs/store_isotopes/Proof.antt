@@ -1,3 +1,4 @@
+-- `read_isotopes::store_isotopes` meets its contract: in its loop the records put, and isotopes left, make the whole. Assumes nothing.
 use Rattle.read_isotopes.proofs.IsotopeLoops.{Filing, moves, puts-none, files, filed-all}
 use Rattle.faults.specs.Faults.{fault}
 use Rattle.put_bytes.proofs.Putting.{put-length}

@@ -1,3 +1,4 @@
+-- `read_line::store_all` meets its contract: an empty line; else the loop, which walks the line and runs its events. Assumes nothing.
 use Rattle.read_line.proofs.Storing.{Storing, storing-begins, storing-length, storing-falls, storing-turns, storing-ends, empty-stored}
 use Rattle.store_sections.proofs.Events.{ran-length}
 use lib.ListN.{length}

@@ -1,3 +1,4 @@
+-- `read_line::store_next` meets its contract: `store` on what is left, and the place behind it. Assumes nothing.
 use Rattle.read_line.proofs.Storing.{next-stored}
 use borrow.Author.Needs.{needs}
 use Rattle.read_line.proofs.store_next.Statement.{statement}

@@ -1,3 +1,4 @@
+-- `read_opening::begins_change` meets its contract: no sign, or no `i` behind sign and count. Assumes nothing.
 use borrow.Author.Tests.{not-true, not-false}
 use mathlib.Core.Path.{sym, _∙_}
 use Rattle.read_opening.specs.Heads.{beginsChange}

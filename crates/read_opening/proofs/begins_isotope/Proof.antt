@@ -1,3 +1,4 @@
+-- `read_opening::begins_isotope` meets its contract: no sign, or `i` behind sign and count decides. Assumes nothing.
 use borrow.Author.Tests.{not-true, not-false}
 use mathlib.Core.Path.{sym, _∙_}
 use Rattle.read_opening.specs.Heads.{beginsIsotope}

@@ -1,3 +1,4 @@
+-- `read_opening::begins_sign` meets its contract: by `+`, else by `-`. Assumes nothing.
 use mathlib.Core.Path.{sym, _∙_}
 use borrow.Author.Needs.{needs}
 use Rattle.read_opening.proofs.begins_sign.Statement.{statement}

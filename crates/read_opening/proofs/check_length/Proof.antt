@@ -1,3 +1,4 @@
+-- `read_opening::check_length` meets its contract: a fault known before, a text too long, or neither. Assumes nothing.
 use Rattle.faults.proofs.Marks.{join-known, join-kept, join-broken}
 use borrow.Author.Tests.{lt-ltb, le-ltb}
 use mathlib.Core.Path.{sym}

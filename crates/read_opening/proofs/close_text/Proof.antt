@@ -1,3 +1,4 @@
+-- `read_opening::close_text` meets its contract: rewritten by its calls for the length's limit and the two steps. Assumes nothing.
 use Rattle.read_opening.specs.Enclosed.{enclosedOf}
 use borrow.Author.Needs.{needs}
 use Rattle.read_opening.proofs.close_text.Statement.{statement}

@@ -1,3 +1,4 @@
+-- `read_opening::is_counted_i` meets its contract: by what stands behind the head. Assumes nothing.
 use borrow.Author.Needs.{needs}
 use Rattle.read_opening.proofs.is_counted_i.Statement.{statement}
 use Rattle.read_opening.proofs.is_counted_i.Tie as tie

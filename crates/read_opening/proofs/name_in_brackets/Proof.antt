@@ -1,3 +1,4 @@
+-- `read_opening::name_in_brackets` meets its contract: no bracket, or the name's bytes behind it. Assumes nothing.
 use borrow.Author.Tests.{not-true, not-false}
 use mathlib.Core.Path.{sym, _∙_}
 use Rattle.read_opening.specs.Enclosed.{nameOf}

@@ -1,3 +1,4 @@
+-- `read_opening::read_head` meets its contract: the count fits the part, then rewritten by its calls. Assumes nothing.
 use native.Mathlib.Omega.{arith}
 use Rattle.read_opening.proofs.Measures.{head-fits}
 use Rattle.read_opening.specs.Heads.{headOf}

@@ -1,3 +1,4 @@
+-- `read_opening::sign` meets its contract: by whether `+` stands first. Assumes nothing.
 use mathlib.Core.Path.{sym, _∙_}
 use borrow.Author.Needs.{needs}
 use Rattle.read_opening.proofs.sign.Statement.{statement}

@@ -1,3 +1,4 @@
+-- `read_opening::text_in_braces` meets its contract: no brace, or the text's bytes behind it. Assumes nothing.
 use borrow.Author.Tests.{not-true, not-false}
 use mathlib.Core.Path.{sym, _∙_}
 use Rattle.read_opening.specs.Enclosed.{textOf}

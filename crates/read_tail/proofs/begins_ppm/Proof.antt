@@ -1,3 +1,4 @@
+-- `read_tail::begins_ppm` meets its contract: too short, or byte by byte. Assumes nothing.
 use borrow.Author.Tests.{eq-eqb, ne-eqb}
 use mathlib.Core.Path.{sym}
 use Rattle.lang.proofs.Tests.{and-true}

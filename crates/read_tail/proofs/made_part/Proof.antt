@@ -1,3 +1,4 @@
+-- `read_tail::made_part` meets its contract: rewritten by the decimal, its number and the check. Assumes nothing.
 use Rattle.read_tail.specs.Decimals.{partOf}
 use borrow.Author.Needs.{needs}
 use Rattle.read_tail.proofs.made_part.Statement.{statement}

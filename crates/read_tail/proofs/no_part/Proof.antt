@@ -1,3 +1,4 @@
+-- `read_tail::no_part` meets its contract: by the contract of `zero`. Assumes nothing.
 use borrow.Author.Needs.{needs}
 use Rattle.read_tail.proofs.no_part.Statement.{statement}
 use Rattle.read_tail.proofs.no_part.Tie as tie

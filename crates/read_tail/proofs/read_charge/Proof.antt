@@ -1,3 +1,4 @@
+-- `read_tail::read_charge` meets its contract: no `^`, or a number that fits, with its limit. Assumes nothing.
 use borrow.Author.Tests.{not-true, not-false}
 use mathlib.Core.Path.{sym, _∙_}
 use native.Mathlib.Omega.{arith}

@@ -1,3 +1,4 @@
+-- `read_tail::read_confidence` meets its contract: no `*`, or a decimal that fits, as a part. Assumes nothing.
 use borrow.Author.Tests.{not-true, not-false}
 use mathlib.Core.Path.{sym, _∙_}
 use native.Mathlib.Omega.{arith}

@@ -1,3 +1,4 @@
+-- `read_tail::read_deviation` meets its contract: no `/`, in ppm, or without it; each length fits. Assumes nothing.
 use Prim.Native.Nat.{_+_}
 use borrow.Author.Tests.{not-true, not-false}
 use Rattle.rules.specs.Texts.{startsWith}

@@ -11,10 +11,10 @@ use Rattle.rules.specs.Bytes.{bytes}
 use Rattle.rules.specs.Numbers.{digits}
 use Rattle.rules.specs.Decimals.{whole, lastDigits, pointText}
 use Rattle.rules.specs.Elements.{symbols}
-use Rattle.rules.specs.Formulas.{Written, plain, labelled}
+use Rattle.rules.specs.Formulas.{plain, labelled}
 use Rattle.rules.specs.Ions.{reference, named, composed, smiles, unknown}
 use Rattle.rules.specs.Losses.{minus, plus}
-use Rattle.rules.specs.Annotations.{Annotation}
+use Rattle.rules.specs.Annotations.{SpelledAnnotation}
 use Rattle.rules.specs.Lines.{Spelling, lineText}
 use Rattle.rules.specs.Limits.{lineMarks}
 use Rattle.rules.specs.House.{firstBreach, firstExcess}
@@ -27,7 +27,7 @@ use Rattle.rules.proofs.worked.Row.{broken}
 abbrev refusal : ℕ → ℕ → Mark
 refusal number place = record { place = place; number = number; broken = true }
 
-abbrev again : ℕ → (Annotation Written → Annotation Written) → Annotation Written → Annotation Written
+abbrev again : ℕ → (SpelledAnnotation → SpelledAnnotation) → SpelledAnnotation → SpelledAnnotation
 again zero f a = a
 again (suc n) f a = again n f (f a)
 

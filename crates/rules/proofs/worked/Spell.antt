@@ -19,7 +19,7 @@ use Rattle.rules.specs.Ions.{Ion, series, internal, immonium, precursor,
 use Rattle.rules.specs.Losses.{Sign, lost-formula, lost-name, Loss}
 use Rattle.rules.specs.Isotopes.{Specific, Isotopes, no-isotope, plain-isotope, average-isotope, specific-isotopes}
 use Rattle.rules.specs.Adducts.{added-formula, electron, Item}
-use Rattle.rules.specs.Annotations.{Deviation, Annotation}
+use Rattle.rules.specs.Annotations.{SpelledAnnotation, Deviation}
 
 infixl 70 _with_
 -- ---- numbers
@@ -119,88 +119,88 @@ CO = formula (plain C silent) (plain O silent ∷ [])
 -- marked; analyte; ion; losses; isotopes; adduct; charge; deviation; confidence
 abbrev pub annotation :
     Bool → Opt ℕ → Ion Written → List (Loss Written) → Isotopes Written → List (Item Written) → Opt (From 2) → Opt Deviation → Opt Decimal
-    → Annotation Written
+    → SpelledAnnotation
 annotation m a i l s d c v f =
     record { marked = m; analyte = a; ion = i; losses = l; isotopes = s; adduct = d; charge = c; deviation = v; confidence = f }
 
-abbrev pub ion : Ion Written → Annotation Written
+abbrev pub ion : Ion Written → SpelledAnnotation
 ion i = annotation false silent i [] no-isotope [] silent silent silent
 
 -- one of the thirteen, by its place in their list less 1; position; text
-abbrev pub serial : (s : ℕ) → T (ltb s 13) → ℕ → Opt Text → Annotation Written
+abbrev pub serial : (s : ℕ) → T (ltb s 13) → ℕ → Opt Text → SpelledAnnotation
 serial s known n t = ion (series (record { which = s; known = known }) (num n) t)
 
-abbrev pub b : ℕ → Annotation Written
+abbrev pub b : ℕ → SpelledAnnotation
 b n = serial 1 tt n silent
 
-abbrev pub y : ℕ → Annotation Written
+abbrev pub y : ℕ → SpelledAnnotation
 y n = serial 7 tt n silent
 
-abbrev pub z : ℕ → Annotation Written
+abbrev pub z : ℕ → SpelledAnnotation
 z n = serial 8 tt n silent
 
-abbrev pub inner : ℕ → ℕ → Opt Text → Annotation Written
+abbrev pub inner : ℕ → ℕ → Opt Text → SpelledAnnotation
 inner m n t = ion (internal (num m) (num n) t)
 
-abbrev pub imm : (c : Char) → T (inC capital (code c)) → Opt Modification → Annotation Written
+abbrev pub imm : (c : Char) → T (inC capital (code c)) → Opt Modification → SpelledAnnotation
 imm c isIn m = ion (immonium (record { val = code c; isIn = isIn }) m)
 
-abbrev pub p : Annotation Written
+abbrev pub p : SpelledAnnotation
 p = ion precursor
 
-abbrev pub label : ℕ → Annotation Written
+abbrev pub label : ℕ → SpelledAnnotation
 label n = ion (unknown (written (num n)))
 
 -- ---- what stands before and after the ion
 
-abbrev pub _with_ : Annotation Written → (Annotation Written → Annotation Written) → Annotation Written
+abbrev pub _with_ : SpelledAnnotation → (SpelledAnnotation → SpelledAnnotation) → SpelledAnnotation
 a with f = f a
 
 -- `&`
-abbrev pub marked : Annotation Written → Annotation Written
+abbrev pub marked : SpelledAnnotation → SpelledAnnotation
 marked a = annotation true (a .analyte) (a .ion) (a .losses) (a .isotopes) (a .adduct) (a .charge) (a .deviation) (a .confidence)
 
-abbrev pub analyte : ℕ → Annotation Written → Annotation Written
+abbrev pub analyte : ℕ → SpelledAnnotation → SpelledAnnotation
 analyte n a = annotation (a .marked) (written n) (a .ion) (a .losses) (a .isotopes) (a .adduct) (a .charge) (a .deviation) (a .confidence)
 
 -- one more loss
-abbrev pub lose : Loss Written → Annotation Written → Annotation Written
+abbrev pub lose : Loss Written → SpelledAnnotation → SpelledAnnotation
 lose l a =
     annotation (a .marked) (a .analyte) (a .ion) (a .losses ++ (l ∷ [])) (a .isotopes) (a .adduct) (a .charge) (a .deviation) (a .confidence)
 
-abbrev pub loss : Sign → Opt (From 2) → Formula Written → Annotation Written → Annotation Written
+abbrev pub loss : Sign → Opt (From 2) → Formula Written → SpelledAnnotation → SpelledAnnotation
 loss sign count f = lose (record { sign = sign; count = count; what = lost-formula f })
 
-abbrev pub namedLoss : Sign → Opt (From 2) → LossName → Annotation Written → Annotation Written
+abbrev pub namedLoss : Sign → Opt (From 2) → LossName → SpelledAnnotation → SpelledAnnotation
 namedLoss sign count n = lose (record { sign = sign; count = count; what = lost-name n })
 
-abbrev pub isotopes : Isotopes Written → Annotation Written → Annotation Written
+abbrev pub isotopes : Isotopes Written → SpelledAnnotation → SpelledAnnotation
 isotopes s a = annotation (a .marked) (a .analyte) (a .ion) (a .losses) s (a .adduct) (a .charge) (a .deviation) (a .confidence)
 
-abbrev pub isotope : Sign → Written → Annotation Written → Annotation Written
+abbrev pub isotope : Sign → Written → SpelledAnnotation → SpelledAnnotation
 isotope sign count = isotopes (plain-isotope (record { sign = sign; count = count }))
 
-abbrev pub average : Sign → Written → Annotation Written → Annotation Written
+abbrev pub average : Sign → Written → SpelledAnnotation → SpelledAnnotation
 average sign count = isotopes (average-isotope (record { sign = sign; count = count }))
 
 abbrev pub specific : Sign → Written → ℕ → Symbol → Specific Written
 specific sign count n s = record { shift = record { sign = sign; count = count }; nucleons = num n; symbol = s }
 
-abbrev pub specifics : Specific Written → List (Specific Written) → Annotation Written → Annotation Written
+abbrev pub specifics : Specific Written → List (Specific Written) → SpelledAnnotation → SpelledAnnotation
 specifics x xs = isotopes (specific-isotopes (record { first = x; more = xs }))
 
 -- one more adduct item
-abbrev pub add : Item Written → Annotation Written → Annotation Written
+abbrev pub add : Item Written → SpelledAnnotation → SpelledAnnotation
 add x a =
     annotation (a .marked) (a .analyte) (a .ion) (a .losses) (a .isotopes) (a .adduct ++ (x ∷ [])) (a .charge) (a .deviation) (a .confidence)
 
-abbrev pub item : Sign → Written → Formula Written → Annotation Written → Annotation Written
+abbrev pub item : Sign → Written → Formula Written → SpelledAnnotation → SpelledAnnotation
 item sign count f = add (record { sign = sign; count = count; what = added-formula f })
 
-abbrev pub electrons : Sign → Written → Annotation Written → Annotation Written
+abbrev pub electrons : Sign → Written → SpelledAnnotation → SpelledAnnotation
 electrons sign count = add (record { sign = sign; count = count; what = electron })
 
-abbrev pub charge : ℕ → Annotation Written → Annotation Written
+abbrev pub charge : ℕ → SpelledAnnotation → SpelledAnnotation
 charge n a =
     annotation (a .marked) (a .analyte) (a .ion) (a .losses) (a .isotopes) (a .adduct) (written (num2 n)) (a .deviation) (a .confidence)
 
@@ -217,11 +217,11 @@ ppm = true
 abbrev pub mz : Bool
 mz = false
 
-abbrev pub off : Bool → Decimal → Bool → Annotation Written → Annotation Written
+abbrev pub off : Bool → Decimal → Bool → SpelledAnnotation → SpelledAnnotation
 off minus size unit a =
     annotation (a .marked) (a .analyte) (a .ion) (a .losses) (a .isotopes) (a .adduct) (a .charge)
     (written (record { minus = minus; size = size; ppm = unit })) (a .confidence)
 
-abbrev pub confidence : Decimal → Annotation Written → Annotation Written
+abbrev pub confidence : Decimal → SpelledAnnotation → SpelledAnnotation
 confidence d a =
     annotation (a .marked) (a .analyte) (a .ion) (a .losses) (a .isotopes) (a .adduct) (a .charge) (a .deviation) (written d)

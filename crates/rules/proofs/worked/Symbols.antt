@@ -10,7 +10,7 @@ use Rattle.rules.specs.Decimals.{whole, lastDigits, pointText}
 use Rattle.rules.specs.Elements.{symbols}
 use Rattle.rules.specs.Formulas.{Written, FormulaUnit, plain}
 use Rattle.rules.specs.Ions.{composed}
-use Rattle.rules.specs.Annotations.{Annotation}
+use Rattle.rules.specs.Annotations.{SpelledAnnotation}
 use Rattle.rules.proofs.worked.Spell.{sym, formula, ion}
 use Rattle.rules.proofs.worked.Row.{Worked}
 
@@ -18,7 +18,7 @@ use Rattle.rules.proofs.worked.Row.{Worked}
 abbrev u : (n : ℕ) → T (ltb n 118) → FormulaUnit Written
 u n known = plain (sym n known) silent
 
-abbrev of : FormulaUnit Written → List (FormulaUnit Written) → Annotation Written
+abbrev of : FormulaUnit Written → List (FormulaUnit Written) → SpelledAnnotation
 of first more = ion (composed (formula first more))
 
 abbrev line : String

@@ -20,8 +20,8 @@ part-requires c κs = search needs
 spell-requires : tie.Need-spell-requires
 spell-requires c κs = let a = c .before .before .before .before .before .before .before .args in let p = c .before .before .before .before .before .before .before .pre in (p .0, omega (arith, room-at (c .before .before .room .ensures), room-fits (length (a .out .now)) (a .s .waiting) 4097 (p .1)))
 
-put-told-requires : tie.Need-put-told-requires
-put-told-requires c κs = search needs
+put-answer-requires : tie.Need-put-answer-requires
+put-answer-requires c κs = search needs
 
 put8-requires : tie.Need-put8-requires
 put8-requires c κs = search needs
@@ -33,7 +33,7 @@ same-length : tie.Need-same-length
 same-length c = search needs
 
 returns : tie.Need-returns
-returns c = answered-by (c .before .before .before .before .before .before .before .before .before .before .before .before .before .before .room .ensures) (c .before .before .before .before .before .before .before .before .before .before .before .before .before .before .before .before .before .before .before .pre .1) (c .before .before .before .before .before .before .before .before .before .before .before .before .before .part .ensures) (c .before .before .before .before .before .before .before .before .before .before .out .given) (omega arith) (omega arith) (c .before .before .before .before .before .before .before .before .before .before .before .spell .ensures) (c .before .before .before .before .before .before .before .put-told .ensures) (c .before .before .before .put8 .ensures) (c .answered .ensures)
+returns c = answered-by (c .before .before .before .before .before .before .before .before .before .before .before .before .before .before .room .ensures) (c .before .before .before .before .before .before .before .before .before .before .before .before .before .before .before .before .before .before .before .pre .1) (c .before .before .before .before .before .before .before .before .before .before .before .before .before .part .ensures) (c .before .before .before .before .before .before .before .before .before .before .out .given) (omega arith) (omega arith) (c .before .before .before .before .before .before .before .before .before .before .before .spell .ensures) (c .before .before .before .before .before .before .before .put-answer .ensures) (c .before .before .before .put8 .ensures) (c .answered .ensures)
 
 pub one-line-spec : {M : Type 1} → statement M
 one-line-spec =
@@ -43,7 +43,7 @@ one-line-spec =
     room-requires
     part-requires
     spell-requires
-    put-told-requires
+    put-answer-requires
     put8-requires
     answered-requires
     same-length

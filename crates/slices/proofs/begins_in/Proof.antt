@@ -1,3 +1,4 @@
+-- `slices::begins_in` meets its contract: nothing left, below the range, or by its upper end. Assumes nothing.
 use Rattle.slices.proofs.Parts.{begins-none, begins-below, begins-from}
 use borrow.Author.Needs.{needs}
 use Rattle.slices.proofs.begins_in.Statement.{statement}

@@ -1,3 +1,4 @@
+-- `slices::begins_with` meets its contract: nothing left, or the first byte decides. Assumes nothing.
 use Rattle.slices.proofs.Parts.{starts-none, starts-at}
 use borrow.Author.Needs.{needs}
 use Rattle.slices.proofs.begins_with.Statement.{statement}

@@ -1,3 +1,4 @@
+-- `slices::rest` meets its contract: a part without its first n bytes is what is left of it, also where it has fewer. Assumes nothing.
 use Prim.Native.Nat.{ℕ}
 use mathlib.Core.Path.{ap, _∙_}
 use lib.ListN.{drop}

@@ -1,3 +1,4 @@
+-- `slices::u16_at` meets its contract: no byte, one, or two; each is below 256, so the sum fits. Assumes nothing.
 use Rattle.slices.proofs.Numbers.{word-none, word-half, word-whole}
 use native.Mathlib.Omega.{arith}
 use borrow.Author.Needs.{needs}

@@ -1,3 +1,4 @@
+-- `sort_changes::gather_all` meets its contract: in its loop what was gathered, and what is left, make the whole. Assumes nothing.
 use Rattle.sort_changes.proofs.Gathers.{Gathering, begin, same-long, moves, turn, ends}
 use borrow.Author.Needs.{needs}
 use native.Mathlib.Omega.{arith}

@@ -1,3 +1,4 @@
+-- `sort_changes::gather_one` meets its contract: one lemma takes the item read, its key and the insertion. Assumes nothing.
 use Rattle.sort_changes.proofs.Grown.{grown}
 use borrow.Author.Needs.{needs}
 use Rattle.sort_changes.proofs.gather_one.Statement.{statement}

@@ -1,3 +1,4 @@
+-- `sort_changes::put_key` meets its contract: preferred units, or the bytes as they stand. Assumes nothing.
 use Rattle.sort_changes.proofs.Steps.{key-units, key-rest}
 use Rattle.put_bytes.proofs.Putting.{put-as}
 use borrow.Author.Needs.{needs}

@@ -1,3 +1,4 @@
+-- `sort_changes::put_slot` meets its contract: the record, then units, a name, or nothing. Assumes nothing.
 use Rattle.rules.specs.Layout.{unitSection, textSection}
 use Rattle.sort_changes.proofs.Steps.{ran-at, slot-units, slot-name, slot-bare}
 use Rattle.store_sections.proofs.Events.{ran-then, ran-as}

@@ -1,3 +1,4 @@
+-- `sort_changes::put_slot_record` meets its contract: four numbers put in a row. Assumes nothing.
 use Rattle.put_bytes.proofs.Putting.{put-then}
 use borrow.Author.Needs.{needs}
 use Rattle.sort_changes.proofs.put_slot_record.Statement.{statement}

@@ -1,3 +1,4 @@
+-- `sort_changes::put_slots` meets its contract: in its loop the slots left to store make the whole, eight at most. Assumes nothing.
 use borrow.Author.Needs.{needs}
 use native.Mathlib.Omega.{arith}
 use lib.ListN.{length-map}

@@ -1,3 +1,4 @@
+-- `sort_changes::store_changes` meets its contract: none, several by `store_many`, or one that needs no order. Assumes nothing.
 use borrow.Author.Needs.{needs}
 use borrow.Author.Tests.{not-true, not-false}
 use mathlib.Core.Path.{sym, _∙_}

@@ -1,3 +1,4 @@
+-- `sort_changes::store_many` meets its contract: all gathered, then all slots put. Assumes nothing.
 use borrow.Author.Needs.{needs}
 use mathlib.Core.Path.{refl}
 use Rattle.sort_changes.proofs.Gathers.{stores-all}

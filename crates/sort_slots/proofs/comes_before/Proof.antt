@@ -1,3 +1,4 @@
+-- `sort_slots::comes_before` meets its contract: by the texts, and by sign and count where they are equal. Assumes nothing.
 use Rattle.sort_slots.proofs.Compare.{compared}
 use borrow.Author.Needs.{needs}
 use Rattle.sort_slots.proofs.comes_before.Statement.{statement}

@@ -1,3 +1,4 @@
+-- `sort_slots::insert` meets its contract: eight already, or one more by `put`. Assumes nothing.
 use Rattle.sort_slots.proofs.Inserted.{with-full, one-more}
 use mathlib.Core.Path.{sym}
 use borrow.Author.Needs.{needs}

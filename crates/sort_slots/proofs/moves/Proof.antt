@@ -1,3 +1,4 @@
+-- `sort_slots::moves` meets its contract: moved already, or the comparison decides. Assumes nothing.
 use Rattle.sort_slots.proofs.Compare.{moved-on, moved-now}
 use borrow.Author.Needs.{needs}
 use Rattle.sort_slots.proofs.moves.Statement.{statement}

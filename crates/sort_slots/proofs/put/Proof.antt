@@ -1,3 +1,4 @@
+-- `sort_slots::put` meets its contract: in its loop the places done, and the slot carried on, make the insertion. Assumes nothing.
 use Rattle.sort_slots.proofs.OneWalk.{Carrying, begin, turn, finish}
 use Rattle.sort_slots.specs.Slots.{slotLe}
 use native.Mathlib.Omega.{arith}

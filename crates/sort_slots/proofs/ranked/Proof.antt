@@ -1,3 +1,4 @@
+-- `sort_slots::ranked` meets its contract: past the end, a bracket, or another byte. Assumes nothing.
 use Rattle.sort_slots.proofs.Texts.{rank-past, rank-bracket, rank-other}
 use native.Mathlib.Omega.{arith}
 use mathlib.Core.Path.{sym}

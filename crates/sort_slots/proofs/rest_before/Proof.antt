@@ -1,3 +1,4 @@
+-- `sort_slots::rest_before` meets its contract: a lower sign, a higher one, or the counts decide. Assumes nothing.
 use Rattle.sort_slots.proofs.Compare.{rest-less, rest-more, rest-same}
 use Rattle.sort_slots.proofs.rest_before.Statement.{statement}
 use Rattle.sort_slots.proofs.rest_before.Tie as tie

@@ -1,3 +1,4 @@
+-- `sort_slots::text` meets its contract: past the buffer, cut at its end, or whole. Assumes nothing.
 use Rattle.sort_slots.proofs.Texts.{text-past, text-cut, text-whole}
 use borrow.Author.Needs.{needs}
 use Rattle.sort_slots.proofs.text.Statement.{statement}

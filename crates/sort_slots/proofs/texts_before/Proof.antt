@@ -1,3 +1,4 @@
+-- `sort_slots::texts_before` meets its contract: in its loop the bytes passed are alike, so those left decide. Assumes nothing.
 use Rattle.sort_slots.proofs.Compare.{Level, level, differ, step, shorter, alike}
 use lib.ListN.{length}
 use Prim.Native.Nat.{_-_}

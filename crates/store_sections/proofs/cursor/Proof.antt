@@ -1,3 +1,4 @@
+-- `store_sections::cursor` meets its contract: six arms computed, and no section past them. Assumes nothing.
 use native.Mathlib.Omega.{arith}
 use Rattle.store_sections.proofs.Others.{at-none}
 use borrow.Author.Needs.{needs}

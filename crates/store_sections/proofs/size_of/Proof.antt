@@ -1,3 +1,4 @@
+-- `store_sections::size_of` meets its contract: the place behind the text, from where the sections start. Assumes nothing.
 use mathlib.Core.Path.{ap, _∙_}
 use Rattle.store_sections.specs.declared.Cursors.{Cursors}
 use Rattle.store_sections.specs.Headers.{behind}

@@ -1,3 +1,4 @@
+-- `store_sections::with_cursor` meets its contract: six arms by their keys, and no change past them. Assumes nothing.
 use Prim.Native.Nat.{ℕ}
 use mathlib.Core.Path.{sym, ap}
 use native.Mathlib.Omega.{arith}

@@ -1,3 +1,4 @@
+-- `texts::is_name` meets its contract: no name byte first, or whether the leading ones are all decides. Assumes nothing.
 use Rattle.texts.proofs.Whole.{none-lead, some-lead}
 use Rattle.rules.specs.Bytes.{nameByte}
 use borrow.Author.Needs.{needs}

@@ -1,3 +1,4 @@
+-- `texts::len_between` meets its contract: all bytes before a place are of the class, until one is not. Assumes nothing.
 use Rattle.texts.proofs.LeadingLoop.{Before, begin, stops, turn, ends}
 use Rattle.texts.specs.Leading.{between}
 use lib.ListN.{length}

@@ -1,3 +1,4 @@
+-- `numbers::Decimal::new` meets its contract: too many places, too many digits, or within both bounds. Assumes nothing.
 use Rattle.numbers.proofs.Bounds.{made-fits, made-long, made-large, whole-none, whole-some}
 use native.Mathlib.Omega.{arith}
 use mathlib.Core.Path.{sym}

@@ -1,8 +1,9 @@
+-- `run_relabel::put_told` meets its contract: a refusal put, or the spelling as it stands. Assumes nothing.
 use mathlib.Core.Path.{refl}
 use Rattle.put_bytes.proofs.Putting.{put-then}
 use borrow.Author.Needs.{needs}
-use Rattle.run_relabel.proofs.put_told.Statement.{statement}
-use Rattle.run_relabel.proofs.put_told.Tie as tie
+use Rattle.run_relabel.proofs.put_answer.Statement.{statement}
+use Rattle.run_relabel.proofs.put_answer.Tie as tie
 
 put8-requires : tie.Need-put8-requires
 put8-requires c κs = search needs
@@ -33,8 +34,8 @@ advance-requires c κs = search needs
 returns-2 : tie.Need-returns-2
 returns-2 c = record { refused = λ h. absurd (h (c .before .if1 .left)); spelled = λ e. refl; behind = λ e. c .advance .ensures }
 
-pub put-told-spec : {M : Type 1} → statement M
-put-told-spec =
+pub put-answer-spec : {M : Type 1} → statement M
+put-answer-spec =
     tie.close
     (tie.spec
     put8-requires
