@@ -3,7 +3,9 @@
 // contract of the functions at the end.
 ghost use mathlib.Core.Path.{_≡_};
 ghost use mathlib.Core.List.{[], _∷_};
-ghost use Rattle.rules.specs.Stored.{edition, headerSize};
+ghost use Rattle.rules.specs.Stored.{headerSize};
+ghost use Rattle.rules.specs.Editions.{editionNumber};
+ghost use Rattle.layout.specs.Editions.{editionOf};
 ghost use Rattle.rules.specs.Layout.{annotationWidth, lossWidth, isotopeWidth, itemWidth, unitWidth};
 ghost use Rattle.rules.specs.Layout.{kindAt, markedAt, analytePresentAt, letterAt, analyteAt, positionAt, lastAt, chargeAt, deviationKindAt, deviationPlacesAt};
 ghost use Rattle.rules.specs.Layout.{confidencePresentAt, confidencePlacesAt, deviationAt, confidenceAt, textLengthAt, unitCountAt, lossCountAt, isotopeCountAt, itemCountAt};
@@ -12,8 +14,19 @@ ghost use Rattle.rules.specs.Layout.{unitNucleonsAt, unitElementAt, atomCountAt
 ghost use Rattle.rules.specs.Layout.{editionAt, lengthAt, annotationPairAt, lossPairAt, isotopePairAt, itemPairAt, unitPairAt, textPairAt};
 ghost use Rattle.rules.specs.Layout.{annotationSection, lossSection, isotopeSection, itemSection, unitSection, textSection};
 
-// The edition that a header begins with.
-pub const EDITION: usize = 1;
+// The editions of a stored table: there is one, and a further one is a case more.
+pub enum Edition {
+    First,
+}
+
+// The number that the header of an edition begins with.
+pub fn edition_number(e: Edition) -> usize
+    ensures { λ r. ⌜ r ≡ editionNumber (editionOf e) ⌝ }
+{
+    match e {
+        Edition::First => 1,
+    }
+}
 
 // ---- how many bytes the header and each record have
 
@@ -133,11 +146,10 @@ pub const TEXT_SECTION: usize = 5;
 
 // ---- that these are the definitions' numbers
 
-fn edition_and_sizes() -> [usize; 7]
-    ensures { λ r. ⌜ r ≡ edition ∷ headerSize ∷ annotationWidth ∷ lossWidth ∷ isotopeWidth ∷ itemWidth ∷ unitWidth ∷ [] ⌝ }
+fn sizes() -> [usize; 6]
+    ensures { λ r. ⌜ r ≡ headerSize ∷ annotationWidth ∷ lossWidth ∷ isotopeWidth ∷ itemWidth ∷ unitWidth ∷ [] ⌝ }
 {
     [
-        EDITION,
         HEADER_SIZE,
         ANNOTATION_SIZE,
         LOSS_SIZE,

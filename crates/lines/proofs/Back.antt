@@ -11,6 +11,7 @@ use Rattle.rules.specs.Preferred.{preferred, preferredSpelling}
 use Rattle.rules.specs.Stored.{stored}
 use Rattle.rules.specs.Answers.{Answer, refuses, gives, Delivers, no-room, done, Sound, Holds, Reads, ReadsSpelling, ReadsRules, ReadsSum, Writes, no-table, long, fits}
 use Rattle.rules.specs.Largest.{maxTable}
+use Rattle.rules.specs.Editions.{current}
 use Rattle.rules.proofs.PreferredSpells.{said-in-order, preferred-says}
 use Rattle.rules.proofs.WritesOne.{holds-one, writes-one}
 use Rattle.shape.proofs.Unambiguous.{reads-one}
@@ -24,17 +25,17 @@ use Rattle.lines.proofs.Right.{reads-table, bytes-read}
 -- ---- reading what was written
 
 -- the preferred line of a sound table, within its bound, reads to the table
-reads-preferred : (t : Table) → Sound t → length (preferred t) ≤ maxLine → (room : ℕ) → length (stored t) ≤ room → Reads (preferred t) room (gives room (stored t))
+reads-preferred : (t : Table) → Sound t → length (preferred t) ≤ maxLine → (room : ℕ) → length (stored current t) ≤ room → Reads (preferred t) room (gives room (stored current t))
 reads-preferred t s l room h =
     Reads.spelled l (preferredSpelling t) refl
     (ReadsSpelling.kept (preferred-kept t s)
     (ReadsRules.kept (preferred-rules t s) (ReadsSum.kept (preferred-sum t s) t (preferred-says (said-in-order (s .says))) (done h))))
 
 delivered-back : (t : Table) → Sound t → length (preferred t) ≤ maxLine → {room : ℕ} {a : Answer} → Delivers room (preferred t) a → a .number ≡ 0
-    → (room′ : ℕ) → length (stored t) ≤ room′ → Reads (take (a .size) (a .out)) room′ (gives room′ (stored t))
+    → (room′ : ℕ) → length (stored current t) ≤ room′ → Reads (take (a .size) (a .out)) room′ (gives room′ (stored current t))
 delivered-back t s l (no-room h) e room′ g = absurd (omega arith)
 delivered-back t s l {room} (done h) e room′ g =
-    subst (λ (w : List ℕ). Reads w room′ (gives room′ (stored t))) (sym (take-given room (preferred t))) (reads-preferred t s l room′ g)
+    subst (λ (w : List ℕ). Reads w room′ (gives room′ (stored current t))) (sym (take-given room (preferred t))) (reads-preferred t s l room′ g)
 
 -- some answer of reading, and so every one, is the table that was written
 pub read-back : {table : List ℕ} {room : ℕ} {a : Answer} → Writes table room a → a .number ≡ 0 → (room′ : ℕ) → length table ≤ room′
@@ -51,7 +52,7 @@ read-back-one {room′ = room′} w e g r = reads-one r (read-back w e room′ g
 -- ---- writing what was read
 
 -- the bytes are this table's, whose preferred line is within its bound: every answer of writing delivers that line
-writes-delivers : {bytes : List ℕ} (t : Table) → Holds bytes t → length (preferred t) ≤ maxLine → {room : ℕ} {b : Answer} → Writes bytes room b → Delivers room (preferred t) b
+writes-delivers : {bytes : List ℕ} (t : Table) → Holds current bytes t → length (preferred t) ≤ maxLine → {room : ℕ} {b : Answer} → Writes bytes room b → Delivers room (preferred t) b
 writes-delivers t h l (no-table n) = absurd (n t h)
 writes-delivers t h l (long u g k) = absurd (omega (arith, ap (λ (x : Table). length (preferred x)) (holds-one h g)))
 writes-delivers t h l {room} {b} (fits u g k d) = subst (λ (x : Table). Delivers room (preferred x) b) (holds-one g h) d
@@ -60,7 +61,7 @@ writes-delivers t h l {room} {b} (fits u g k d) = subst (λ (x : Table). Deliver
 pub record Written (line bytes : List ℕ) : Type 0 where
   pub table : Table
   pub spells : Spells table line
-  pub is : stored table ≡ bytes
+  pub is : stored current table ≡ bytes
   pub shorter : length (preferred table) ≤ length line
   pub writes : (room : ℕ) (b : Answer) → Writes bytes room b → Delivers room (preferred table) b
 
@@ -71,7 +72,7 @@ write-back line {room} {a} r e =
     let q = bytes-read line room x in
     let k : length (preferred t) ≤ length line = omega (arith, preferred-shorter (x .says), ap length (x .text)) in
     let l : length (preferred t) ≤ maxLine = omega (arith, x .short) in
-    let h : Holds (take (a .size) (a .out)) t = record { sound = x .sound; is = sym q } in
+    let h : Holds current (take (a .size) (a .out)) t = record { sound = x .sound; is = sym q } in
     record { table = t; spells = record { spelling = x .spelling; text = x .text; says = x .says }; is = sym q; shorter = k; writes = λ room b w. writes-delivers t h l w }
 
 -- ---- both

@@ -17,6 +17,7 @@ use Rattle.rules.specs.Preferred.{preferred}
 use Rattle.rules.specs.Stored.{stored}
 use Rattle.rules.specs.Answers.{Answer, refuses, gives, Sound, Holds, Reads}
 use Rattle.rules.specs.Largest.{maxTable}
+use Rattle.rules.specs.Editions.{current}
 use Rattle.scan_line.specs.declared.Verdict.{Verdict}
 use Rattle.scan_line.specs.declared.Verdict.the-variants.{Fine, Short, Stray}
 use Rattle.scan_line.specs.Steps.{machineBytes, scannedBy}
@@ -48,7 +49,7 @@ pub record Read (line : List ℕ) (room : ℕ) (a : Answer) : Type 0 where
   pub says : Each Says spelling table
   pub limits : Kept (lineMarks spelling)
   pub sound : Sound table
-  pub is : a ≡ gives room (stored table)
+  pub is : a ≡ gives room (stored current table)
 
 pub reads-table : (line : List ℕ) (room : ℕ) {a : Answer} → Reads line room a → a .number ≡ 0 → Read line room a
 reads-table line room (Reads.long h) e = absurd (omega arith)
@@ -58,10 +59,10 @@ reads-table line room (Reads.spelled h s q r) e =
     record { table = y .table; spelling = s; text = q; short = h; says = y .says; limits = y .limits; sound = y .sound; is = y .is }
 
 -- what stands in the output is the table's
-pub bytes-read : (line : List ℕ) (room : ℕ) {a : Answer} (x : Read line room a) → take (a .size) (a .out) ≡ stored (x .table)
-bytes-read line room {a} x = ap (λ (y : Answer). take (y .size) (y .out)) (x .is) ∙ take-given room (stored (x .table))
+pub bytes-read : (line : List ℕ) (room : ℕ) {a : Answer} (x : Read line room a) → take (a .size) (a .out) ≡ stored current (x .table)
+bytes-read line room {a} x = ap (λ (y : Answer). take (y .size) (y .out)) (x .is) ∙ take-given room (stored current (x .table))
 
-holds-read : (line : List ℕ) (room : ℕ) {a : Answer} (x : Read line room a) → Holds (take (a .size) (a .out)) (x .table)
+holds-read : (line : List ℕ) (room : ℕ) {a : Answer} (x : Read line room a) → Holds current (take (a .size) (a .out)) (x .table)
 holds-read line room x = record { sound = x .sound; is = sym (bytes-read line room x) }
 
 -- what is spelled for it

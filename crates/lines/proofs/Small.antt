@@ -22,6 +22,7 @@ use Rattle.rules.specs.Limits.{maxLine, maxUnits}
 use Rattle.rules.specs.Stored.{ionFields, lostUnits, lostName, addedUnits, annotationTexts, stored}
 use Rattle.rules.specs.Answers.{Sound}
 use Rattle.rules.specs.Largest.{maxPlainBytes, maxTable}
+use Rattle.rules.specs.Editions.{current}
 use Rattle.rules.proofs.Totals.{total, length-flat, total-le, perm-flat}
 use Rattle.rules.proofs.Bounds.{Bounded, table-few, table-bounded}
 use Rattle.rules.proofs.Lengths.{weight, stored-weight}
@@ -88,11 +89,11 @@ total-over : {A : Type 0} (v w : A → ℕ) (n : ℕ) (xs : List A) → ((x : A)
 total-over v w n [] h = omega arith
 total-over v w n (x ∷ xs) h = omega (arith, h x here, total-over v w n xs (λ y i. h y (later i)), mul-suc n (length xs))
 
-pub table-small : {s : Spelling} {t : Table} → Each Says s t → Sound t → length (lineText s) ≤ maxLine → length (stored t) ≤ maxTable
+pub table-small : {s : Spelling} {t : Table} → Each Says s t → Sound t → length (lineText s) ≤ maxLine → length (stored current t) ≤ maxTable
 table-small {t = t} e h short =
     omega (
       arith,
-      stored-weight t,
+      stored-weight current t,
       total-over weight (λ a. length (annotationTexts a)) maxPlainBytes t (λ a i. weight-plain a (table-bounded t h a i)),
       table-few t h,
       texts-long e,

@@ -13,6 +13,7 @@ use Rattle.rules.specs.Preferred.{shortenedAnnotation, preferred}
 use Rattle.rules.specs.Answers.{Sound}
 use Rattle.rules.specs.Stored.{stored}
 use Rattle.rules.specs.Limits.{maxAnnotations}
+use Rattle.rules.specs.Editions.{current}
 use Rattle.rules.proofs.Bounds.{Bounded, table-few, table-bounded}
 use Rattle.rules.proofs.FitAnnotations.{InRange, table-in-range}
 use Rattle.counts.specs.declared.Counts.{Counts}
@@ -52,11 +53,11 @@ line-printed (a ∷ t) q h =
     ap₂ (λ (v w : List ℕ). v ++ w) (first-text a t q (h a here))
     (ap (annotationsPrinted 1 (length t)) (first-behind a t q (h a here)) ∙ next-printed 0 t q (λ b j. h b (later j)))
 
-pub table-printed : (t : Table) → Sound t → printedTable (stored t) ≡ preferred t
+pub table-printed : (t : Table) → Sound t → printedTable (stored current t) ≡ preferred t
 unfolding printedTable
 table-printed t s =
     let counts = counts-stored t s in
     let few : min (length t) maxAnnotations ≡ length t = omega (arith, table-few t s) in
     ap₂ (annotationsPrinted 0) (ap (λ (n : Counts). min (n .annotations) maxAnnotations) counts ∙ few)
-    (ap (λ (n : Counts). storedPartsAt (stored t) (startsOf n)) counts ∙ parts-stored t s)
+    (ap (λ (n : Counts). storedPartsAt (stored current t) (startsOf n)) counts ∙ parts-stored t s)
     ∙ line-printed t (others t) (λ a i. (table-bounded t s a i, table-in-range t s a i))

@@ -10,6 +10,7 @@ use Rattle.rules.specs.Fields.{Table}
 use Rattle.rules.specs.Answers.{Sound}
 use Rattle.rules.specs.Stored.{Field, stores, lossRecord, isotopeRecords, itemRecord, unitRecord, annotationRecord, annotationUnits, annotationTexts, section, header, stored}
 use Rattle.rules.specs.Layout.{annotationPairAt, lossPairAt, isotopePairAt, itemPairAt, unitPairAt, textPairAt, annotationSection, lossSection, isotopeSection, itemSection, unitSection, textSection}
+use Rattle.rules.specs.Editions.{current}
 use Rattle.rules.proofs.Lengths.{lossesOf, isotopesOf, itemsOf, unitsOf, textsOf, stored-length}
 use Rattle.rules.proofs.Sizes.{sizes-fit}
 use Rattle.store_sections.specs.Pages.{joined, begins}
@@ -64,10 +65,10 @@ others t =
     let ls = tails (bytesIn t) in
     record { notes = getD ls lossSection []; losses = getD ls isotopeSection []; isotopes = getD ls itemSection []; items = getD ls unitSection []; units = getD ls textSection []; text = [] }
 
-pub parts-stored : (t : Table) → Sound t → storedPartsAt (stored t) (startsOf (countsOf t)) ≡ sectioned t (others t)
+pub parts-stored : (t : Table) → Sound t → storedPartsAt (stored current t) (startsOf (countsOf t)) ≡ sectioned t (others t)
 parts-stored t s =
-    let l = starts-laid t (omega (arith, sizes-fit t s)) in
-    ap partsFrom (ap (map (λ p. drop p (stored t))) (l .starts) ∙ from-begins (stores (header t)) (bytesIn t))
+    let l = starts-laid current t (omega (arith, sizes-fit current t s)) in
+    ap partsFrom (ap (map (λ p. drop p (stored current t))) (l .starts) ∙ from-begins (stores (header current t)) (bytesIn t))
 
 -- the first annotation before the others
 pub first-laid : (a : TableAnnotation) (t : Table) (q : StoredParts) → sectioned (a ∷ t) q ≡ laid a (sectioned t q)
@@ -82,14 +83,14 @@ first-laid a t q =
 
 -- ---- the header
 
-pub counts-stored : (t : Table) → Sound t → countsAt (stored t) ≡ countsOf t
+pub counts-stored : (t : Table) → Sound t → countsAt (stored current t) ≡ countsOf t
 counts-stored t s =
-    let size = sizes-fit t s in
-    let is = stored-length t in
-    let annotations = word-stored (length t) (drop (annotationPairAt + 2) (stored t)) (omega arith) in
-    let losses = word-stored (length (lossesOf t)) (drop (lossPairAt + 2) (stored t)) (omega arith) in
-    let isotopes = word-stored (length (isotopesOf t)) (drop (isotopePairAt + 2) (stored t)) (omega arith) in
-    let items = word-stored (length (itemsOf t)) (drop (itemPairAt + 2) (stored t)) (omega arith) in
-    let units = word-stored (length (unitsOf t)) (drop (unitPairAt + 2) (stored t)) (omega arith) in
-    let text = word-stored (length (textsOf t)) (drop (textPairAt + 2) (stored t)) (omega arith) in
+    let size = sizes-fit current t s in
+    let is = stored-length current t in
+    let annotations = word-stored (length t) (drop (annotationPairAt + 2) (stored current t)) (omega arith) in
+    let losses = word-stored (length (lossesOf t)) (drop (lossPairAt + 2) (stored current t)) (omega arith) in
+    let isotopes = word-stored (length (isotopesOf t)) (drop (isotopePairAt + 2) (stored current t)) (omega arith) in
+    let items = word-stored (length (itemsOf t)) (drop (itemPairAt + 2) (stored current t)) (omega arith) in
+    let units = word-stored (length (unitsOf t)) (drop (unitPairAt + 2) (stored current t)) (omega arith) in
+    let text = word-stored (length (textsOf t)) (drop (textPairAt + 2) (stored current t)) (omega arith) in
     λ i. record { annotations = annotations i; losses = losses i; isotopes = isotopes i; items = items i; units = units i; text = text i }

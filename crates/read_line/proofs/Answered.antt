@@ -5,6 +5,7 @@ use mathlib.Core.List.{List}
 use lib.ListN.{length, replicate}
 use borrow.Author.Tests.{ne-eqb, lt-ltb, le-ltb}
 use Rattle.rules.specs.Limits.{maxLine}
+use Rattle.rules.specs.Editions.{current}
 use Rattle.faults.specs.declared.Fault.{Fault}
 use Rattle.counts.specs.declared.Counts.{Counts}
 use Rattle.store_sections.specs.declared.Cursors.{Cursors}
@@ -63,7 +64,7 @@ module _ (line : List ℕ) {p : Parts} {t : Totals} {f : Fault} (pp : p ≡ part
               ∙ sym (stored-is d ∙ no-room-over d line (t .counts) (subst (λ (k : ℕ). length d < k) ps h));
         }
 
-    pub spelled-stored : {d e g : List ℕ} {c : Cursors} → size ≤ length d → Headed d (t .counts) e c → StoresLine line p e c g
+    pub spelled-stored : {d e g : List ℕ} {c : Cursors} → size ≤ length d → Headed current d (t .counts) e c → StoresLine line p e c g
         → ReadsSpelled line d g (record { number = 0; place = 0; len = size })
     spelled-stored {d} {e} {g} {c} h o q =
         let w : g ≡ tableOver d line (t .counts) =

@@ -13,6 +13,7 @@ use Rattle.rules.specs.Lines.{Spelling}
 use Rattle.rules.specs.Fields.{filledAnnotation, Table, Says}
 use Rattle.rules.specs.Stored.{ionFields, lostUnits, lostName, addedUnits, isotopeRecords, annotationUnits, annotationTexts, stored}
 use Rattle.rules.specs.Answers.{Sound}
+use Rattle.rules.specs.Editions.{current}
 use Rattle.rules.proofs.Totals.{perm-length, perm-flat}
 use Rattle.rules.proofs.Lengths.{stored-length}
 use Rattle.rules.proofs.Sizes.{sizes-fit}
@@ -94,13 +95,13 @@ all-same (next {b = b} {m = t} x e) = ap₂ plus (counts-same x) (all-same e) �
 -- a sound table has no more of anything than fits
 counts-fit : (t : Table) → Sound t → Fits (countsOf t)
 counts-fit t w =
-    let l = stored-length t in
-    let m = sizes-fit t w in
+    let l = stored-length current t in
+    let m = sizes-fit current t w in
     record { annotations = omega arith; losses = omega arith; isotopes = omega arith; items = omega arith; units = omega arith; text = omega arith }
 
 pub counts-are : {s : Spelling} {t : Table} {n : Counts} → Each Says s t → Sound t → n ≡ plus noCounts (spelledCounts s) → n ≡ countsOf t
 counts-are {t = t} e w c = c ∙ ap (plus noCounts) (all-same e) ∙ plus-capped noCounts (countsOf t) ∙ fits-exact (counts-fit t w)
 
 -- the size that is told is that of the table
-pub end-is : (t : Table) → Sound t → endAt (countsOf t) ≡ length (stored t)
-end-is t w = omega (arith, stored-length t, sizes-fit t w)
+pub end-is : (t : Table) → Sound t → endAt (countsOf t) ≡ length (stored current t)
+end-is t w = omega (arith, stored-length current t, sizes-fit current t w)

@@ -19,6 +19,7 @@ use Rattle.rules.specs.House.{firstBreach, firstExcess}
 use Rattle.rules.specs.Stored.{stored}
 use Rattle.rules.specs.Answers as rules
 use Rattle.rules.specs.Answers.{refuses, Delivers, no-room, done, Sound, ReadsSum, ReadsRules, ReadsSpelling, Reads}
+use Rattle.rules.specs.Editions.{current}
 use Rattle.rules.proofs.FirstBroken.{first-wins, first-keeps, wins-number}
 use Rattle.rules.proofs.OneShape.{judged-shape, judged-misshapen}
 use Rattle.put_bytes.specs.Puts.{maxPlace}
@@ -54,35 +55,35 @@ module _ (room : ℕ) (small : room ≤ maxPlace) (line : List ℕ) (s : Spellin
   zeros-small : length zeros ≤ maxPlace
   zeros-small = omega (arith, length-replicate {A = ℕ} room 0)
 
-  header-put : (n : Counts) → Headed zeros n (sets zeros 0 (headerBytes n)) (startsOf n)
+  header-put : (n : Counts) → Headed current zeros n (sets zeros 0 (headerBytes current n)) (startsOf n)
   header-put n = record { put = record { small = zeros-small; next = refl; made = refl }; starts = refl }
 
-  sections-ran : (n : Counts) → length (sets zeros 0 (headerBytes n)) ≤ maxPlace
-      → Ran (sets zeros 0 (headerBytes n)) (startsOf n) (lineEvents line) (tableOver zeros line n) (ends (startsOf n) (lineEvents line))
+  sections-ran : (n : Counts) → length (sets zeros 0 (headerBytes current n)) ≤ maxPlace
+      → Ran (sets zeros 0 (headerBytes current n)) (startsOf n) (lineEvents line) (tableOver zeros line n) (ends (startsOf n) (lineEvents line))
   sections-ran n h = record { small = h; made = refl; place = refl }
 
   -- how many there are in each section is counted
   module _ (n : Counts) (is : n ≡ countsOf t) where
-    size-is : endAt n ≡ length (stored t)
+    size-is : endAt n ≡ length (stored current t)
     size-is = ap endAt is ∙ end-is t sound
 
-    table-is : length (stored t) ≤ room → tableOver zeros line n ≡ stored t ++ replicate (room - length (stored t)) 0
+    table-is : length (stored current t) ≤ room → tableOver zeros line n ≡ stored current t ++ replicate (room - length (stored current t)) 0
     table-is h =
-        let k : length (sets zeros 0 (headerBytes n)) ≤ maxPlace = omega (arith, length-sets zeros 0 (headerBytes n), zeros-small) in
+        let k : length (sets zeros 0 (headerBytes current n)) ≤ maxPlace = omega (arith, length-sets zeros 0 (headerBytes current n), zeros-small) in
         table-stored room t refl is (header-put n) (sections-ran n k) fills h
 
-    delivered : Delivers room (stored t) (storedOver zeros line n)
+    delivered : Delivers room (stored current t) (storedOver zeros line n)
     delivered = by (ltb (length zeros) (endAt n)) refl
       where
         by : (b : Bool) → ltb (length zeros) (endAt n) ≡ b
-            → Delivers room (stored t)
+            → Delivers room (stored current t)
             (cond b (record { number = 8; place = endAt n; size = 0; out = zeros }) (record { number = 0; place = 0; size = endAt n; out = tableOver zeros line n }))
         by true e =
-            subst (λ (k : ℕ). Delivers room (stored t) (record { number = 8; place = k; size = 0; out = zeros })) (sym size-is)
+            subst (λ (k : ℕ). Delivers room (stored current t) (record { number = 8; place = k; size = 0; out = zeros })) (sym size-is)
             (no-room (omega (arith, ltb-true (length zeros) (endAt n) e, size-is, length-replicate {A = ℕ} room 0)))
         by false e =
-            let h : length (stored t) ≤ room = omega (arith, ltb-false (length zeros) (endAt n) e, size-is, length-replicate {A = ℕ} room 0) in
-            subst (λ (a : rules.Answer). Delivers room (stored t) a)
+            let h : length (stored current t) ≤ room = omega (arith, ltb-false (length zeros) (endAt n) e, size-is, length-replicate {A = ℕ} room 0) in
+            subst (λ (a : rules.Answer). Delivers room (stored current t) a)
             (ap₂ (λ (k : ℕ) (o : List ℕ). record { number = 0; place = 0; size = k; out = o }) (sym size-is) (sym (table-is h)))
             (done h)
 

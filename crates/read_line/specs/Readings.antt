@@ -9,6 +9,7 @@ use lib.Seq.{sets}
 use Rattle.rules.specs.Limits.{maxLine}
 use Rattle.rules.specs.Answers as rules
 use Rattle.rules.specs.Answers.{refuses}
+use Rattle.rules.specs.Editions.{current}
 use Rattle.counts.specs.declared.Counts.{Counts}
 use Rattle.store_sections.specs.Pages.{run}
 use Rattle.store_sections.specs.Headers.{startsOf, endAt, headerBytes}
@@ -27,7 +28,7 @@ refusedOver d number place = record { number = number; place = place; size = 0; 
 
 -- header and sections, over the output d
 abbrev pub tableOver : List ℕ → List ℕ → Counts → List ℕ
-tableOver d line n = run (sets d 0 (headerBytes n)) (startsOf n) (lineEvents line)
+tableOver d line n = run (sets d 0 (headerBytes current n)) (startsOf n) (lineEvents line)
 
 abbrev pub storedOver : List ℕ → List ℕ → Counts → rules.Answer
 storedOver d line n =

@@ -11,6 +11,7 @@ ghost use Rattle.rules.specs.Largest.{maxAnyTable};
 ghost use Rattle.read_line.specs.Back.{readsTo, few, zeros};
 use answers::Answer;
 use answers::refuse;
+use layout::Edition;
 use limits::MAX_ANY_TABLE;
 use limits::MAX_LINE;
 use measure_line::first_refusal;
@@ -86,7 +87,7 @@ fn read_spelled(line: &[u8], out: &mut [u8]) -> Answer
     if out.len() < size {
         return refuse(8, size);
     }
-    let c = put_header(out, n);
+    let c = put_header(out, Edition::First, n);
     store_all(out, c, line, first);
     Answer {
         number: 0,

@@ -17,6 +17,7 @@ use Rattle.rules.specs.Stored.{little, Field, stores, unitRecord, lossRe
 use Rattle.rules.specs.Stored.{isotopeRecord, specificRecord, isotopeRecords, itemRecord, annotationRecord}
 use Rattle.rules.specs.Stored.{annotationUnits, annotationTexts, section, sections, headerSize, counts, body, header, stored}
 use Rattle.rules.specs.Layout.{annotationWidth, lossWidth, isotopeWidth, itemWidth, unitWidth}
+use Rattle.rules.specs.Editions.{Edition}
 use Rattle.rules.proofs.Totals.{total, length-flat, length-flat-each, in-none, in-map, in-flat}
 
 -- ---- records
@@ -54,8 +55,8 @@ item-length x = refl
 pub annotation-length : (a : TableAnnotation) → length (stores (annotationRecord a)) ≡ annotationWidth
 annotation-length a = refl
 
-pub header-length : (t : Table) → length (stores (header t)) ≡ headerSize
-header-length t = refl
+pub header-length : (e : Edition) (t : Table) → length (stores (header e t)) ≡ headerSize
+header-length e t = refl
 
 -- ---- the whole, by its counts
 
@@ -107,8 +108,8 @@ pub body-length : (t : Table) → length (body t) ≡ bodySize t
 body-length t =
     omega (arith, length-flat (λ s. s .bytes) (sections t), annotations-length t, losses-length t, isotopes-length t, items-length t, units-length t)
 
-pub stored-length : (t : Table) → length (stored t) ≡ headerSize + bodySize t
-stored-length t = omega (arith, body-length t)
+pub stored-length : (e : Edition) (t : Table) → length (stored e t) ≡ headerSize + bodySize t
+stored-length e t = omega (arith, body-length t)
 
 -- ---- the whole, annotation by annotation
 
@@ -131,5 +132,5 @@ body-weight (a ∷ t) =
       length-append (annotationTexts a) (textsOf t),
     )
 
-pub stored-weight : (t : Table) → length (stored t) ≡ headerSize + total weight t
-stored-weight t = stored-length t ∙ ap (λ (n : ℕ). headerSize + n) (body-weight t)
+pub stored-weight : (e : Edition) (t : Table) → length (stored e t) ≡ headerSize + total weight t
+stored-weight e t = stored-length e t ∙ ap (λ (n : ℕ). headerSize + n) (body-weight t)

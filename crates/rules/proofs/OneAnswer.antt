@@ -10,6 +10,7 @@ use Rattle.rules.specs.Lines.{Spelling, lineText}
 use Rattle.rules.specs.Fields.{Table}
 use Rattle.rules.specs.Stored.{stored}
 use Rattle.rules.specs.Answers.{Answer, refuses, Delivers, no-room, done, ReadsSum, excess, ReadsRules, breach, ReadsSpelling, limit, Reads, long, misshapen, spelled}
+use Rattle.rules.specs.Editions.{current}
 use Rattle.rules.proofs.OneShape.{misshapen-no-shape, misshapen-one}
 use Rattle.rules.proofs.OneTable.{one-table}
 
@@ -40,7 +41,7 @@ module _ (one-spelling : (s u : Spelling) → lineText s ≡ lineText u → s �
   sum-one (excess j p) (ReadsSum.kept q t e d) = absurd (written-not-silent _ p q)
   sum-one (ReadsSum.kept p t e d) (excess k q) = absurd (written-not-silent _ q p)
   sum-one {room = room} {b = b} (ReadsSum.kept p t e d) (ReadsSum.kept q u f c) =
-      delivers-one d (subst (λ (x : Table). Delivers room (stored x) b) (one-table one-spelling f e) c)
+      delivers-one d (subst (λ (x : Table). Delivers room (stored current x) b) (one-table one-spelling f e) c)
 
   rules-one : {s : Spelling} {room : ℕ} {a b : Answer} → ReadsRules s room a → ReadsRules s room b → a ≡ b
   rules-one {room = room} (breach j p) (breach k q) = ap (refuses room 6) (written-one _ p q)

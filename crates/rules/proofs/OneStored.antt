@@ -17,6 +17,7 @@ use Rattle.rules.specs.Stored.{annotationRecord, annotationUnits, Sectio
 use Rattle.rules.specs.Answers.{Sound}
 use Rattle.rules.specs.Layout.{unitWidths, lossWidths, isotopeWidths, itemWidths, annotationWidths}
 use Rattle.rules.specs.Largest.{maxAnyTable}
+use Rattle.rules.specs.Editions.{Edition}
 use Rattle.rules.proofs.Totals.{in-append, in-flat}
 use Rattle.rules.proofs.Bounds.{table-bounded}
 use Rattle.rules.proofs.Lengths.{lossesOf, isotopesOf, itemsOf, unitsOf, textsOf, annotations-length, losses-length, isotopes-length, items-length, units-length}
@@ -41,13 +42,13 @@ counts-fit at (s ∷ ss) h =
     let rest = counts-fit (at + length (s .bytes)) ss (λ f i. h f (later (later i))) in
     (refl, omega (arith, h _ here), (refl, omega (arith, h _ (later here)), rest))
 
-header-one : (t u : Table) → Sound t → Sound u → stores (header t) ≡ stores (header u) → header t ≡ header u
-header-one t u s r e = stores-one (2 ∷ 2 ∷ countWidths (sections t)) (header t) (header u) (fit t s) (fit u r) e
+header-one : (d : Edition) (t u : Table) → Sound t → Sound u → stores (header d t) ≡ stores (header d u) → header d t ≡ header d u
+header-one d t u s r e = stores-one (2 ∷ 2 ∷ countWidths (sections t)) (header d t) (header d u) (fit t s) (fit u r) e
   where
-    fit : (t : Table) → Sound t → Fits (2 ∷ 2 ∷ countWidths (sections t)) (header t)
+    fit : (t : Table) → Sound t → Fits (2 ∷ 2 ∷ countWidths (sections t)) (header d t)
     fit t s =
-        let h = header-fits t s in
-        (refl, omega arith, (refl, omega (arith, h _ (later here)), counts-fit headerSize (sections t) (λ f i. h f (later (later i)))))
+        let h = header-fits d t s in
+        (refl, omega (arith, h _ here), (refl, omega (arith, h _ (later here)), counts-fit headerSize (sections t) (λ f i. h f (later (later i)))))
 
 -- ---- the sections
 
@@ -61,8 +62,8 @@ record SameBytes (t u : Table) : Type 0 where
   texts : textsOf t ≡ textsOf u
 
 -- the header tells how long each section is, and so where the next begins
-body-one : (t u : Table) → header t ≡ header u → body t ≡ body u → SameBytes t u
-body-one t u h e =
+body-one : (d : Edition) (t u : Table) → header d t ≡ header d u → body t ≡ body u → SameBytes t u
+body-one d t u h e =
     let n0 : length t ≡ length u = ap (valueAt 2) h in
     let n1 : length (lossesOf t) ≡ length (lossesOf u) = ap (valueAt 4) h in
     let n2 : length (isotopesOf t) ≡ length (isotopesOf u) = ap (valueAt 6) h in
@@ -102,11 +103,11 @@ module _ (t : Table) (s : Sound t) where
 
 -- ---- the whole
 
-pub one-stored : (t u : Table) → Sound t → Sound u → stored t ≡ stored u → t ≡ u
-one-stored t u s r e =
-    let c = cut (stores (header t)) (stores (header u)) refl e in
-    let h = header-one t u s r (c .0) in
-    let b = body-one t u h (c .1) in
+pub one-stored : (d : Edition) (t u : Table) → Sound t → Sound u → stored d t ≡ stored d u → t ≡ u
+one-stored d t u s r e =
+    let c = cut (stores (header d t)) (stores (header d u)) refl e in
+    let h = header-one d t u s r (c .0) in
+    let b = body-one d t u h (c .1) in
     let ann = records-one annotationRecord annotationWidths t u (annotations-fit t s) (annotations-fit u r) (ap (valueAt 2) h) (b .annotations) in
     let ls = records-one lossRecord lossWidths (lossesOf t) (lossesOf u) (losses-fit t s) (losses-fit u r) (ap (valueAt 4) h) (b .losses) in
     let is = records-one (λ x. x) isotopeWidths (isotopesOf t) (isotopesOf u) (isotopes-fit t s) (isotopes-fit u r) (ap (valueAt 6) h) (b .isotopes) in

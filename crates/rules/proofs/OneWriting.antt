@@ -9,15 +9,16 @@ use Rattle.rules.specs.Limits.{maxLine}
 use Rattle.rules.specs.Preferred.{preferred}
 use Rattle.rules.specs.Stored.{stored}
 use Rattle.rules.specs.Answers.{Answer, Delivers, Sound, Holds, Writes, no-table, long, fits}
+use Rattle.rules.specs.Editions.{Edition}
 use Rattle.rules.proofs.OneAnswer.{delivers-one}
 
 -- a line is not too long and short enough
 one-size : {t u : Table} → t ≡ u → maxLine < length (preferred t) → length (preferred u) ≤ maxLine → ⊥
 one-size e h g = let p = ap (λ (x : Table). length (preferred x)) e in omega arith
 
-module _ (one-stored : (t u : Table) → Sound t → Sound u → stored t ≡ stored u → t ≡ u) where
-  pub holds-one : {bytes : List ℕ} {t u : Table} → Holds bytes t → Holds bytes u → t ≡ u
-  holds-one {t = t} {u = u} h g = one-stored t u (h .sound) (g .sound) (h .is ∙ sym (g .is))
+module _ (one-stored : (e : Edition) (t u : Table) → Sound t → Sound u → stored e t ≡ stored e u → t ≡ u) where
+  pub holds-one : {e : Edition} {bytes : List ℕ} {t u : Table} → Holds e bytes t → Holds e bytes u → t ≡ u
+  holds-one {e} {t = t} {u = u} h g = one-stored e t u (h .sound) (g .sound) (h .is ∙ sym (g .is))
 
   pub writes-one : {bytes : List ℕ} {room : ℕ} {a b : Answer} → Writes bytes room a → Writes bytes room b → a ≡ b
   writes-one (no-table n) (no-table m) = refl

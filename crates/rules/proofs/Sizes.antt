@@ -14,6 +14,7 @@ use Rattle.rules.specs.Layout.{unitWidth}
 use Rattle.rules.specs.Largest.{maxAnnotationBytes, maxAnyTable}
 use Rattle.rules.specs.Answers.{Sound}
 use Rattle.rules.specs.Stored.{Field, ionFields, lostUnits, lostName, addedUnits, Section, sections, headerSize, counts, header, stored}
+use Rattle.rules.specs.Editions.{Edition, ed1, editionNumber}
 use Rattle.rules.proofs.Totals.{total, length-flat, total-le, total-add, total-times, in-none, in-cons}
 use Rattle.rules.proofs.Bounds.{Small, Bounded, table-few, table-bounded}
 use Rattle.rules.proofs.Lengths.{annotations-length, losses-length, isotopes-length, items-length, units-length, weight, stored-weight}
@@ -51,9 +52,9 @@ weight-fits a h =
       length-flat (λ l. lostName (l .what)) (a .losses),
     )
 
-pub sizes-fit : (t : Table) → Sound t → length (stored t) ≤ maxAnyTable
-sizes-fit t s =
-    omega (arith, stored-weight t, total-le weight maxAnnotationBytes t (λ a i. weight-fits a (table-bounded t s a i)), table-few t s)
+pub sizes-fit : (e : Edition) (t : Table) → Sound t → length (stored e t) ≤ maxAnyTable
+sizes-fit e t s =
+    omega (arith, stored-weight e t, total-le weight maxAnnotationBytes t (λ a i. weight-fits a (table-bounded t s a i)), table-few t s)
 
 -- ---- the header
 
@@ -72,8 +73,11 @@ sections-full t =
     in-cons P (omega (arith, annotations-length t)) (in-cons P (omega (arith, losses-length t)) (in-cons P (omega (arith, isotopes-length t))
     (in-cons P (omega (arith, items-length t)) (in-cons P (omega (arith, units-length t)) (in-cons P (omega arith) (λ s i. absurd (in-none i)))))))
 
-pub header-fits : (t : Table) → Sound t → (f : Field) → In f (header t) → f .value ≤ maxAnyTable
-header-fits t s =
+number-fits : (e : Edition) → editionNumber e ≤ maxAnyTable
+number-fits ed1 = omega arith
+
+pub header-fits : (e : Edition) (t : Table) → Sound t → (f : Field) → In f (header e t) → f .value ≤ maxAnyTable
+header-fits e t s =
     let P : Field → Type 0 = λ f. f .value ≤ maxAnyTable in
     let past = counts-le headerSize (sections t) (sections-full t) in
-    in-cons P (omega arith) (in-cons P (omega (arith, sizes-fit t s)) (λ f i. omega (arith, sizes-fit t s, past f i, length-flat (λ s. s .bytes) (sections t))))
+    in-cons P (number-fits e) (in-cons P (omega (arith, sizes-fit e t s)) (λ f i. omega (arith, sizes-fit e t s, past f i, length-flat (λ s. s .bytes) (sections t))))

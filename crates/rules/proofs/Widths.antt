@@ -12,9 +12,10 @@ use Rattle.rules.specs.Fields.{Table}
 use Rattle.rules.specs.Stored.{unitRecord, lossRecord, isotopeRecord, itemRecord, annotationRecord, headerSize, header}
 use Rattle.rules.specs.Largest.{maxAnyTable, maxTable}
 use Rattle.rules.specs.Layout.{widths, sum, headerWidths, annotationWidths, lossWidths, isotopeWidths, itemWidths, unitWidths}
+use Rattle.rules.specs.Editions.{Edition}
 
-pub header-widths : (t : Table) → widths (header t) ≡ headerWidths
-header-widths t = refl
+pub header-widths : (e : Edition) (t : Table) → widths (header e t) ≡ headerWidths
+header-widths e t = refl
 
 pub header-sum : sum headerWidths ≡ headerSize
 header-sum = refl

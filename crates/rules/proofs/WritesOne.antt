@@ -4,10 +4,11 @@ use mathlib.Core.Path.{_≡_}
 use mathlib.Core.List.{List}
 use Rattle.rules.specs.Fields.{Table}
 use Rattle.rules.specs.Answers.{Answer, Holds, Writes}
+use Rattle.rules.specs.Editions.{Edition}
 use Rattle.rules.proofs.OneWriting
 use Rattle.rules.proofs.OneStored.{one-stored}
 
-pub holds-one : {bytes : List ℕ} {t u : Table} → Holds bytes t → Holds bytes u → t ≡ u
+pub holds-one : {e : Edition} {bytes : List ℕ} {t u : Table} → Holds e bytes t → Holds e bytes u → t ≡ u
 holds-one = OneWriting.holds-one one-stored
 
 pub writes-one : {bytes : List ℕ} {room : ℕ} {a b : Answer} → Writes bytes room a → Writes bytes room b → a ≡ b

@@ -11,6 +11,7 @@ use Rattle.rules.specs.Fields.{Table, Says}
 use Rattle.rules.specs.Limits.{maxLine, lineMarks}
 use Rattle.rules.specs.House.{firstBreach, firstExcess}
 use Rattle.rules.specs.Preferred.{preferred}
+use Rattle.rules.specs.Editions.{Edition, current}
 use Rattle.rules.specs.Stored.{stored}
 
 -- an answer, with all bytes of the output
@@ -38,7 +39,7 @@ pub data Delivers (room : ℕ) (result : List ℕ) : Answer → Type 0 where
 -- of a spelling within the limits and rules for one annotation
 pub data ReadsSum (s : Spelling) (room : ℕ) : Answer → Type 0 where
   excess : (place : ℕ) → firstExcess 0 0 s ≡ written place → ReadsSum s room (refuses room 7 place)
-  kept : firstExcess 0 0 s ≡ silent → (t : Table) → Each Says s t → {a : Answer} → Delivers room (stored t) a → ReadsSum s room a
+  kept : firstExcess 0 0 s ≡ silent → (t : Table) → Each Says s t → {a : Answer} → Delivers room (stored current t) a → ReadsSum s room a
 
 -- of a spelling within the limits
 pub data ReadsRules (s : Spelling) (room : ℕ) : Answer → Type 0 where
@@ -65,12 +66,12 @@ pub record Sound (t : Table) : Type 0 where
   pub rules : firstBreach 0 spelling ≡ silent
   pub sum : firstExcess 0 0 spelling ≡ silent
 
--- stored bytes are a table
-pub record Holds (bytes : List ℕ) (t : Table) : Type 0 where
+-- stored bytes are a table of an edition
+pub record Holds (e : Edition) (bytes : List ℕ) (t : Table) : Type 0 where
   pub sound : Sound t
-  pub is : stored t ≡ bytes
+  pub is : stored e t ≡ bytes
 
 pub data Writes (bytes : List ℕ) (room : ℕ) : Answer → Type 0 where
-  no-table : ((t : Table) → Holds bytes t → ⊥) → Writes bytes room (refuses room 9 0)
-  long : (t : Table) → Holds bytes t → maxLine < length (preferred t) → Writes bytes room (refuses room 1 maxLine)
-  fits : (t : Table) → Holds bytes t → length (preferred t) ≤ maxLine → {a : Answer} → Delivers room (preferred t) a → Writes bytes room a
+  no-table : ((t : Table) → Holds current bytes t → ⊥) → Writes bytes room (refuses room 9 0)
+  long : (t : Table) → Holds current bytes t → maxLine < length (preferred t) → Writes bytes room (refuses room 1 maxLine)
+  fits : (t : Table) → Holds current bytes t → length (preferred t) ≤ maxLine → {a : Answer} → Delivers room (preferred t) a → Writes bytes room a

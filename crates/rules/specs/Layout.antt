@@ -15,6 +15,7 @@ use Rattle.rules.specs.Isotopes.{Shift, no-isotope}
 use Rattle.rules.specs.Adducts.{electron, Item}
 use Rattle.rules.specs.Annotations.{TableAnnotation}
 use Rattle.rules.specs.Elements.{symbols}
+use Rattle.rules.specs.Editions.{ed1}
 use Rattle.rules.specs.Stored.{Field, unitRecord, lossRecord, isotopeRecord, itemRecord, annotationRecord, header}
 
 -- ---- fields in a row
@@ -77,7 +78,7 @@ plainAnnotation =
 -- ---- how wide the fields of a record are
 
 abbrev pub headerWidths : List ℕ
-headerWidths = widths (header [])
+headerWidths = widths (header ed1 [])
 
 abbrev pub annotationWidths : List ℕ
 annotationWidths = widths (annotationRecord plainAnnotation)

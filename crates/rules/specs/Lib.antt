@@ -14,6 +14,7 @@ pub mod Preferred
 pub mod Fields
 pub mod Limits
 pub mod House
+pub mod Editions
 pub mod Stored
 pub mod Layout
 pub mod Largest

@@ -12,6 +12,7 @@ use Rattle.rules.specs.Losses.{Lost, lost-formula, lost-name, Loss}
 use Rattle.rules.specs.Isotopes.{Shift, Specific, Isotopes, no-isotope, plain-isotope, average-isotope, specific-isotopes}
 use Rattle.rules.specs.Adducts.{Added, added-formula, electron, Item}
 use Rattle.rules.specs.Annotations.{TableAnnotation, Deviation}
+use Rattle.rules.specs.Editions.{Edition, editionNumber}
 use Rattle.rules.specs.Preferred.{signRank, countOr1}
 
 -- n bytes of v, little-endian
@@ -187,9 +188,6 @@ sections t =
 
 -- ---- the whole
 
-abbrev pub edition : ℕ
-edition = 1
-
 abbrev pub headerSize : ℕ
 headerSize = 28
 
@@ -201,8 +199,8 @@ counts at (s ∷ ss) = u16 (s .count) ∷ u16 at ∷ counts (at + length (s .byt
 abbrev pub body : List TableAnnotation → List ℕ
 body t = flat (λ s. s .bytes) (sections t)
 
-abbrev pub header : List TableAnnotation → List Field
-header t = u16 edition ∷ u16 (headerSize + length (body t)) ∷ counts headerSize (sections t)
+abbrev pub header : Edition → List TableAnnotation → List Field
+header e t = u16 (editionNumber e) ∷ u16 (headerSize + length (body t)) ∷ counts headerSize (sections t)
 
-abbrev pub stored : List TableAnnotation → List ℕ
-stored t = stores (header t) ++ body t
+abbrev pub stored : Edition → List TableAnnotation → List ℕ
+stored e t = stores (header e t) ++ body t

@@ -13,6 +13,7 @@ use Rattle.rules.specs.Bytes.{bytes}
 use Rattle.rules.specs.Lines.{Spelling}
 use Rattle.rules.specs.Limits.{maxLine, lineMarks}
 use Rattle.rules.specs.Answers.{Answer, Delivers, ReadsSum, ReadsRules, ReadsSpelling, Reads, Holds, Writes}
+use Rattle.rules.specs.Editions.{current}
 use Rattle.rules.proofs.TableOf.{tableOf}
 use Rattle.rules.proofs.Meant.{means-some}
 use Rattle.rules.proofs.WritesOne.{writes-one}
@@ -50,7 +51,7 @@ module _ {line : String} {s : Spelling} {size : ℕ} {table : List ℕ} {best : 
       let e = subst (λ (t : List ℕ). Delivers room t a) (sym (w .stores)) d in
       Reads.spelled h s (w .text) (ReadsSpelling.kept kept (ReadsRules.kept (w .rules) (ReadsSum.kept (w .sum) (tableOf s) (means-some s) e)))
 
-  held : Holds table (tableOf s)
+  held : Holds current table (tableOf s)
   held = record { sound = record { spelling = s; says = means-some s; limits = kept; rules = w .rules; sum = w .sum }; is = w .stores }
 
   written-so : (room : ℕ) (a : Answer) → Delivers room (bytes best) a → Writes table room a

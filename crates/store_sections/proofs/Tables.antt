@@ -9,6 +9,7 @@ use lib.Seq.{sets}
 use Rattle.rules.specs.Fields.{Table}
 use Rattle.rules.specs.Stored.{stores, headerSize, body, header, stored}
 use Rattle.rules.specs.Layout.{annotationWidth, lossWidth, isotopeWidth, itemWidth, unitWidth}
+use Rattle.rules.specs.Editions.{Edition}
 use Rattle.rules.proofs.Lengths.{lossesOf, isotopesOf, itemsOf, unitsOf, textsOf, body-length, stored-length}
 use Rattle.rules.proofs.Lengths.{annotations-length, losses-length, isotopes-length, items-length, units-length}
 use Rattle.put_bytes.specs.Puts.{maxPlace, Put}
@@ -26,11 +27,11 @@ use Rattle.store_sections.proofs.Fills.{fills-parts}
 behind-is : {p q k : ℕ} (n size : ℕ) → p ≡ q → k ≡ size * n → q + k ≤ maxPlace → behind p n size ≡ q + k
 behind-is n size e f h = omega (arith, mul-comm n size)
 
-module _ (t : Table) (h : length (stored t) ≤ maxPlace) where
+module _ (edition : Edition) (t : Table) (h : length (stored edition t) ≤ maxPlace) where
   -- each in turn
   starts-and-end : (startsOf (countsOf t) ≡ placed (begins headerSize (bytesIn t))) × (endAt (countsOf t) ≡ headerSize + length (body t))
   starts-and-end =
-      let whole = stored-length t in
+      let whole = stored-length edition t in
       let sections = body-length t in
       let annotations = annotations-length t in
       let losses = losses-length t in
@@ -48,11 +49,11 @@ module _ (t : Table) (h : length (stored t) ≤ maxPlace) where
       (λ i. record { annotations = headerSize; losses = a i; isotopes = b i; items = c i; units = d i; text = e i }, omega (arith, f))
 
   -- the header is the table's, and the cursors stand where its sections begin
-  pub header-is : headerBytes (countsOf t) ≡ stores (header t)
-  header-is = ap₂ (λ (c : Cursors) (n : ℕ). stores (headerFields (countsOf t) c n)) (starts-and-end .0) (starts-and-end .1)
+  pub header-is : headerBytes edition (countsOf t) ≡ stores (header edition t)
+  header-is = ap₂ (λ (c : Cursors) (n : ℕ). stores (headerFields edition (countsOf t) c n)) (starts-and-end .0) (starts-and-end .1)
 
   pub starts-laid : Laid headerSize (startsOf (countsOf t)) (bytesIn t)
-  starts-laid = record { starts = ap places (starts-and-end .0); fits = omega (arith, h, stored-length t, body-length t) }
+  starts-laid = record { starts = ap places (starts-and-end .0); fits = omega (arith, h, stored-length edition t, body-length t) }
 
 -- ---- the whole
 
@@ -65,30 +66,30 @@ body-put {d} {e} {c} {c′} {es} t l a f =
     record { small = p .small; next = omega (arith, l .fits); made = p .made ∙ ap (λ (ls : List (List ℕ)). sets d headerSize (joined ls)) q }
 
 -- behind the header, whatever the output was
-pub table-put : {d₀ d e : List ℕ} {n : Counts} {c c′ : Cursors} {es : List Event} (t : Table) → n ≡ countsOf t → Headed d₀ n d c → Ran d c es e c′
-    → Fills t es → length (stored t) ≤ maxPlace → Put d₀ 0 (stored t) e (headerSize + length (body t))
-table-put {n = n} {c = c} t q p a f h =
+pub table-put : {edition : Edition} {d₀ d e : List ℕ} {n : Counts} {c c′ : Cursors} {es : List Event} (t : Table) → n ≡ countsOf t → Headed edition d₀ n d c → Ran d c es e c′
+    → Fills t es → length (stored edition t) ≤ maxPlace → Put d₀ 0 (stored edition t) e (headerSize + length (body t))
+table-put {edition} {n = n} {c = c} t q p a f h =
     let s : startsOf (countsOf t) ≡ c = ap startsOf (sym q) ∙ sym (p .starts) in
-    let l = subst (λ (k : Cursors). Laid headerSize k (bytesIn t)) s (starts-laid t h) in
-    put-then (put-as (p .put) (ap headerBytes q ∙ header-is t h)) (body-put t l a f)
+    let l = subst (λ (k : Cursors). Laid headerSize k (bytesIn t)) s (starts-laid edition t h) in
+    put-then (put-as (p .put) (ap (headerBytes edition) q ∙ header-is edition t h)) (body-put t l a f)
 
 -- over a cleared output
-pub table-stored : {d₀ d e : List ℕ} {n : Counts} {c c′ : Cursors} {es : List Event} (room : ℕ) (t : Table) → d₀ ≡ replicate room 0
-    → n ≡ countsOf t → Headed d₀ n d c → Ran d c es e c′ → Fills t es → length (stored t) ≤ room
-    → e ≡ stored t ++ replicate (room - length (stored t)) 0
-table-stored {e = e} room t z q p a f h =
-    let g : length (stored t) ≤ maxPlace = omega (arith, p .put .small, ap length z, length-replicate {A = ℕ} room 0) in
+pub table-stored : {edition : Edition} {d₀ d e : List ℕ} {n : Counts} {c c′ : Cursors} {es : List Event} (room : ℕ) (t : Table) → d₀ ≡ replicate room 0
+    → n ≡ countsOf t → Headed edition d₀ n d c → Ran d c es e c′ → Fills t es → length (stored edition t) ≤ room
+    → e ≡ stored edition t ++ replicate (room - length (stored edition t)) 0
+table-stored {edition} {e = e} room t z q p a f h =
+    let g : length (stored edition t) ≤ maxPlace = omega (arith, p .put .small, ap length z, length-replicate {A = ℕ} room 0) in
     let w = table-put t q p a f g in
-    over-zeros (subst (λ (x : List ℕ). Put x 0 (stored t) e (headerSize + length (body t))) z w) h
+    over-zeros (subst (λ (x : List ℕ). Put x 0 (stored edition t) e (headerSize + length (body t))) z w) h
 
 -- where the header and zeros stand already
-pub page-stored : {d e : List ℕ} {c c′ : Cursors} {es : List Event} (room : ℕ) (t : Table) → d ≡ stores (header t) ++ replicate (room - headerSize) 0
-    → Laid headerSize c (bytesIn t) → Ran d c es e c′ → Fills t es → length (stored t) ≤ room → e ≡ stored t ++ replicate (room - length (stored t)) 0
-page-stored {d} {e} room t q l a f h =
+pub page-stored : {d e : List ℕ} {c c′ : Cursors} {es : List Event} (edition : Edition) (room : ℕ) (t : Table) → d ≡ stores (header edition t) ++ replicate (room - headerSize) 0
+    → Laid headerSize c (bytesIn t) → Ran d c es e c′ → Fills t es → length (stored edition t) ≤ room → e ≡ stored edition t ++ replicate (room - length (stored edition t)) 0
+page-stored {d} {e} edition room t q l a f h =
     let z : List ℕ = replicate room 0 in
-    let s : List ℕ = stores (header t) in
+    let s : List ℕ = stores (header edition t) in
     let r : List ℕ = replicate (room - headerSize) 0 in
-    let b : headerSize ≤ room = omega (arith, stored-length t) in
+    let b : headerSize ≤ room = omega (arith, stored-length edition t) in
     let g = length-append s r in
     let u = length-replicate {A = ℕ} (room - headerSize) 0 in
     let v = length-replicate {A = ℕ} room 0 in

@@ -5,7 +5,8 @@ use mathlib.Core.List.{List, [], _∷_}
 use lib.ListN.{length}
 use Rattle.lang.specs.Parts.{flat}
 use Rattle.rules.specs.Fields.{Table}
-use Rattle.rules.specs.Stored.{Field, u16, stores, isotopeRecords, annotationUnits, annotationTexts, edition, headerSize}
+use Rattle.rules.specs.Stored.{Field, u16, stores, isotopeRecords, annotationUnits, annotationTexts, headerSize}
+use Rattle.rules.specs.Editions.{Edition, editionNumber}
 use Rattle.rules.specs.Layout.{annotationWidth, lossWidth, isotopeWidth, itemWidth, unitWidth}
 use Rattle.put_bytes.specs.Puts.{maxPlace, Put}
 use Rattle.counts.specs.declared.Counts.{Counts}
@@ -49,18 +50,18 @@ abbrev pub pair : ℕ → ℕ → List ℕ
 pair a b = stores (u16 a ∷ u16 b ∷ [])
 
 -- edition and length, then of each section how many and where
-abbrev pub headerFields : Counts → Cursors → ℕ → List Field
-headerFields n c end =
-    u16 edition ∷ u16 end ∷ u16 (n .annotations) ∷ u16 (c .annotations)
+abbrev pub headerFields : Edition → Counts → Cursors → ℕ → List Field
+headerFields edition n c end =
+    u16 (editionNumber edition) ∷ u16 end ∷ u16 (n .annotations) ∷ u16 (c .annotations)
     ∷ u16 (n .losses) ∷ u16 (c .losses) ∷ u16 (n .isotopes) ∷ u16 (c .isotopes)
     ∷ u16 (n .items) ∷ u16 (c .items) ∷ u16 (n .units) ∷ u16 (c .units) ∷ u16 (n .text) ∷ u16 (c .text) ∷ []
 
-abbrev pub headerBytes : Counts → List ℕ
-headerBytes n = stores (headerFields n (startsOf n) (endAt n))
+abbrev pub headerBytes : Edition → Counts → List ℕ
+headerBytes edition n = stores (headerFields edition n (startsOf n) (endAt n))
 
 -- the header is stored over d, which is then e; the cursors stand where the sections begin
-pub record Headed (d : List ℕ) (n : Counts) (e : List ℕ) (c : Cursors) : Type 0 where
-  pub put : Put d 0 (headerBytes n) e headerSize
+pub record Headed (edition : Edition) (d : List ℕ) (n : Counts) (e : List ℕ) (c : Cursors) : Type 0 where
+  pub put : Put d 0 (headerBytes edition n) e headerSize
   pub starts : c ≡ startsOf n
 
 -- how many there are in each section of a table

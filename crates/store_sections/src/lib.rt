@@ -3,10 +3,11 @@ ghost use mathlib.Core.Path.{_≡_};
 ghost use Rattle.put_bytes.specs.Puts.{Put};
 ghost use Rattle.store_sections.specs.Pages.{at, moved};
 ghost use Rattle.store_sections.specs.Headers.{behind, startsOf, endAt, pair, Headed};
+ghost use Rattle.layout.specs.Editions.{editionOf};
 use counts::Counts;
 use layout::ANNOTATION_SECTION;
 use layout::ANNOTATION_SIZE;
-use layout::EDITION;
+use layout::Edition;
 use layout::HEADER_SIZE;
 use layout::ISOTOPE_SECTION;
 use layout::ISOTOPE_SIZE;
@@ -17,6 +18,7 @@ use layout::LOSS_SIZE;
 use layout::TEXT_SECTION;
 use layout::UNIT_SECTION;
 use layout::UNIT_SIZE;
+use layout::edition_number;
 
 // Where the next byte of each section goes.
 pub struct Cursors {
@@ -109,12 +111,12 @@ fn put_pair(out: &mut [u8], at: usize, a: usize, b: usize) -> usize
 }
 
 // The header: edition and length, then of each section how many there are and where it begins.
-pub fn put_header(out: &mut [u8], n: Counts) -> Cursors
-    ensures { λ r. ⌜ Headed (now (out .entry)) n (now (out .exit)) r ⌝ }
+pub fn put_header(out: &mut [u8], edition: Edition, n: Counts) -> Cursors
+    ensures { λ r. ⌜ Headed (editionOf edition) (now (out .entry)) n (now (out .exit)) r ⌝ }
 {
     let c = starts(n);
     let end = place_behind(c.text, n.text, 1);
-    let mut at = put_pair(out, 0, EDITION, end);
+    let mut at = put_pair(out, 0, edition_number(edition), end);
     at = put_pair(out, at, n.annotations, c.annotations);
     at = put_pair(out, at, n.losses, c.losses);
     at = put_pair(out, at, n.isotopes, c.isotopes);

@@ -20,6 +20,7 @@ use Rattle.rules.specs.House.{firstBreach, firstExcess}
 use Rattle.rules.specs.Preferred.{preferred, preferredSpelling}
 use Rattle.rules.specs.Stored.{stored}
 use Rattle.rules.specs.Answers.{Answer, gives, Delivers, no-room, done, ReadsSum, ReadsRules, ReadsSpelling, Sound, Holds}
+use Rattle.rules.specs.Editions.{current}
 use Rattle.rules.proofs.OneShape.{judged-shape, judged-misshapen}
 use Rattle.rules.proofs.FirstBroken.{wins-number}
 use Rattle.rules.proofs.OneShape.{misshapen-no-shape}
@@ -53,9 +54,9 @@ pub record ReadAs (s : Spelling) (room : ℕ) (a : Answer) : Type 0 where
   pub says : Each Says s table
   pub limits : Kept (lineMarks s)
   pub sound : Sound table
-  pub is : a ≡ gives room (stored table)
+  pub is : a ≡ gives room (stored current table)
 
-delivered : (s : Spelling) (room : ℕ) (t : Table) → Each Says s t → Kept (lineMarks s) → Sound t → {a : Answer} → Delivers room (stored t) a → a .number ≡ 0 → ReadAs s room a
+delivered : (s : Spelling) (room : ℕ) (t : Table) → Each Says s t → Kept (lineMarks s) → Sound t → {a : Answer} → Delivers room (stored current t) a → a .number ≡ 0 → ReadAs s room a
 delivered s room t y k w (no-room h) e = absurd (omega arith)
 delivered s room t y k w (done h) e = record { table = t; says = y; limits = k; sound = w; is = refl }
 
@@ -74,23 +75,23 @@ spelling-as s room (ReadsSpelling.kept k r) e = rules-as s room k r e
 -- ---- what is read of the preferred spelling of a sound table: the table
 
 module _ (t : Table) (kept : Kept (lineMarks (preferredSpelling t))) (rules : firstBreach 0 (preferredSpelling t) ≡ silent)
-    (sum : firstExcess 0 0 (preferredSpelling t) ≡ silent) (says : Each Says (preferredSpelling t) t) (room : ℕ) (fits : length (stored t) ≤ room) where
+    (sum : firstExcess 0 0 (preferredSpelling t) ≡ silent) (says : Each Says (preferredSpelling t) t) (room : ℕ) (fits : length (stored current t) ≤ room) where
   abbrev s : Spelling
   s = preferredSpelling t
 
-  delivers-it : {a : Answer} (u : Table) → u ≡ t → Delivers room (stored u) a → a ≡ gives room (stored t)
-  delivers-it u q (no-room h) = absurd (omega (arith, ap (λ (x : Table). length (stored x)) q))
-  delivers-it u q (done h) = ap (λ (x : Table). gives room (stored x)) q
+  delivers-it : {a : Answer} (u : Table) → u ≡ t → Delivers room (stored current u) a → a ≡ gives room (stored current t)
+  delivers-it u q (no-room h) = absurd (omega (arith, ap (λ (x : Table). length (stored current x)) q))
+  delivers-it u q (done h) = ap (λ (x : Table). gives room (stored current x)) q
 
-  sum-it : {a : Answer} → ReadsSum s room a → a ≡ gives room (stored t)
+  sum-it : {a : Answer} → ReadsSum s room a → a ≡ gives room (stored current t)
   sum-it (ReadsSum.excess p z) = absurd (written-silent (sym z ∙ sum))
   sum-it (ReadsSum.kept z u y d) = delivers-it u (OneTable.one-table one-spelling y says) d
 
-  rules-it : {a : Answer} → ReadsRules s room a → a ≡ gives room (stored t)
+  rules-it : {a : Answer} → ReadsRules s room a → a ≡ gives room (stored current t)
   rules-it (ReadsRules.breach p z) = absurd (written-silent (sym z ∙ rules))
   rules-it (ReadsRules.kept z r) = sum-it r
 
-  spelling-it : {a : Answer} → ReadsSpelling s room a → a ≡ gives room (stored t)
+  spelling-it : {a : Answer} → ReadsSpelling s room a → a ≡ gives room (stored current t)
   spelling-it (ReadsSpelling.limit m w) = absurd (kept m (w .is-in) (w .broken))
   spelling-it (ReadsSpelling.kept k r) = rules-it r
 
@@ -113,7 +114,7 @@ take-given room w = take-append-seam w (replicate (room - length w) 0)
 -- the line, read again, is a table's: these bytes are one
 module _ (w table : List ℕ) (room : ℕ) (small : room ≤ maxPlace) (fits : length w ≤ maxPlace) where
   read-as : (v : Verdict) → JudgedBy w v → anyOver (zeros room) v w .number ≡ 0
-      → (t : Table) × (Sound t × (take (anyOver (zeros room) v w .size) (anyOver (zeros room) v w .out) ≡ stored t))
+      → (t : Table) × (Sound t × (take (anyOver (zeros room) v w .size) (anyOver (zeros room) v w .out) ≡ stored current t))
   read-as Fine j e =
       let x = judged-shape j refl in
       let s = x .0 in
@@ -121,11 +122,11 @@ module _ (w table : List ℕ) (room : ℕ) (small : room ≤ maxPlace) (fits : l
       let r = subst (λ (l : List ℕ). ReadsSpelling s room (spelledOver (zeros room) l)) q (spelled-right room small s (omega (arith, ap length q))) in
       let y = spelling-as s room r e in
       let t = y .table in
-      (t, (y .sound, ap (λ (a : Answer). take (a .size) (a .out)) (y .is) ∙ take-given room (stored t)))
+      (t, (y .sound, ap (λ (a : Answer). take (a .size) (a .out)) (y .is) ∙ take-given room (stored current t)))
   read-as Short j e = absurd (omega arith)
   read-as (Stray p) j e = absurd (omega arith)
 
-  pub reads-holds : (v : Verdict) → (allBytes w ≡ true → JudgedBy w v) → readsTo v (zeros room) w table ≡ true → (t : Table) × Holds table t
+  pub reads-holds : (v : Verdict) → (allBytes w ≡ true → JudgedBy w v) → readsTo v (zeros room) w table ≡ true → (t : Table) × Holds current table t
   unfolding readsTo
   reads-holds v j e =
       let a = anyOver (zeros room) v w in
@@ -137,15 +138,15 @@ module _ (w table : List ℕ) (room : ℕ) (small : room ≤ maxPlace) (fits : l
       (x .0, record { sound = x .1 .0; is = sym (x .1 .1) ∙ m })
 
 -- the preferred line of a table reads to its bytes
-pub holds-reads : (t : Table) → Sound t → (room : ℕ) → room ≤ maxPlace → length (stored t) ≤ room → length (preferred t) ≤ maxPlace
-    → (v : Verdict) → (allBytes (preferred t) ≡ true → JudgedBy (preferred t) v) → readsTo v (zeros room) (preferred t) (stored t) ≡ true
+pub holds-reads : (t : Table) → Sound t → (room : ℕ) → room ≤ maxPlace → length (stored current t) ≤ room → length (preferred t) ≤ maxPlace
+    → (v : Verdict) → (allBytes (preferred t) ≡ true → JudgedBy (preferred t) v) → readsTo v (zeros room) (preferred t) (stored current t) ≡ true
 unfolding readsTo
 holds-reads t sound room small fits short v j =
     let s = preferredSpelling t in
     let b = line-bytes s in
     let f = shape-fine (preferred t) v (j b) (s, refl) in
-    let g : spelledOver (zeros room) (preferred t) ≡ gives room (stored t) =
+    let g : spelledOver (zeros room) (preferred t) ≡ gives room (stored current t) =
     spelling-it t (preferred-kept t sound) (preferred-rules t sound) (preferred-sum t sound) (preferred-says (said-in-order (sound .says))) room fits (spelled-right room small s short) in
-    let a : anyOver (zeros room) v (preferred t) ≡ gives room (stored t) = ap (λ (v : Verdict). anyOver (zeros room) v (preferred t)) f ∙ g in
-    let i : isRead (gives room (stored t)) (stored t) ≡ true = ap (λ (l : List ℕ). sameBytes l (stored t)) (take-given room (stored t)) ∙ same-refl (stored t) in
+    let a : anyOver (zeros room) v (preferred t) ≡ gives room (stored current t) = ap (λ (v : Verdict). anyOver (zeros room) v (preferred t)) f ∙ g in
+    let i : isRead (gives room (stored current t)) (stored current t) ≡ true = ap (λ (l : List ℕ). sameBytes l (stored current t)) (take-given room (stored current t)) ∙ same-refl (stored current t) in
     rw (b, a) i

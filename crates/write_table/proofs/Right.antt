@@ -14,6 +14,7 @@ use Rattle.rules.specs.Preferred.{preferred}
 use Rattle.rules.specs.Stored.{stored}
 use Rattle.rules.specs.Answers.{refuses, gives, no-room, done, Holds, Writes, no-table, long, fits}
 use Rattle.rules.specs.Largest.{maxAnyTable}
+use Rattle.rules.specs.Editions.{current}
 use Rattle.rules.proofs.Sizes.{sizes-fit}
 use Rattle.put_bytes.specs.Puts.{maxPlace}
 use Rattle.scan_line.specs.Steps.{scannedBy}
@@ -28,7 +29,7 @@ use Rattle.write_table.specs.Writings.{foundOf, foundIn, longestPrinted,
 use Rattle.write_table.proofs.Holds.{reads-holds, holds-reads}
 
 -- the line of a table, against its bound and the output
-pub line-right : (table : List ℕ) (room : ℕ) (t : Table) → Holds table t → (w : List ℕ) → w ≡ preferred t → Writes table room (lineOver w room)
+pub line-right : (table : List ℕ) (room : ℕ) (t : Table) → Holds current table t → (w : List ℕ) → w ≡ preferred t → Writes table room (lineOver w room)
 unfolding lineOver
 line-right table room t h w q = subst (λ (l : List ℕ). Writes table room (lineOver l room)) (sym q) (by (ltb maxLine (length (preferred t))) refl (ltb room (length (preferred t))) refl)
   where
@@ -39,7 +40,7 @@ line-right table room t h w q = subst (λ (l : List ℕ). Writes table room (lin
     by false e false f = fits t h (ltb-false maxLine (length (preferred t)) e) (done (ltb-false room (length (preferred t)) f))
 
 -- bytes that are a table are printed as its preferred line
-pub printed-is : (table : List ℕ) (t : Table) → Holds table t → printedTable table ≡ preferred t
+pub printed-is : (table : List ℕ) (t : Table) → Holds current table t → printedTable table ≡ preferred t
 printed-is table t h = ap printedTable (sym (h .is)) ∙ table-printed t (h .sound)
 
 module _ (machine table : List ℕ) (room : ℕ) (judged : (l : List ℕ) → allBytes l ≡ true → length l ≤ maxPlace → JudgedBy l (scannedBy machine l)) where
@@ -47,16 +48,16 @@ module _ (machine table : List ℕ) (room : ℕ) (judged : (l : List ℕ) → al
   w = printedTable table
 
   -- buffers that hold the line and the bytes, if the bytes are a table
-  module _ (most size : ℕ) (m : most ≤ maxPlace) (n : size ≤ maxPlace) (line-fits : (t : Table) → Holds table t → length (preferred t) ≤ most)
-      (table-fits : (t : Table) → Holds table t → length (stored t) ≤ size) where
+  module _ (most size : ℕ) (m : most ≤ maxPlace) (n : size ≤ maxPlace) (line-fits : (t : Table) → Holds current table t → length (preferred t) ≤ most)
+      (table-fits : (t : Table) → Holds current table t → length (stored current t) ≤ size) where
     -- bytes that are a table are found to be one
-    found : length w ≤ maxPlace → (t : Table) → Holds table t → readsTo (scannedBy machine w) (zeros size) w table ≡ true
+    found : length w ≤ maxPlace → (t : Table) → Holds current table t → readsTo (scannedBy machine w) (zeros size) w table ≡ true
     found l t h =
         let q = printed-is table t h in
         let r = holds-reads t (h .sound) size n (table-fits t h) (omega (arith, ap length q)) (scannedBy machine (preferred t))
         (λ b. judged (preferred t) b (omega (arith, ap length q))) in
         subst (λ (x : List ℕ). readsTo (scannedBy machine w) (zeros size) w x ≡ true) (h .is)
-        (subst (λ (x : List ℕ). readsTo (scannedBy machine x) (zeros size) x (stored t) ≡ true) (sym q) r)
+        (subst (λ (x : List ℕ). readsTo (scannedBy machine x) (zeros size) x (stored current t) ≡ true) (sym q) r)
 
     found-right : Writes table room (foundIn machine most (zeros size) w table room)
     unfolding foundIn foundOf
@@ -78,7 +79,7 @@ module _ (machine table : List ℕ) (room : ℕ) (judged : (l : List ℕ) → al
   write-right = by (ltb few (length w)) refl (ltb few (length table)) refl
     where
       all : Writes table room (foundIn machine longestPrinted (zeros maxAnyTable) w table room)
-      all = found-right longestPrinted maxAnyTable (omega arith) (omega arith) (λ t h. line-short t (h .sound)) (λ t h. sizes-fit t (h .sound))
+      all = found-right longestPrinted maxAnyTable (omega arith) (omega arith) (λ t h. line-short t (h .sound)) (λ t h. sizes-fit current t (h .sound))
 
       by : (a : Bool) → ltb few (length w) ≡ a → (b : Bool) → ltb few (length table) ≡ b
           → Writes table room (cond (a || b) (foundIn machine longestPrinted (zeros maxAnyTable) w table room) (foundIn machine few (zeros few) w table room))

@@ -14,6 +14,7 @@ use Rattle.rules.specs.Limits.{lineMarks}
 use Rattle.rules.specs.House.{firstBreach, firstExcess}
 use Rattle.rules.specs.Preferred.{preferred}
 use Rattle.rules.specs.Stored.{stored}
+use Rattle.rules.specs.Editions.{current}
 use Rattle.rules.proofs.TableOf.{tableOf}
 
 -- the limits that are broken
@@ -27,5 +28,5 @@ pub record Worked (line : String) (s : Spelling) (size : ℕ) (table : List ℕ)
   pub rules : firstBreach 0 s ≡ silent
   pub sum : firstExcess 0 0 s ≡ silent
   pub long : length table ≡ size
-  pub stores : stored (tableOf s) ≡ table
+  pub stores : stored current (tableOf s) ≡ table
   pub writes : preferred (tableOf s) ≡ bytes best

@@ -1,5 +1,8 @@
 -- `store_sections::put_header` meets its contract: one pair after the other. Assumes nothing.
-use Rattle.put_bytes.proofs.Putting.{put-then}
+use Prim.Native.Nat.{ℕ}
+use mathlib.Core.Path.{ap}
+use Rattle.put_bytes.proofs.Putting.{put-then, put-as}
+use Rattle.store_sections.specs.Headers.{pair}
 use Rattle.store_sections.proofs.Headers.{headed}
 use borrow.Author.Needs.{needs}
 use Rattle.store_sections.proofs.put_header.Statement.{statement}
@@ -10,6 +13,9 @@ starts-requires c κs = search needs
 
 place-behind-requires : tie.Need-place-behind-requires
 place-behind-requires c κs = search needs
+
+edition-number-requires : tie.Need-edition-number-requires
+edition-number-requires c κs = search needs
 
 put-pair-requires : tie.Need-put-pair-requires
 put-pair-requires c κs = search needs
@@ -44,8 +50,9 @@ returns c =
     let three = four .before .before .before .before in
     let two = three .before .before .before .before in
     let one = two .before .before .before .before in
-    let length = one .before .before in
-    let first = put-then (one .put-pair .ensures) (two .put-pair2 .ensures) in
+    let number = one .before in
+    let length = number .before .before in
+    let first = put-then (put-as (one .put-pair .ensures) (ap (λ (k : ℕ). pair k (length .place-behind .result)) (number .edition-number .ensures))) (two .put-pair2 .ensures) in
     let half = put-then (put-then first (three .put-pair3 .ensures)) (four .put-pair4 .ensures) in
     let most = put-then (put-then half (five .put-pair5 .ensures)) (six .put-pair6 .ensures) in
     headed (length .before .starts .ensures) (length .place-behind .ensures) (put-then most (seven .put-pair7 .ensures))
@@ -56,6 +63,7 @@ put-header-spec =
     (tie.spec
     starts-requires
     place-behind-requires
+    edition-number-requires
     put-pair-requires
     put-pair-requires-2
     put-pair-requires-3
