@@ -16,3 +16,6 @@ pub mod Limits
 pub mod House
 pub mod Stored
 pub mod Answers
+pub mod Rows
+pub mod RowAnswers
+pub mod Lists
