@@ -6,34 +6,28 @@ use Rattle.rows.proofs.end_bare.Lts as lts
 use Rattle.answers.proofs.clear_from.Reads as clear-from-reads
 use Rattle.answers.proofs.refuse.Reads as refuse-reads
 use Rattle.put_bytes.proofs.clear.Reads as clear-reads
+use Rattle.rows.proofs.Steps.{bare-short, bare-done}
 
--- src/lib.rt:268:9
 clear-requires : tie.Need-clear-requires
 clear-requires c κs = search needs
 
--- src/lib.rt:269:9
 refuse-requires : tie.Need-refuse-requires
 refuse-requires c κs = search needs
 
--- src/lib.rt:269:9
 same-length : tie.Need-same-length
 same-length c = search needs
 
--- src/lib.rt:269:9
 returns : tie.Need-returns
-returns c = ?
+returns c = bare-short (c .before .before .before .before .before .before .before .args .out .now) (c .before .before .before .before .before .before .before .args .to) (c .before .before .before .before .before .if1 .taken) (c .refuse .ensures) (c .before .before .before .clear .ensures)
 
--- src/lib.rt:271:5
 clear-from-requires : tie.Need-clear-from-requires
 clear-from-requires c κs = search needs
 
--- src/lib.rt:264:1
 same-length-2 : tie.Need-same-length-2
 same-length-2 c = search needs
 
--- src/lib.rt:264:1
 returns-2 : tie.Need-returns-2
-returns-2 c = ?
+returns-2 c = bare-done (c .before .before .before .before .before .before .args .out .now) (c .before .before .before .before .before .before .args .to) (c .before .before .before .before .if1 .left) (c .before .before .clear-from .ensures)
 
 pub end-bare-spec : {M : Type 1} → statement M
 end-bare-spec =

@@ -7,42 +7,34 @@ use Rattle.answers.proofs.refuse.Reads as refuse-reads
 use Rattle.put_bytes.proofs.clear.Reads as clear-reads
 use Rattle.put_bytes.proofs.put8.Reads as put8-reads
 use Rattle.rows.proofs.plus.Reads as plus-reads
+use Rattle.rows.proofs.Steps.{labelled-short, labelled-done}
 
--- src/lib.rt:283:21
 plus-requires : tie.Need-plus-requires
 plus-requires c κs = search needs
 
--- src/lib.rt:283:9
 plus-requires-2 : tie.Need-plus-requires-2
 plus-requires-2 c κs = search needs
 
--- src/lib.rt:285:9
 clear-requires : tie.Need-clear-requires
 clear-requires c κs = search needs
 
--- src/lib.rt:286:9
 refuse-requires : tie.Need-refuse-requires
 refuse-requires c κs = search needs
 
--- src/lib.rt:286:9
 same-length : tie.Need-same-length
 same-length c = search needs
 
--- src/lib.rt:286:9
 returns : tie.Need-returns
-returns c = ?
+returns c = labelled-short (c .before .before .before .before .before .before .before .before .before .args .out .now) (c .before .before .before .before .before .before .before .before .before .args .to) (c .before .before .before .before .before .before .before .before .before .args .n) (c .before .before .before .before .before .before .before .plus .ensures) (c .before .before .before .before .before .before .plus2 .ensures) (c .before .before .before .before .before .if1 .taken) (c .refuse .ensures) (c .before .before .before .clear .ensures)
 
--- src/lib.rt:288:5
 put8-requires : tie.Need-put8-requires
 put8-requires c κs = search needs
 
--- src/lib.rt:280:1
 same-length-2 : tie.Need-same-length-2
 same-length-2 c = search needs
 
--- src/lib.rt:280:1
 returns-2 : tie.Need-returns-2
-returns-2 c = ?
+returns-2 c = labelled-done (c .before .before .before .before .before .before .before .before .args .out .now) (c .before .before .before .before .before .before .before .before .args .to) (c .before .before .before .before .before .before .before .before .args .n) (c .before .before .before .before .before .before .plus .ensures) (c .before .before .before .before .before .plus2 .ensures) (c .before .before .before .before .if1 .left) (c .before .before .put8 .ensures)
 
 pub end-labelled-spec : {M : Type 1} → statement M
 end-labelled-spec =

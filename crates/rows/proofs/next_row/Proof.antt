@@ -6,30 +6,25 @@ use Rattle.rows.proofs.next_row.Lts as lts
 use Rattle.io_parts.proofs.line_end.Reads as line-end-reads
 use Rattle.slices.proofs.advance.Reads as advance-reads
 use Rattle.slices.proofs.rest.Reads as rest-reads
+use Rattle.rows.proofs.Steps.{next-end, next-found}
 
--- src/lib.rt:342:9
 returns : tie.Need-returns
-returns c = ?
+returns c = next-end (c .before .before .args .list .now) (c .before .before .args .at) (c .if1 .taken)
 
--- src/lib.rt:344:24
 rest-requires : tie.Need-rest-requires
 rest-requires c κs = search needs
 
--- src/lib.rt:344:9
 line-end-requires : tie.Need-line-end-requires
 line-end-requires c κs = search needs
 
--- src/lib.rt:345:9
 advance-requires : tie.Need-advance-requires
 advance-requires c κs = search needs
 
--- src/lib.rt:346:25
 advance-requires-2 : tie.Need-advance-requires-2
 advance-requires-2 c κs = search needs
 
--- src/lib.rt:338:1
 returns-2 : tie.Need-returns-2
-returns-2 c = ?
+returns-2 c = next-found (c .before .before .before .before .before .before .args .list .now) (c .before .before .before .before .before .before .args .at) (c .before .before .before .before .if1 .left) (c .before .before .before .rest .ensures) (c .before .before .line-end .ensures .is) (c .before .advance .ensures) (c .advance2 .ensures)
 
 pub next-row-spec : {M : Type 1} → statement M
 next-row-spec =

@@ -5,34 +5,30 @@ use Rattle.rows.proofs.read_behind.Reads as reads
 use Rattle.rows.proofs.read_behind.Lts as lts
 use Rattle.read_line.proofs.read_by.Reads as read-by-reads
 use Rattle.slices.proofs.advance.Reads as advance-reads
+use Rattle.rows.proofs.Steps.{lent}
+use Rattle.scan_line.specs.Steps.{scannedBy}
+use Rattle.read_line.specs.Readings.{readOf}
 
--- src/lib.rt:131:9
 advance-requires : tie.Need-advance-requires
 advance-requires c κs = search needs
 
--- src/lib.rt:132:28
 sub-read-by : tie.Need-sub-read-by
 sub-read-by c = search needs
 
--- src/lib.rt:132:28
 part-read-by-start : tie.Need-part-read-by-start
 part-read-by-start c = search needs
 
--- src/lib.rt:132:28
 part-read-by-end : tie.Need-part-read-by-end
 part-read-by-end c = search needs
 
--- src/lib.rt:132:5
 read-by-requires : tie.Need-read-by-requires
 read-by-requires c κs = search needs
 
--- src/lib.rt:128:1
 same-length : tie.Need-same-length
 same-length c = search needs
 
--- src/lib.rt:128:1
 returns : tie.Need-returns
-returns c = ?
+returns c = lent (λ n. readOf (scannedBy (c .before .before .before .before .before .before .before .before .args .machine .now) (c .before .before .before .before .before .before .before .before .args .line .now)) (c .before .before .before .before .before .before .before .before .args .line .now) n) 20 (c .before .before .before .before .before .before .before .before .args .out .now) (c .before .before .before .before .advance .ensures) (search needs) (c .before .before .read-by .ensures)
 
 pub read-behind-spec : {M : Type 1} → statement M
 read-behind-spec =

@@ -7,26 +7,23 @@ use Rattle.numbers.proofs.MadeDecimal.decimal.Reads as decimal-reads
 use Rattle.numbers.proofs.read_decimal.Reads as read-decimal-reads
 use Rattle.rows.proofs.is_column.Reads as is-column-reads
 use Rattle.slices.proofs.advance.Reads as advance-reads
+use Rattle.rows.specs.Columns.{columnOf}
 
--- src/lib.rt:116:9
 read-decimal-requires : tie.Need-read-decimal-requires
 read-decimal-requires c κs = search needs
 
--- src/lib.rt:119:15
 is-column-requires : tie.Need-is-column-requires
 is-column-requires c κs = search needs
 
--- src/lib.rt:120:18
 decimal-requires : tie.Need-decimal-requires
 decimal-requires c κs = search needs
 
--- src/lib.rt:121:15
 advance-requires : tie.Need-advance-requires
 advance-requires c κs = search needs
 
--- src/lib.rt:113:1
 returns : tie.Need-returns
-returns c = ?
+unfolding columnOf
+returns c = rw (c .advance .ensures, c .before .decimal .ensures, c .before .before .is-column .ensures, c .before .before .before .read-decimal .ensures)
 
 pub read-column-spec : {M : Type 1} → statement M
 read-column-spec =

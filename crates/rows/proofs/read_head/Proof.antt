@@ -10,58 +10,47 @@ use Rattle.rows.proofs.is_head.Reads as is-head-reads
 use Rattle.slices.proofs.byte_of.Reads as byte-of-reads
 use Rattle.slices.proofs.rest.Reads as rest-reads
 use Rattle.slices.proofs.u64_at.Reads as u64-at-reads
+use Rattle.rows.specs.Writings.{headOf}
 
--- src/lib.rt:237:27
 u64-at-requires : tie.Need-u64-at-requires
 u64-at-requires c κs = search needs
 
--- src/lib.rt:237:43
 byte-of-requires : tie.Need-byte-of-requires
 byte-of-requires c κs = search needs
 
--- src/lib.rt:237:9
 new-requires : tie.Need-new-requires
 new-requires c κs = search needs
 
--- src/lib.rt:238:41
 rest-requires : tie.Need-rest-requires
 rest-requires c κs = search needs
 
--- src/lib.rt:238:34
 u64-at-requires-2 : tie.Need-u64-at-requires-2
 u64-at-requires-2 c κs = search needs
 
--- src/lib.rt:238:59
 byte-of-requires-2 : tie.Need-byte-of-requires-2
 byte-of-requires-2 c κs = search needs
 
--- src/lib.rt:238:9
 new-requires-2 : tie.Need-new-requires-2
 new-requires-2 c κs = search needs
 
--- src/lib.rt:240:31
 number-requires : tie.Need-number-requires
 number-requires c κs = search needs
 
--- src/lib.rt:240:44
 number-requires-2 : tie.Need-number-requires-2
 number-requires-2 c κs = search needs
 
--- src/lib.rt:240:15
 is-head-requires : tie.Need-is-head-requires
 is-head-requires c κs = search needs
 
--- src/lib.rt:241:13
 decimal-requires : tie.Need-decimal-requires
 decimal-requires c κs = search needs
 
--- src/lib.rt:242:20
 decimal-requires-2 : tie.Need-decimal-requires-2
 decimal-requires-2 c κs = search needs
 
--- src/lib.rt:234:1
 returns : tie.Need-returns
-returns c = ?
+unfolding headOf
+returns c = rw (c .decimal2 .ensures, c .before .decimal .ensures, c .before .before .is-head .ensures, c .before .before .before .number2 .ensures, c .before .before .before .before .number .ensures, c .before .before .before .before .before .new2 .ensures, c .before .before .before .before .before .before .byte-of2 .ensures, c .before .before .before .before .before .before .before .u64-at2 .ensures, c .before .before .before .before .before .before .before .before .rest .ensures, c .before .before .before .before .before .before .before .before .before .new .ensures, c .before .before .before .before .before .before .before .before .before .before .byte-of .ensures, c .before .before .before .before .before .before .before .before .before .before .before .u64-at .ensures)
 
 pub read-head-spec : {M : Type 1} → statement M
 read-head-spec =

@@ -9,50 +9,43 @@ use Rattle.rows.proofs.read_column.Reads as read-column-reads
 use Rattle.rows.proofs.read_third.Reads as read-third-reads
 use Rattle.slices.proofs.advance.Reads as advance-reads
 use Rattle.slices.proofs.rest.Reads as rest-reads
+use mathlib.Core.Path.{sym, ap, _∙_}
+use borrow.Author.Tests.{not-true, not-false}
+use Rattle.rows.proofs.Steps.{refused-is, intensity-bad, intensity-good}
+use lib.ListN.{length}
 
--- src/lib.rt:182:33
 rest-requires : tie.Need-rest-requires
 rest-requires c κs = search needs
 
--- src/lib.rt:182:9
 read-column-requires : tie.Need-read-column-requires
 read-column-requires c κs = search needs
 
--- src/lib.rt:184:9
 clear-requires : tie.Need-clear-requires
 clear-requires c κs = search needs
 
--- src/lib.rt:185:9
 refuse-requires : tie.Need-refuse-requires
 refuse-requires c κs = search needs
 
--- src/lib.rt:185:9
 same-length : tie.Need-same-length
 same-length c = search needs
 
--- src/lib.rt:185:9
 returns : tie.Need-returns
-returns c = ?
+returns c = refused-is (length (c .before .before .before .before .before .before .before .before .before .before .before .before .args .out .now)) 13 _ (c .refuse .ensures) (c .before .before .before .clear .ensures) ∙ intensity-bad (c .before .before .before .before .before .before .before .before .before .before .before .before .args .machine .now) (c .before .before .before .before .before .before .before .before .before .before .before .before .args .row .now) (length (c .before .before .before .before .before .before .before .before .before .before .before .before .args .out .now)) (c .before .before .before .before .before .before .before .before .before .before .before .before .args .at) (c .before .before .before .before .before .before .before .before .before .before .before .before .args .mz) (c .before .before .before .before .before .before .before .before .rest .ensures) (c .before .before .before .before .before .before .before .read-column .ensures) (not-true _ (c .before .before .before .before .before .if1 .taken))
 
--- src/lib.rt:187:9
 advance-requires : tie.Need-advance-requires
 advance-requires c κs = search needs
 
--- src/lib.rt:188:25
 rest-requires-2 : tie.Need-rest-requires-2
 rest-requires-2 c κs = search needs
 
--- src/lib.rt:188:5
 read-third-requires : tie.Need-read-third-requires
 read-third-requires c κs = search needs
 
--- src/lib.rt:179:1
 same-length-2 : tie.Need-same-length-2
 same-length-2 c = search needs
 
--- src/lib.rt:179:1
 returns-2 : tie.Need-returns-2
-returns-2 c = ?
+returns-2 c = c .before .before .read-third .ensures ∙ intensity-good (c .before .before .before .before .before .before .before .before .before .before .before .before .before .args .machine .now) (c .before .before .before .before .before .before .before .before .before .before .before .before .before .args .row .now) (length (c .before .before .before .before .before .before .before .before .before .before .before .before .before .args .out .now)) (c .before .before .before .before .before .before .before .before .before .before .before .before .before .args .at) (c .before .before .before .before .before .before .before .before .before .before .before .before .before .args .mz) (c .before .before .before .before .before .before .before .before .before .rest .ensures) (c .before .before .before .before .before .before .before .before .read-column .ensures) (not-false _ (c .before .before .before .before .before .before .if1 .left)) (c .before .before .before .before .before .advance .ensures) (c .before .before .before .before .rest2 .ensures)
 
 pub read-intensity-spec : {M : Type 1} → statement M
 read-intensity-spec =
