@@ -9,3 +9,6 @@ pub mod Over
 pub mod Steps
 pub mod Wrote
 pub mod OneRow
+pub mod RowBack
+pub mod Lists
+pub mod Replaced

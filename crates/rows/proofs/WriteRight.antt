@@ -45,7 +45,7 @@ unfolding pointText
 point-length zero v = omega arith
 point-length (suc n) v = omega (arith, last-length (suc n) v)
 
-decimal-short : (d : rules.Decimal) → T (Limits.fits d) → length (decimalText d) ≤ 13
+pub decimal-short : (d : rules.Decimal) → T (Limits.fits d) → length (decimalText d) ≤ 13
 decimal-short d t =
     let w = digits (whole (d .places) (d .value)) in
     let h = leb-true (digitCount d) 12 (t-is (leb (digitCount d) 12) (and-1 (leb (d .places) 9) (leb (digitCount d) 12) t)) in

@@ -1,0 +1,106 @@
+-- Back again: what was written reads to the very stored row; and what was read is what the row spells. Assumes nothing.
+use Prim.Native.Nat.{ℕ, _+_, _-_, _≤_}
+use mathlib.Core.Path.{_≡_, refl, sym, ap, ap₂, _∙_, subst}
+use mathlib.Core.List.{List, [], _∷_, _++_, append-assoc, append-nil}
+use native.Mathlib.Omega.{arith}
+use native.Mathlib.Nat.{le-refl}
+use lib.Dec.{T}
+use lib.ListN.{length, take, replicate, length-append}
+use Rattle.lang.specs.Parts.{silent, written, optText}
+use Rattle.rules.specs.Decimals.{Decimal, decimalText}
+use Rattle.rules.specs.Lines.{lineText}
+use Rattle.rules.specs.Limits.{fits, maxLine}
+use Rattle.rules.specs.Fields.{Table}
+use Rattle.rules.specs.Preferred.{preferred}
+use Rattle.rules.specs.Stored.{stores, stored}
+use Rattle.rules.specs.Answers.{Answer, gives, Delivers, no-room, done, Sound, Holds, Reads, Writes}
+use Rattle.rules.specs.Rows.{tab, thirdText, Row, SpellsRow, preferredThird, preferredRow, rowHeadSize, rowHead, storedRow}
+use Rattle.rules.specs.RowAnswers.{maxRow, lacks, Cut, at-tab, no-tab, GoodColumn, Moves, ReadsThird, line, ReadsIntensity, ReadsRow, HoldsRow, WritesRow}
+use Rattle.rules.proofs.Rising.{decimal-some}
+use Rattle.write_table.proofs.Holds.{take-given}
+use Rattle.lines.proofs.Back.{read-back}
+use Rattle.lines.proofs.Right.{reads-table}
+use Rattle.rows.proofs.Decimals.{decimal-lacks}
+use Rattle.rows.proofs.WriteRight.{decimal-short}
+use Rattle.rows.proofs.OneRow.{reads-row-one}
+
+-- ---- reading what was written
+
+-- the preferred line of a sound table, within its bound, reads to the table
+reads-line : (t : Table) → Sound t → length (preferred t) ≤ maxLine → (room : ℕ) → length (stored t) ≤ room → Reads (preferred t) room (gives room (stored t))
+reads-line t s l room h =
+    let w = preferred t in
+    let holds : Holds (stored t) t = record { sound = s; is = refl } in
+    subst (λ (x : List ℕ). Reads x room (gives room (stored t))) (take-given (length w) w)
+    (read-back (Writes.fits t holds l (done (le-refl (length w)))) refl room h)
+
+-- a table behind its head, and zeros behind both
+headed : (head table : List ℕ) (room : ℕ) → length head ≡ rowHeadSize
+    → record { number = 0; place = 0; size = rowHeadSize + length table; out = head ++ (table ++ replicate (room - rowHeadSize - length table) 0) }
+    ≡ gives room (head ++ table)
+headed head table room e =
+    let n : rowHeadSize + length table ≡ length (head ++ table) = omega (arith, length-append head table) in
+    let k : room - rowHeadSize - length table ≡ room - length (head ++ table) = omega arith in
+    ap₂ (λ (x : ℕ) (y : List ℕ). record { number = 0; place = 0; size = x; out = y }) n
+    (ap (λ (m : ℕ). head ++ (table ++ replicate m 0)) k ∙ sym (append-assoc head table (replicate (room - length (head ++ table)) 0)))
+
+module _ (r : Row) (f : T (fits (r .mz))) (g : T (fits (r .intensity))) (s : Sound (r .table)) (l : length (preferred (r .table)) ≤ maxLine)
+    (room : ℕ) (h : length (storedRow r) ≤ room) where
+  third-read : (at : ℕ) → ReadsThird (r .mz) (r .intensity) (preferred (r .table)) at room (gives room (storedRow r))
+  third-read at =
+      let head = stores (rowHead (r .mz) (r .intensity)) in
+      subst (ReadsThird (r .mz) (r .intensity) (preferred (r .table)) at room) (headed head (stored (r .table)) room refl)
+      (line (reads-line (r .table) s l (room - rowHeadSize) (omega (arith, length-append head (stored (r .table))))) (Moves.done refl))
+
+  intensity-read : (t : Table) → r .table ≡ t → (at : ℕ)
+      → ReadsIntensity (r .mz) (decimalText (r .intensity) ++ optText thirdText (preferredThird t)) at room (gives room (storedRow r))
+  intensity-read [] e at =
+      let w = decimalText (r .intensity) in
+      ReadsIntensity.good (no-tab (subst (λ (x : List ℕ). T (lacks 9 x)) (sym (append-nil w)) (decimal-lacks (r .intensity))))
+      (record { text = sym (append-nil w); bounds = g })
+      (subst (λ (x : Table). ReadsThird (r .mz) (r .intensity) (preferred x) (at + length (w ++ [])) room (gives room (storedRow r))) e (third-read (at + length (w ++ []))))
+  intensity-read (a ∷ t) e at =
+      let w = decimalText (r .intensity) in
+      ReadsIntensity.good (at-tab w (preferred (a ∷ t)) (decimal-lacks (r .intensity)) refl) (record { text = refl; bounds = g })
+      (subst (λ (x : Table). ReadsThird (r .mz) (r .intensity) (preferred x) (at + (length w + 1)) room (gives room (storedRow r))) e (third-read (at + (length w + 1))))
+
+  third-length : (t : Table) → length (preferred t) ≤ maxLine → length (optText thirdText (preferredThird t)) ≤ maxLine + 1
+  third-length [] k = omega arith
+  third-length (a ∷ t) k = omega arith
+
+  row-read : ReadsRow (preferredRow r) room (gives room (storedRow r))
+  row-read =
+      let v = decimalText (r .mz) in
+      let w = decimalText (r .intensity) in
+      let x = optText thirdText (preferredThird (r .table)) in
+      ReadsRow.good
+      (omega (arith, length-append v (tab ++ (w ++ x)), length-append w x, decimal-short (r .mz) f, decimal-short (r .intensity) g, third-length (r .table) l))
+      (at-tab v (w ++ x) (decimal-lacks (r .mz)) refl) (record { text = refl; bounds = f }) (intensity-read (r .table) refl (length v + 1))
+
+-- the row that was written is the preferred one of the stored row
+pub record Wrote (bytes : List ℕ) (a : Answer) : Type 0 where
+  pub row : Row
+  pub holds : HoldsRow bytes row
+  pub short : length (preferred (row .table)) ≤ maxLine
+  pub is : take (a .size) (a .out) ≡ preferredRow row
+
+delivered-row : (r : Row) {room : ℕ} {a : Answer} → Delivers room (preferredRow r) a → a .number ≡ 0 → take (a .size) (a .out) ≡ preferredRow r
+delivered-row r (no-room h) e = absurd (omega arith)
+delivered-row r {room} (done h) e = take-given room (preferredRow r)
+
+pub wrote : {bytes : List ℕ} {room : ℕ} {a : Answer} → WritesRow bytes room a → a .number ≡ 0 → Wrote bytes a
+wrote (WritesRow.no-row n) e = absurd (omega arith)
+wrote (WritesRow.long r h l) e = absurd (omega arith)
+wrote (WritesRow.fits r h l d) e = record { row = r; holds = h; short = l; is = delivered-row r d e }
+
+pub read-back-row : {bytes : List ℕ} {room : ℕ} {a : Answer} → WritesRow bytes room a → a .number ≡ 0 → (room′ : ℕ) → length bytes ≤ room′
+    → ReadsRow (take (a .size) (a .out)) room′ (gives room′ bytes)
+read-back-row {bytes} {a = a} w e room′ g =
+    let x = wrote w e in
+    let h = x .holds in
+    let q = row-read (x .row) (h .mz) (h .intensity) (h .table) (x .short) room′ (omega (arith, ap length (h .is))) in
+    subst (λ (y : List ℕ). ReadsRow y room′ (gives room′ bytes)) (sym (x .is)) (subst (λ (y : List ℕ). ReadsRow (preferredRow (x .row)) room′ (gives room′ y)) (h .is) q)
+
+pub read-back-row-one : {bytes : List ℕ} {room room′ : ℕ} {a b : Answer} → WritesRow bytes room a → a .number ≡ 0 → length bytes ≤ room′
+    → ReadsRow (take (a .size) (a .out)) room′ b → b ≡ gives room′ bytes
+read-back-row-one {room′ = room′} w e g r = reads-row-one r (read-back-row w e room′ g)
