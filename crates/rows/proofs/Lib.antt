@@ -12,3 +12,4 @@ pub mod OneRow
 pub mod RowBack
 pub mod Lists
 pub mod Replaced
+pub mod StrayRow

@@ -6,20 +6,23 @@ use native.Mathlib.Omega.{arith}
 use native.Mathlib.Nat.{le-refl}
 use lib.Dec.{T}
 use lib.ListN.{length, take, replicate, length-append}
-use Rattle.lang.specs.Parts.{silent, written, optText}
+use Rattle.lang.specs.Parts.{Opt, silent, written, optText}
+use Rattle.lang.specs.Order.{Each}
 use Rattle.rules.specs.Decimals.{Decimal, decimalText}
-use Rattle.rules.specs.Lines.{lineText}
+use Rattle.rules.specs.Lines.{Spelling, lineText}
 use Rattle.rules.specs.Limits.{fits, maxLine}
-use Rattle.rules.specs.Fields.{Table}
+use Rattle.rules.specs.Fields.{Table, Says}
 use Rattle.rules.specs.Preferred.{preferred}
 use Rattle.rules.specs.Stored.{stores, stored}
 use Rattle.rules.specs.Answers.{Answer, gives, Delivers, no-room, done, Sound, Holds, Reads, Writes}
 use Rattle.rules.specs.Rows.{tab, thirdText, Row, SpellsRow, preferredThird, preferredRow, rowHeadSize, rowHead, storedRow}
 use Rattle.rules.specs.RowAnswers.{maxRow, lacks, Cut, at-tab, no-tab, GoodColumn, Moves, ReadsThird, line, ReadsIntensity, ReadsRow, HoldsRow, WritesRow}
 use Rattle.rules.proofs.Rising.{decimal-some}
+use Rattle.shape.proofs.OneSpelling.{one-spelling}
 use Rattle.write_table.proofs.Holds.{take-given}
 use Rattle.lines.proofs.Back.{read-back}
 use Rattle.lines.proofs.Right.{reads-table}
+use Rattle.rows.proofs.Cuts.{no-cut}
 use Rattle.rows.proofs.Decimals.{decimal-lacks}
 use Rattle.rows.proofs.WriteRight.{decimal-short}
 use Rattle.rows.proofs.OneRow.{reads-row-one}
@@ -104,3 +107,78 @@ read-back-row {bytes} {a = a} w e room′ g =
 pub read-back-row-one : {bytes : List ℕ} {room room′ : ℕ} {a b : Answer} → WritesRow bytes room a → a .number ≡ 0 → length bytes ≤ room′
     → ReadsRow (take (a .size) (a .out)) room′ b → b ≡ gives room′ bytes
 read-back-row-one {room′ = room′} w e g r = reads-row-one r (read-back-row w e room′ g)
+
+-- ---- what was read
+
+-- with number 0: the stored row that the row spells, and zeros behind it
+pub record ReadRow (row : List ℕ) (room : ℕ) (a : Answer) : Type 0 where
+  pub means : Row
+  pub spells : SpellsRow means row
+  pub is : a ≡ gives room (storedRow means)
+
+-- the empty third column, and none, have no annotations
+no-annotations : {s : Spelling} {t : Table} → lineText s ≡ [] → Each Says s t → Each Says [] t
+no-annotations {s} {t} e x = subst (λ (u : Spelling). Each Says u t) (one-spelling s [] e) x
+
+module _ {row : List ℕ} (mz intensity : Decimal) where
+  read-third : {third : List ℕ} {at room : ℕ} {a : Answer} → ReadsThird mz intensity third at room a → a .number ≡ 0
+      → ((s : Spelling) → lineText s ≡ third → (t : Table) → Each Says s t → SpellsRow (record { mz = mz; intensity = intensity; table = t }) row)
+      → ReadRow row room a
+  read-third {third} {room = room} (line r (Moves.done e)) n h =
+      let y = reads-table third (room - rowHeadSize) r e in
+      let t = y .table in
+      let head = stores (rowHead mz intensity) in
+      record {
+        means = record { mz = mz; intensity = intensity; table = t };
+        spells = h (y .spelling) (y .text) t (y .says);
+        is =
+            ap (λ (b : Answer). record { number = 0; place = 0; size = rowHeadSize + b .size; out = head ++ b .out }) (y .is)
+            ∙ headed head (stored t) room refl;
+      }
+  read-third (line r (Moves.no-room e)) n h = absurd (omega arith)
+  read-third (line r (Moves.refused e f)) n h = absurd (e n)
+
+  -- a third column that is there, or is not
+  with-third : {third : List ℕ} → decimalText mz ++ (tab ++ (decimalText intensity ++ (tab ++ third))) ≡ row → (s : Spelling) → lineText s ≡ third → (t : Table) → Each Says s t
+      → SpellsRow (record { mz = mz; intensity = intensity; table = t }) row
+  with-third e s q t x =
+      record {
+        spelling = record { mz = mz; intensity = intensity; third = written s };
+        text = ap (λ (l : List ℕ). decimalText mz ++ (tab ++ (decimalText intensity ++ (tab ++ l)))) q ∙ e;
+        says = record { mz = refl; intensity = refl; table = x };
+      }
+
+  without-third : decimalText mz ++ (tab ++ decimalText intensity) ≡ row → (s : Spelling) → lineText s ≡ [] → (t : Table) → Each Says s t
+      → SpellsRow (record { mz = mz; intensity = intensity; table = t }) row
+  without-third e s q t x =
+      record {
+        spelling = record { mz = mz; intensity = intensity; third = silent };
+        text = ap (λ (l : List ℕ). decimalText mz ++ (tab ++ l)) (append-nil (decimalText intensity)) ∙ e;
+        says = record { mz = refl; intensity = refl; table = no-annotations q x };
+      }
+
+-- every decimal has a text
+no-decimal : (d : Decimal) → decimalText d ≡ [] → ⊥
+no-decimal d e = omega (arith, decimal-some d, ap length e)
+
+read-intensity : {row bytes : List ℕ} {at room : ℕ} {a : Answer} (mz : Decimal) → ReadsIntensity mz bytes at room a → a .number ≡ 0
+    → decimalText mz ++ (tab ++ bytes) ≡ row → ReadRow row room a
+read-intensity mz (ReadsIntensity.bad x n) e q = absurd (omega arith)
+read-intensity mz (ReadsIntensity.good (at-tab column third l p) {intensity = d} g r) e q =
+    let z = ap (λ (x : List ℕ). decimalText mz ++ (tab ++ x)) (ap (λ (x : List ℕ). x ++ (tab ++ third)) (g .text) ∙ p) ∙ q in
+    read-third mz d r e (with-third mz d z)
+read-intensity mz (ReadsIntensity.good (no-tab l) {intensity = d} g r) e q =
+    read-third mz d r e (without-third mz d (ap (λ (x : List ℕ). decimalText mz ++ (tab ++ x)) (g .text) ∙ q))
+
+-- a row whose m/z is all has no intensity
+nothing-behind : {mz : Decimal} {at room : ℕ} {a : Answer} → ReadsIntensity mz [] at room a → a .number ≡ 0 → ⊥
+nothing-behind (ReadsIntensity.bad x n) e = omega arith
+nothing-behind (ReadsIntensity.good (at-tab column third l p) g r) e = no-cut 9 column [] third tt p
+nothing-behind (ReadsIntensity.good (no-tab l) {intensity = d} g r) e = no-decimal d (g .text)
+
+pub reads-row-spells : {row : List ℕ} {room : ℕ} {a : Answer} → ReadsRow row room a → a .number ≡ 0 → ReadRow row room a
+reads-row-spells (ReadsRow.long h) e = absurd (omega arith)
+reads-row-spells (ReadsRow.bad h x n) e = absurd (omega arith)
+reads-row-spells (ReadsRow.good h (at-tab column more l p) {mz = d} f r) e =
+    read-intensity d r e (ap (λ (x : List ℕ). x ++ (tab ++ more)) (f .text) ∙ p)
+reads-row-spells (ReadsRow.good h (no-tab l) f r) e = absurd (nothing-behind r e)
