@@ -19,3 +19,6 @@ pub mod Stored
 pub mod Layout
 pub mod Largest
 pub mod Answers
+pub mod Rows
+pub mod RowAnswers
+pub mod Lists

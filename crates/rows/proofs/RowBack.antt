@@ -1,0 +1,185 @@
+-- Back again: what was written reads to the very stored row; and what was read is what the row spells. Assumes nothing.
+use Prim.Native.Nat.{ℕ, _+_, _-_, _≤_}
+use mathlib.Core.Path.{_≡_, refl, sym, ap, ap₂, _∙_, subst}
+use mathlib.Core.List.{List, [], _∷_, _++_, append-assoc, append-nil}
+use native.Mathlib.Omega.{arith}
+use native.Mathlib.Nat.{le-refl}
+use lib.Dec.{T}
+use lib.ListN.{length, take, replicate, length-append}
+use Rattle.lang.specs.Parts.{Opt, silent, written, optText}
+use Rattle.lang.specs.Order.{Each}
+use Rattle.rules.specs.Decimals.{Decimal, decimalText}
+use Rattle.rules.specs.Lines.{Spelling, lineText}
+use Rattle.rules.specs.Limits.{fits, maxLine}
+use Rattle.rules.specs.Fields.{Table, Says}
+use Rattle.rules.specs.Preferred.{preferred}
+use Rattle.rules.specs.Stored.{stores, stored}
+use Rattle.rules.specs.Answers.{Answer, gives, Delivers, no-room, done, Sound, Holds, Reads, Writes}
+use Rattle.rules.specs.Rows.{tab, thirdText, Row, SpellsRow, preferredThird, preferredRow, rowHeadSize, rowHead, storedRow}
+use Rattle.rules.specs.RowAnswers.{maxRow, lacks, Cut, at-tab, no-tab, GoodColumn, Moves, ReadsThird, line, ReadsIntensity, ReadsRow, HoldsRow, WritesRow}
+use Rattle.rules.specs.Editions.{current}
+use Rattle.rules.proofs.Rising.{decimal-some}
+use Rattle.shape.proofs.OneSpelling.{one-spelling}
+use Rattle.write_table.proofs.Holds.{take-given}
+use Rattle.lines.proofs.Back.{read-back}
+use Rattle.lines.proofs.Right.{reads-table}
+use Rattle.rows.proofs.Cuts.{no-cut}
+use Rattle.rows.proofs.Decimals.{decimal-lacks}
+use Rattle.rows.proofs.WriteRight.{decimal-short}
+use Rattle.rows.proofs.OneRow.{reads-row-one}
+
+-- ---- reading what was written
+
+-- the preferred line of a sound table, within its bound, reads to the table
+reads-line : (t : Table) → Sound t → length (preferred t) ≤ maxLine → (room : ℕ) → length (stored current t) ≤ room → Reads (preferred t) room (gives room (stored current t))
+reads-line t s l room h =
+    let w = preferred t in
+    let holds : Holds current (stored current t) t = record { sound = s; is = refl } in
+    subst (λ (x : List ℕ). Reads x room (gives room (stored current t))) (take-given (length w) w)
+    (read-back (Writes.fits t holds l (done (le-refl (length w)))) refl room h)
+
+-- a table behind its head, and zeros behind both
+headed : (head table : List ℕ) (room : ℕ) → length head ≡ rowHeadSize
+    → record { number = 0; place = 0; size = rowHeadSize + length table; out = head ++ (table ++ replicate (room - rowHeadSize - length table) 0) }
+    ≡ gives room (head ++ table)
+headed head table room e =
+    let n : rowHeadSize + length table ≡ length (head ++ table) = omega (arith, length-append head table) in
+    let k : room - rowHeadSize - length table ≡ room - length (head ++ table) = omega arith in
+    ap₂ (λ (x : ℕ) (y : List ℕ). record { number = 0; place = 0; size = x; out = y }) n
+    (ap (λ (m : ℕ). head ++ (table ++ replicate m 0)) k ∙ sym (append-assoc head table (replicate (room - length (head ++ table)) 0)))
+
+module _ (r : Row) (f : T (fits (r .mz))) (g : T (fits (r .intensity))) (s : Sound (r .table)) (l : length (preferred (r .table)) ≤ maxLine)
+    (room : ℕ) (h : length (storedRow r) ≤ room) where
+  third-read : (at : ℕ) → ReadsThird (r .mz) (r .intensity) (preferred (r .table)) at room (gives room (storedRow r))
+  third-read at =
+      let head = stores (rowHead (r .mz) (r .intensity)) in
+      subst (ReadsThird (r .mz) (r .intensity) (preferred (r .table)) at room) (headed head (stored current (r .table)) room refl)
+      (line (reads-line (r .table) s l (room - rowHeadSize) (omega (arith, length-append head (stored current (r .table))))) (Moves.done refl))
+
+  intensity-read : (t : Table) → r .table ≡ t → (at : ℕ)
+      → ReadsIntensity (r .mz) (decimalText (r .intensity) ++ optText thirdText (preferredThird t)) at room (gives room (storedRow r))
+  intensity-read [] e at =
+      let w = decimalText (r .intensity) in
+      ReadsIntensity.good (no-tab (subst (λ (x : List ℕ). T (lacks 9 x)) (sym (append-nil w)) (decimal-lacks (r .intensity))))
+      (record { text = sym (append-nil w); bounds = g })
+      (subst (λ (x : Table). ReadsThird (r .mz) (r .intensity) (preferred x) (at + length (w ++ [])) room (gives room (storedRow r))) e (third-read (at + length (w ++ []))))
+  intensity-read (a ∷ t) e at =
+      let w = decimalText (r .intensity) in
+      ReadsIntensity.good (at-tab w (preferred (a ∷ t)) (decimal-lacks (r .intensity)) refl) (record { text = refl; bounds = g })
+      (subst (λ (x : Table). ReadsThird (r .mz) (r .intensity) (preferred x) (at + (length w + 1)) room (gives room (storedRow r))) e (third-read (at + (length w + 1))))
+
+  third-length : (t : Table) → length (preferred t) ≤ maxLine → length (optText thirdText (preferredThird t)) ≤ maxLine + 1
+  third-length [] k = omega arith
+  third-length (a ∷ t) k = omega arith
+
+  row-read : ReadsRow (preferredRow r) room (gives room (storedRow r))
+  row-read =
+      let v = decimalText (r .mz) in
+      let w = decimalText (r .intensity) in
+      let x = optText thirdText (preferredThird (r .table)) in
+      ReadsRow.good
+      (omega (arith, length-append v (tab ++ (w ++ x)), length-append w x, decimal-short (r .mz) f, decimal-short (r .intensity) g, third-length (r .table) l))
+      (at-tab v (w ++ x) (decimal-lacks (r .mz)) refl) (record { text = refl; bounds = f }) (intensity-read (r .table) refl (length v + 1))
+
+-- the row that was written is the preferred one of the stored row
+pub record Wrote (bytes : List ℕ) (a : Answer) : Type 0 where
+  pub row : Row
+  pub holds : HoldsRow bytes row
+  pub short : length (preferred (row .table)) ≤ maxLine
+  pub is : take (a .size) (a .out) ≡ preferredRow row
+
+delivered-row : (r : Row) {room : ℕ} {a : Answer} → Delivers room (preferredRow r) a → a .number ≡ 0 → take (a .size) (a .out) ≡ preferredRow r
+delivered-row r (no-room h) e = absurd (omega arith)
+delivered-row r {room} (done h) e = take-given room (preferredRow r)
+
+pub wrote : {bytes : List ℕ} {room : ℕ} {a : Answer} → WritesRow bytes room a → a .number ≡ 0 → Wrote bytes a
+wrote (WritesRow.no-row n) e = absurd (omega arith)
+wrote (WritesRow.long r h l) e = absurd (omega arith)
+wrote (WritesRow.fits r h l d) e = record { row = r; holds = h; short = l; is = delivered-row r d e }
+
+pub read-back-row : {bytes : List ℕ} {room : ℕ} {a : Answer} → WritesRow bytes room a → a .number ≡ 0 → (room′ : ℕ) → length bytes ≤ room′
+    → ReadsRow (take (a .size) (a .out)) room′ (gives room′ bytes)
+read-back-row {bytes} {a = a} w e room′ g =
+    let x = wrote w e in
+    let h = x .holds in
+    let q = row-read (x .row) (h .mz) (h .intensity) (h .table) (x .short) room′ (omega (arith, ap length (h .is))) in
+    subst (λ (y : List ℕ). ReadsRow y room′ (gives room′ bytes)) (sym (x .is)) (subst (λ (y : List ℕ). ReadsRow (preferredRow (x .row)) room′ (gives room′ y)) (h .is) q)
+
+pub read-back-row-one : {bytes : List ℕ} {room room′ : ℕ} {a b : Answer} → WritesRow bytes room a → a .number ≡ 0 → length bytes ≤ room′
+    → ReadsRow (take (a .size) (a .out)) room′ b → b ≡ gives room′ bytes
+read-back-row-one {room′ = room′} w e g r = reads-row-one r (read-back-row w e room′ g)
+
+-- ---- what was read
+
+-- with number 0: the stored row that the row spells, and zeros behind it
+pub record ReadRow (row : List ℕ) (room : ℕ) (a : Answer) : Type 0 where
+  pub means : Row
+  pub spells : SpellsRow means row
+  pub is : a ≡ gives room (storedRow means)
+
+-- the empty third column, and none, have no annotations
+no-annotations : {s : Spelling} {t : Table} → lineText s ≡ [] → Each Says s t → Each Says [] t
+no-annotations {s} {t} e x = subst (λ (u : Spelling). Each Says u t) (one-spelling s [] e) x
+
+module _ {row : List ℕ} (mz intensity : Decimal) where
+  read-third : {third : List ℕ} {at room : ℕ} {a : Answer} → ReadsThird mz intensity third at room a → a .number ≡ 0
+      → ((s : Spelling) → lineText s ≡ third → (t : Table) → Each Says s t → SpellsRow (record { mz = mz; intensity = intensity; table = t }) row)
+      → ReadRow row room a
+  read-third {third} {room = room} (line r (Moves.done e)) n h =
+      let y = reads-table third (room - rowHeadSize) r e in
+      let t = y .table in
+      let head = stores (rowHead mz intensity) in
+      record {
+        means = record { mz = mz; intensity = intensity; table = t };
+        spells = h (y .spelling) (y .text) t (y .says);
+        is =
+            ap (λ (b : Answer). record { number = 0; place = 0; size = rowHeadSize + b .size; out = head ++ b .out }) (y .is)
+            ∙ headed head (stored current t) room refl;
+      }
+  read-third (line r (Moves.no-room e)) n h = absurd (omega arith)
+  read-third (line r (Moves.refused e f)) n h = absurd (e n)
+
+  -- a third column that is there, or is not
+  with-third : {third : List ℕ} → decimalText mz ++ (tab ++ (decimalText intensity ++ (tab ++ third))) ≡ row → (s : Spelling) → lineText s ≡ third → (t : Table) → Each Says s t
+      → SpellsRow (record { mz = mz; intensity = intensity; table = t }) row
+  with-third e s q t x =
+      record {
+        spelling = record { mz = mz; intensity = intensity; third = written s };
+        text = ap (λ (l : List ℕ). decimalText mz ++ (tab ++ (decimalText intensity ++ (tab ++ l)))) q ∙ e;
+        says = record { mz = refl; intensity = refl; table = x };
+      }
+
+  without-third : decimalText mz ++ (tab ++ decimalText intensity) ≡ row → (s : Spelling) → lineText s ≡ [] → (t : Table) → Each Says s t
+      → SpellsRow (record { mz = mz; intensity = intensity; table = t }) row
+  without-third e s q t x =
+      record {
+        spelling = record { mz = mz; intensity = intensity; third = silent };
+        text = ap (λ (l : List ℕ). decimalText mz ++ (tab ++ l)) (append-nil (decimalText intensity)) ∙ e;
+        says = record { mz = refl; intensity = refl; table = no-annotations q x };
+      }
+
+-- every decimal has a text
+no-decimal : (d : Decimal) → decimalText d ≡ [] → ⊥
+no-decimal d e = omega (arith, decimal-some d, ap length e)
+
+read-intensity : {row bytes : List ℕ} {at room : ℕ} {a : Answer} (mz : Decimal) → ReadsIntensity mz bytes at room a → a .number ≡ 0
+    → decimalText mz ++ (tab ++ bytes) ≡ row → ReadRow row room a
+read-intensity mz (ReadsIntensity.bad x n) e q = absurd (omega arith)
+read-intensity mz (ReadsIntensity.good (at-tab column third l p) {intensity = d} g r) e q =
+    let z = ap (λ (x : List ℕ). decimalText mz ++ (tab ++ x)) (ap (λ (x : List ℕ). x ++ (tab ++ third)) (g .text) ∙ p) ∙ q in
+    read-third mz d r e (with-third mz d z)
+read-intensity mz (ReadsIntensity.good (no-tab l) {intensity = d} g r) e q =
+    read-third mz d r e (without-third mz d (ap (λ (x : List ℕ). decimalText mz ++ (tab ++ x)) (g .text) ∙ q))
+
+-- a row whose m/z is all has no intensity
+nothing-behind : {mz : Decimal} {at room : ℕ} {a : Answer} → ReadsIntensity mz [] at room a → a .number ≡ 0 → ⊥
+nothing-behind (ReadsIntensity.bad x n) e = omega arith
+nothing-behind (ReadsIntensity.good (at-tab column third l p) g r) e = no-cut 9 column [] third tt p
+nothing-behind (ReadsIntensity.good (no-tab l) {intensity = d} g r) e = no-decimal d (g .text)
+
+pub reads-row-spells : {row : List ℕ} {room : ℕ} {a : Answer} → ReadsRow row room a → a .number ≡ 0 → ReadRow row room a
+reads-row-spells (ReadsRow.long h) e = absurd (omega arith)
+reads-row-spells (ReadsRow.bad h x n) e = absurd (omega arith)
+reads-row-spells (ReadsRow.good h (at-tab column more l p) {mz = d} f r) e =
+    read-intensity d r e (ap (λ (x : List ℕ). x ++ (tab ++ more)) (f .text) ∙ p)
+reads-row-spells (ReadsRow.good h (no-tab l) f r) e = absurd (nothing-behind r e)

@@ -1,0 +1,47 @@
+use borrow.Author.Needs.{needs}
+use Rattle.rows.proofs.begins_decimal.Statement.{statement}
+use Rattle.rows.proofs.begins_decimal.Tie as tie
+use Rattle.rows.proofs.begins_decimal.Reads as reads
+use Rattle.rows.proofs.begins_decimal.Lts as lts
+use Rattle.slices.proofs.begins_in.Reads as begins-in-reads
+use Rattle.slices.proofs.begins_with.Reads as begins-with-reads
+use Rattle.slices.proofs.rest.Reads as rest-reads
+use mathlib.Core.Path.{sym, ap, _∙_}
+use borrow.Author.Tests.{not-true, not-false}
+use Rattle.rows.specs.Columns.{beginsDecimal}
+
+begins-in-requires : tie.Need-begins-in-requires
+begins-in-requires c κs = search needs
+
+returns : tie.Need-returns
+unfolding beginsDecimal
+returns c = rw (sym (c .before .begins-in .ensures) ∙ c .if1 .taken)
+
+begins-with-requires : tie.Need-begins-with-requires
+begins-with-requires c κs = search needs
+
+returns-2 : tie.Need-returns-2
+unfolding beginsDecimal
+returns-2 c = rw (sym (c .before .before .before .begins-in .ensures) ∙ c .before .before .if1 .left, sym (c .before .begins-with .ensures) ∙ not-true _ (c .if2 .taken))
+
+rest-requires : tie.Need-rest-requires
+rest-requires c κs = search needs
+
+begins-in-requires-2 : tie.Need-begins-in-requires-2
+begins-in-requires-2 c κs = search needs
+
+returns-3 : tie.Need-returns-3
+unfolding beginsDecimal
+returns-3 c = rw (sym (c .before .before .before .before .before .begins-in .ensures) ∙ c .before .before .before .before .if1 .left, sym (c .before .before .before .begins-with .ensures) ∙ not-false _ (c .before .before .if2 .left), c .begins-in2 .ensures, c .before .rest .ensures)
+
+pub begins-decimal-spec : {M : Type 1} → statement M
+begins-decimal-spec =
+    tie.close
+    (tie.spec
+    begins-in-requires
+    returns
+    begins-with-requires
+    returns-2
+    rest-requires
+    begins-in-requires-2
+    returns-3)

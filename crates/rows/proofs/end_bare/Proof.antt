@@ -1,0 +1,42 @@
+use borrow.Author.Needs.{needs}
+use Rattle.rows.proofs.end_bare.Statement.{statement}
+use Rattle.rows.proofs.end_bare.Tie as tie
+use Rattle.rows.proofs.end_bare.Reads as reads
+use Rattle.rows.proofs.end_bare.Lts as lts
+use Rattle.put_bytes.proofs.clear_from.Reads as clear-from-reads
+use Rattle.answers.proofs.refuse.Reads as refuse-reads
+use Rattle.put_bytes.proofs.clear.Reads as clear-reads
+use Rattle.rows.proofs.Steps.{bare-short, bare-done}
+
+clear-requires : tie.Need-clear-requires
+clear-requires c κs = search needs
+
+refuse-requires : tie.Need-refuse-requires
+refuse-requires c κs = search needs
+
+same-length : tie.Need-same-length
+same-length c = search needs
+
+returns : tie.Need-returns
+returns c = bare-short (c .before .before .before .before .before .before .before .args .out .now) (c .before .before .before .before .before .before .before .args .to) (c .before .before .before .before .before .if1 .taken) (c .refuse .ensures) (c .before .before .before .clear .ensures)
+
+clear-from-requires : tie.Need-clear-from-requires
+clear-from-requires c κs = search needs
+
+same-length-2 : tie.Need-same-length-2
+same-length-2 c = search needs
+
+returns-2 : tie.Need-returns-2
+returns-2 c = bare-done (c .before .before .before .before .before .before .args .out .now) (c .before .before .before .before .before .before .args .to) (c .before .before .before .before .if1 .left) (c .before .before .clear-from .ensures)
+
+pub end-bare-spec : {M : Type 1} → statement M
+end-bare-spec =
+    tie.close
+    (tie.spec
+    clear-requires
+    refuse-requires
+    same-length
+    returns
+    clear-from-requires
+    same-length-2
+    returns-2)

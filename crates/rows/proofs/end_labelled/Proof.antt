@@ -1,0 +1,51 @@
+use borrow.Author.Needs.{needs}
+use Rattle.rows.proofs.end_labelled.Statement.{statement}
+use Rattle.rows.proofs.end_labelled.Tie as tie
+use Rattle.rows.proofs.end_labelled.Reads as reads
+use Rattle.rows.proofs.end_labelled.Lts as lts
+use Rattle.answers.proofs.refuse.Reads as refuse-reads
+use Rattle.put_bytes.proofs.clear.Reads as clear-reads
+use Rattle.put_bytes.proofs.put8.Reads as put8-reads
+use Rattle.rows.proofs.plus.Reads as plus-reads
+use Rattle.rows.proofs.Steps.{labelled-short, labelled-done}
+
+plus-requires : tie.Need-plus-requires
+plus-requires c κs = search needs
+
+plus-requires-2 : tie.Need-plus-requires-2
+plus-requires-2 c κs = search needs
+
+clear-requires : tie.Need-clear-requires
+clear-requires c κs = search needs
+
+refuse-requires : tie.Need-refuse-requires
+refuse-requires c κs = search needs
+
+same-length : tie.Need-same-length
+same-length c = search needs
+
+returns : tie.Need-returns
+returns c = labelled-short (c .before .before .before .before .before .before .before .before .before .args .out .now) (c .before .before .before .before .before .before .before .before .before .args .to) (c .before .before .before .before .before .before .before .before .before .args .n) (c .before .before .before .before .before .before .before .plus .ensures) (c .before .before .before .before .before .before .plus2 .ensures) (c .before .before .before .before .before .if1 .taken) (c .refuse .ensures) (c .before .before .before .clear .ensures)
+
+put8-requires : tie.Need-put8-requires
+put8-requires c κs = search needs
+
+same-length-2 : tie.Need-same-length-2
+same-length-2 c = search needs
+
+returns-2 : tie.Need-returns-2
+returns-2 c = labelled-done (c .before .before .before .before .before .before .before .before .args .out .now) (c .before .before .before .before .before .before .before .before .args .to) (c .before .before .before .before .before .before .before .before .args .n) (c .before .before .before .before .before .before .plus .ensures) (c .before .before .before .before .before .plus2 .ensures) (c .before .before .before .before .if1 .left) (c .before .before .put8 .ensures)
+
+pub end-labelled-spec : {M : Type 1} → statement M
+end-labelled-spec =
+    tie.close
+    (tie.spec
+    plus-requires
+    plus-requires-2
+    clear-requires
+    refuse-requires
+    same-length
+    returns
+    put8-requires
+    same-length-2
+    returns-2)

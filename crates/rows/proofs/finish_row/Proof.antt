@@ -1,0 +1,87 @@
+use borrow.Author.Needs.{needs}
+use Rattle.rows.proofs.finish_row.Statement.{statement}
+use Rattle.rows.proofs.finish_row.Tie as tie
+use Rattle.rows.proofs.finish_row.Reads as reads
+use Rattle.rows.proofs.finish_row.Lts as lts
+use Rattle.answers.proofs.refuse.Reads as refuse-reads
+use Rattle.put_bytes.proofs.clear.Reads as clear-reads
+use Rattle.rows.proofs.end_bare.Reads as end-bare-reads
+use Rattle.rows.proofs.end_labelled.Reads as end-labelled-reads
+use Rattle.rows.proofs.plus.Reads as plus-reads
+use mathlib.Core.Path.{sym, ap, _∙_}
+use Prim.Native.Nat.{ℕ}
+use borrow.Author.Tests.{eq-eqb, ne-eqb}
+use Rattle.answers.specs.Delivered.{refusedOf}
+use Rattle.rows.specs.Behind.{capped}
+use Rattle.rows.specs.Writings.{finishedOver}
+use Rattle.rows.proofs.Steps.{refused-is}
+use lib.ListN.{length}
+
+end-bare-requires : tie.Need-end-bare-requires
+end-bare-requires c κs = search needs
+
+same-length : tie.Need-same-length
+same-length c = search needs
+
+returns : tie.Need-returns
+unfolding finishedOver
+returns c = rw (eq-eqb (c .before .before .before .before .before .before .before .before .before .args .line .number) 0 (c .before .before .before .before .before .before .if1 .taken), eq-eqb (c .before .before .before .before .before .before .before .before .before .args .line .len) 0 (c .before .before .before .before .if2 .taken)) (c .before .before .end-bare .ensures)
+
+end-labelled-requires : tie.Need-end-labelled-requires
+end-labelled-requires c κs = search needs
+
+same-length-2 : tie.Need-same-length-2
+same-length-2 c = search needs
+
+returns-2 : tie.Need-returns-2
+unfolding finishedOver
+returns-2 c = rw (eq-eqb (c .before .before .before .before .before .before .before .before .before .args .line .number) 0 (c .before .before .before .before .before .before .if1 .taken), ne-eqb (c .before .before .before .before .before .before .before .before .before .args .line .len) 0 (c .before .before .before .before .if2 .left)) (c .before .before .end-labelled .ensures)
+
+clear-requires : tie.Need-clear-requires
+clear-requires c κs = search needs
+
+plus-requires : tie.Need-plus-requires
+plus-requires c κs = search needs
+
+plus-requires-2 : tie.Need-plus-requires-2
+plus-requires-2 c κs = search needs
+
+refuse-requires : tie.Need-refuse-requires
+refuse-requires c κs = search needs
+
+same-length-3 : tie.Need-same-length-3
+same-length-3 c = search needs
+
+returns-3 : tie.Need-returns-3
+unfolding finishedOver
+returns-3 c = rw (ne-eqb (c .before .before .before .before .before .before .before .before .before .before .before .before .args .line .number) 0 (c .before .before .before .before .before .before .before .before .before .if1 .left), eq-eqb (c .before .before .before .before .before .before .before .before .before .before .before .before .args .line .number) 8 (c .before .before .before .if3 .taken)) (refused-is (length (c .before .before .before .before .before .before .before .before .before .before .before .before .args .out .now)) 8 _ (c .refuse .ensures ∙ ap (refusedOf 8) (c .before .plus2 .ensures ∙ ap (λ (n : ℕ). capped n (c .before .before .before .before .before .before .before .before .before .before .before .before .args .line .place)) (c .before .before .plus .ensures))) (c .before .before .before .before .before .before .before .clear .ensures))
+
+refuse-requires-2 : tie.Need-refuse-requires-2
+refuse-requires-2 c κs = search needs
+
+same-length-4 : tie.Need-same-length-4
+same-length-4 c = search needs
+
+returns-4 : tie.Need-returns-4
+unfolding finishedOver
+returns-4 c = rw (ne-eqb (c .before .before .before .before .before .before .before .before .before .before .args .line .number) 0 (c .before .before .before .before .before .before .before .if1 .left), ne-eqb (c .before .before .before .before .before .before .before .before .before .before .args .line .number) 8 (c .before .if3 .left)) (refused-is (length (c .before .before .before .before .before .before .before .before .before .before .args .out .now)) _ _ (c .refuse2 .ensures) (c .before .before .before .before .before .clear .ensures))
+
+pub finish-row-spec : {M : Type 1} → statement M
+finish-row-spec =
+    tie.close
+    (tie.spec
+    end-bare-requires
+    same-length
+    returns
+    end-labelled-requires
+    same-length-2
+    returns-2
+    clear-requires
+    plus-requires
+    plus-requires-2
+    refuse-requires
+    same-length-3
+    returns-3
+    refuse-requires-2
+    same-length-4
+    returns-4)

@@ -1,0 +1,49 @@
+use borrow.Author.Needs.{needs}
+use Rattle.rows.proofs.is_column.Statement.{statement}
+use Rattle.rows.proofs.is_column.Tie as tie
+use Rattle.rows.proofs.is_column.Reads as reads
+use Rattle.rows.proofs.is_column.Lts as lts
+use Rattle.numbers.proofs.MadeDecimal.number.Reads as number-reads
+use Rattle.rows.proofs.begins_decimal.Reads as begins-decimal-reads
+use Rattle.rows.proofs.ends_column.Reads as ends-column-reads
+use Rattle.slices.proofs.rest.Reads as rest-reads
+use mathlib.Core.Path.{sym, ap, _∙_}
+use borrow.Author.Tests.{not-true, not-false, ne-eqb, eq-eqb}
+use Rattle.numbers.specs.Making.{madeNumber}
+use Rattle.rows.specs.Columns.{endsColumn, isColumn}
+
+begins-decimal-requires : tie.Need-begins-decimal-requires
+begins-decimal-requires c κs = search needs
+
+returns : tie.Need-returns
+unfolding isColumn
+returns c = rw (sym (c .before .begins-decimal .ensures) ∙ not-true _ (c .if1 .taken))
+
+number-requires : tie.Need-number-requires
+number-requires c κs = search needs
+
+returns-2 : tie.Need-returns-2
+unfolding isColumn
+returns-2 c = rw (sym (c .before .before .before .begins-decimal .ensures) ∙ not-false _ (c .before .before .if1 .left), ne-eqb (madeNumber (c .before .before .before .before .before .args .d .made)) 0 (λ e. c .if2 .taken (c .before .number .ensures ∙ e)))
+
+rest-requires : tie.Need-rest-requires
+rest-requires c κs = search needs
+
+ends-column-requires : tie.Need-ends-column-requires
+ends-column-requires c κs = search needs
+
+returns-3 : tie.Need-returns-3
+unfolding isColumn
+returns-3 c = rw (sym (c .before .before .before .before .before .begins-decimal .ensures) ∙ not-false _ (c .before .before .before .before .if1 .left), eq-eqb (madeNumber (c .before .before .before .before .before .before .before .args .d .made)) 0 (sym (c .before .before .before .number .ensures) ∙ c .before .before .if2 .left)) (c .ends-column .ensures ∙ ap endsColumn (c .before .rest .ensures))
+
+pub is-column-spec : {M : Type 1} → statement M
+is-column-spec =
+    tie.close
+    (tie.spec
+    begins-decimal-requires
+    returns
+    number-requires
+    returns-2
+    rest-requires
+    ends-column-requires
+    returns-3)

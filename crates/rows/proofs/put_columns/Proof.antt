@@ -1,0 +1,30 @@
+use borrow.Author.Needs.{needs}
+use Rattle.rows.proofs.put_columns.Statement.{statement}
+use Rattle.rows.proofs.put_columns.Tie as tie
+use Rattle.rows.proofs.put_columns.Reads as reads
+use Rattle.rows.proofs.put_columns.Lts as lts
+use Rattle.numbers.proofs.put_decimal.Reads as put-decimal-reads
+use Rattle.put_bytes.proofs.put8.Reads as put8-reads
+use Rattle.put_bytes.proofs.Putting.{put-then}
+use Rattle.rows.specs.Writings.{columnsText}
+
+put-decimal-requires : tie.Need-put-decimal-requires
+put-decimal-requires c κs = search needs
+
+put8-requires : tie.Need-put8-requires
+put8-requires c κs = search needs
+
+put-decimal-requires-2 : tie.Need-put-decimal-requires-2
+put-decimal-requires-2 c κs = search needs
+
+same-length : tie.Need-same-length
+same-length c = search needs
+
+returns : tie.Need-returns
+unfolding columnsText
+returns c = put-then (c .before .before .before .before .before .before .before .before .before .before .put-decimal .ensures) (put-then (c .before .before .before .before .before .before .put8 .ensures) (c .before .before .put-decimal2 .ensures))
+
+pub put-columns-spec : {M : Type 1} → statement M
+put-columns-spec =
+    tie.close
+    (tie.spec put-decimal-requires put8-requires put-decimal-requires-2 same-length returns)

@@ -1,0 +1,66 @@
+use borrow.Author.Needs.{needs}
+use Rattle.rows.proofs.put_head.Statement.{statement}
+use Rattle.rows.proofs.put_head.Tie as tie
+use Rattle.rows.proofs.put_head.Reads as reads
+use Rattle.rows.proofs.put_head.Lts as lts
+use Rattle.numbers.proofs.Decimal.places.Reads as places-reads
+use Rattle.numbers.proofs.Decimal.value.Reads as value-reads
+use Rattle.put_bytes.proofs.put_le.Reads as put-le-reads
+use Rattle.rows.proofs.Steps.{head-put}
+
+value-requires : tie.Need-value-requires
+value-requires c κs = search needs
+
+put-le-requires : tie.Need-put-le-requires
+put-le-requires c κs = search needs
+
+value-requires-2 : tie.Need-value-requires-2
+value-requires-2 c κs = search needs
+
+put-le-requires-2 : tie.Need-put-le-requires-2
+put-le-requires-2 c κs = search needs
+
+places-requires : tie.Need-places-requires
+places-requires c κs = search needs
+
+cast-put-le : tie.Need-cast-put-le
+cast-put-le c = search needs
+
+put-le-requires-3 : tie.Need-put-le-requires-3
+put-le-requires-3 c κs = search needs
+
+places-requires-2 : tie.Need-places-requires-2
+places-requires-2 c κs = search needs
+
+cast-put-le-2 : tie.Need-cast-put-le-2
+cast-put-le-2 c = search needs
+
+put-le-requires-4 : tie.Need-put-le-requires-4
+put-le-requires-4 c κs = search needs
+
+put-le-requires-5 : tie.Need-put-le-requires-5
+put-le-requires-5 c κs = search needs
+
+same-length : tie.Need-same-length
+same-length c = search needs
+
+returns : tie.Need-returns
+returns c = head-put (c .before .before .before .before .before .before .before .before .before .before .before .before .before .before .before .before .before .before .before .before .before .before .value .ensures) (c .before .before .before .before .before .before .before .before .before .before .before .before .before .before .before .before .before .value2 .ensures) (c .before .before .before .before .before .before .before .before .before .before .before .before .places .ensures) (c .before .before .before .before .before .before .before .places2 .ensures) (c .before .before .before .before .before .before .before .before .before .before .before .before .before .before .before .before .before .before .before .before .before .put-le .ensures) (c .before .before .before .before .before .before .before .before .before .before .before .before .before .before .before .before .put-le2 .ensures) (c .before .before .before .before .before .before .before .before .before .before .before .put-le3 .ensures) (c .before .before .before .before .before .before .put-le4 .ensures) (c .before .before .put-le5 .ensures)
+
+pub put-head-spec : {M : Type 1} → statement M
+put-head-spec =
+    tie.close
+    (tie.spec
+    value-requires
+    put-le-requires
+    value-requires-2
+    put-le-requires-2
+    places-requires
+    cast-put-le
+    put-le-requires-3
+    places-requires-2
+    cast-put-le-2
+    put-le-requires-4
+    put-le-requires-5
+    same-length
+    returns)

@@ -1,0 +1,71 @@
+use borrow.Author.Needs.{needs}
+use Rattle.rows.proofs.read_head.Statement.{statement}
+use Rattle.rows.proofs.read_head.Tie as tie
+use Rattle.rows.proofs.read_head.Reads as reads
+use Rattle.rows.proofs.read_head.Lts as lts
+use Rattle.numbers.proofs.Decimal.new.Reads as new-reads
+use Rattle.numbers.proofs.MadeDecimal.decimal.Reads as decimal-reads
+use Rattle.numbers.proofs.MadeDecimal.number.Reads as number-reads
+use Rattle.rows.proofs.is_head.Reads as is-head-reads
+use Rattle.slices.proofs.byte_of.Reads as byte-of-reads
+use Rattle.slices.proofs.rest.Reads as rest-reads
+use Rattle.slices.proofs.u64_at.Reads as u64-at-reads
+use Rattle.rows.specs.Writings.{headOf}
+
+u64-at-requires : tie.Need-u64-at-requires
+u64-at-requires c κs = search needs
+
+byte-of-requires : tie.Need-byte-of-requires
+byte-of-requires c κs = search needs
+
+new-requires : tie.Need-new-requires
+new-requires c κs = search needs
+
+rest-requires : tie.Need-rest-requires
+rest-requires c κs = search needs
+
+u64-at-requires-2 : tie.Need-u64-at-requires-2
+u64-at-requires-2 c κs = search needs
+
+byte-of-requires-2 : tie.Need-byte-of-requires-2
+byte-of-requires-2 c κs = search needs
+
+new-requires-2 : tie.Need-new-requires-2
+new-requires-2 c κs = search needs
+
+number-requires : tie.Need-number-requires
+number-requires c κs = search needs
+
+number-requires-2 : tie.Need-number-requires-2
+number-requires-2 c κs = search needs
+
+is-head-requires : tie.Need-is-head-requires
+is-head-requires c κs = search needs
+
+decimal-requires : tie.Need-decimal-requires
+decimal-requires c κs = search needs
+
+decimal-requires-2 : tie.Need-decimal-requires-2
+decimal-requires-2 c κs = search needs
+
+returns : tie.Need-returns
+unfolding headOf
+returns c = rw (c .decimal2 .ensures, c .before .decimal .ensures, c .before .before .is-head .ensures, c .before .before .before .number2 .ensures, c .before .before .before .before .number .ensures, c .before .before .before .before .before .new2 .ensures, c .before .before .before .before .before .before .byte-of2 .ensures, c .before .before .before .before .before .before .before .u64-at2 .ensures, c .before .before .before .before .before .before .before .before .rest .ensures, c .before .before .before .before .before .before .before .before .before .new .ensures, c .before .before .before .before .before .before .before .before .before .before .byte-of .ensures, c .before .before .before .before .before .before .before .before .before .before .before .u64-at .ensures)
+
+pub read-head-spec : {M : Type 1} → statement M
+read-head-spec =
+    tie.close
+    (tie.spec
+    u64-at-requires
+    byte-of-requires
+    new-requires
+    rest-requires
+    u64-at-requires-2
+    byte-of-requires-2
+    new-requires-2
+    number-requires
+    number-requires-2
+    is-head-requires
+    decimal-requires
+    decimal-requires-2
+    returns)

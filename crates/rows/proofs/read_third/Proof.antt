@@ -1,0 +1,95 @@
+use borrow.Author.Needs.{needs}
+use Rattle.rows.proofs.read_third.Statement.{statement}
+use Rattle.rows.proofs.read_third.Tie as tie
+use Rattle.rows.proofs.read_third.Reads as reads
+use Rattle.rows.proofs.read_third.Lts as lts
+use Rattle.answers.proofs.refuse.Reads as refuse-reads
+use Rattle.put_bytes.proofs.clear.Reads as clear-reads
+use Rattle.rows.proofs.plus.Reads as plus-reads
+use Rattle.rows.proofs.put_head.Reads as put-head-reads
+use Rattle.rows.proofs.read_behind.Reads as read-behind-reads
+use mathlib.Core.Path.{refl}
+use Rattle.rows.proofs.Over.{moved-short, moved-done, moved-eight, moved-refused}
+use Rattle.rows.specs.Readings.{thirdOf}
+use Rattle.rows.specs.Readings.{headBytes, thirdOf}
+
+read-behind-requires : tie.Need-read-behind-requires
+read-behind-requires c κs = search needs
+
+plus-requires : tie.Need-plus-requires
+plus-requires c κs = search needs
+
+clear-requires : tie.Need-clear-requires
+clear-requires c κs = search needs
+
+refuse-requires : tie.Need-refuse-requires
+refuse-requires c κs = search needs
+
+same-length : tie.Need-same-length
+same-length c = search needs
+
+returns : tie.Need-returns
+unfolding thirdOf
+returns c = moved-short (headBytes (c .before .before .before .before .before .before .before .before .before .before .before .before .before .before .before .before .args .mz) (c .before .before .before .before .before .before .before .before .before .before .before .before .before .before .before .before .args .intensity)) (c .before .before .before .before .before .before .before .before .before .before .before .before .before .before .before .before .args .at) (c .before .before .before .before .before .before .before .before .before .before .before .read-behind .ensures) (c .before .before .before .before .before .before .before .if1 .taken) (c .before .before .before .before .before .before .plus .ensures) (c .before .before .before .before .before .if2 .taken) (c .before .before .before .clear .ensures) (c .refuse .ensures)
+
+put-head-requires : tie.Need-put-head-requires
+put-head-requires c κs = search needs
+
+same-length-2 : tie.Need-same-length-2
+same-length-2 c = search needs
+
+returns-2 : tie.Need-returns-2
+unfolding thirdOf
+returns-2 c = moved-done (headBytes (c .before .before .before .before .before .before .before .before .before .before .before .before .before .before .before .args .mz) (c .before .before .before .before .before .before .before .before .before .before .before .before .before .before .before .args .intensity)) (c .before .before .before .before .before .before .before .before .before .before .before .before .before .before .before .args .at) (c .before .before .before .before .before .before .before .before .before .before .read-behind .ensures) refl (c .before .before .before .before .before .before .if1 .taken) (c .before .before .before .before .before .plus .ensures) (c .before .before .before .before .if2 .left) (c .before .before .put-head .ensures)
+
+clear-requires-2 : tie.Need-clear-requires-2
+clear-requires-2 c κs = search needs
+
+plus-requires-2 : tie.Need-plus-requires-2
+plus-requires-2 c κs = search needs
+
+refuse-requires-2 : tie.Need-refuse-requires-2
+refuse-requires-2 c κs = search needs
+
+same-length-3 : tie.Need-same-length-3
+same-length-3 c = search needs
+
+returns-3 : tie.Need-returns-3
+unfolding thirdOf
+returns-3 c = moved-eight (headBytes (c .before .before .before .before .before .before .before .before .before .before .before .before .before .before .before .before .before .args .mz) (c .before .before .before .before .before .before .before .before .before .before .before .before .before .before .before .before .before .args .intensity)) (c .before .before .before .before .before .before .before .before .before .before .before .before .before .before .before .before .before .args .at) (c .before .before .before .before .before .before .before .before .before .before .before .before .read-behind .ensures) (c .before .before .before .before .before .before .before .before .if1 .left) (c .before .before .if3 .taken) (c .before .before .before .before .before .before .clear2 .ensures) (c .before .plus2 .ensures) (c .refuse2 .ensures)
+
+plus-requires-3 : tie.Need-plus-requires-3
+plus-requires-3 c κs = search needs
+
+refuse-requires-3 : tie.Need-refuse-requires-3
+refuse-requires-3 c κs = search needs
+
+same-length-4 : tie.Need-same-length-4
+same-length-4 c = search needs
+
+returns-4 : tie.Need-returns-4
+unfolding thirdOf
+returns-4 c = moved-refused (headBytes (c .before .before .before .before .before .before .before .before .before .before .before .before .before .before .before .before .before .args .mz) (c .before .before .before .before .before .before .before .before .before .before .before .before .before .before .before .before .before .args .intensity)) (c .before .before .before .before .before .before .before .before .before .before .before .before .before .before .before .before .before .args .at) (c .before .before .before .before .before .before .before .before .before .before .before .before .read-behind .ensures) (c .before .before .before .before .before .before .before .before .if1 .left) (c .before .before .if3 .left) (c .before .before .before .before .before .before .clear2 .ensures) (c .before .plus3 .ensures) (c .refuse3 .ensures)
+
+pub read-third-spec : {M : Type 1} → statement M
+read-third-spec =
+    tie.close
+    (tie.spec
+    read-behind-requires
+    plus-requires
+    clear-requires
+    refuse-requires
+    same-length
+    returns
+    put-head-requires
+    same-length-2
+    returns-2
+    clear-requires-2
+    plus-requires-2
+    refuse-requires-2
+    same-length-3
+    returns-3
+    plus-requires-3
+    refuse-requires-3
+    same-length-4
+    returns-4)

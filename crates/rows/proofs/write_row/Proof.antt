@@ -1,0 +1,47 @@
+use borrow.Author.Needs.{needs}
+use Rattle.rows.proofs.write_row.Statement.{statement}
+use Rattle.rows.proofs.write_row.Tie as tie
+use Rattle.rows.proofs.write_row.Reads as reads
+use Rattle.rows.proofs.write_row.Lts as lts
+use Rattle.rows.proofs.write_row_by.Reads as write-row-by-reads
+use Rattle.scan_line.proofs.machine.Reads as machine-reads
+use mathlib.Core.Path.{sym, ap, _∙_, subst}
+use mathlib.Core.List.{List}
+use Prim.Native.Nat.{ℕ}
+use native.Mathlib.Omega.{arith}
+use lib.ListN.{length}
+use Rattle.rules.specs.RowAnswers.{WritesRow}
+use Rattle.scan_line.specs.Steps.{machineBytes}
+use Rattle.scan_line.proofs.Scans.{by-machine}
+use Rattle.write_table.proofs.Low.{bytes-each}
+use Rattle.rows.specs.Writings.{writeRowOf}
+use Rattle.rows.proofs.WriteRight.{write-row-right}
+
+machine-requires : tie.Need-machine-requires
+machine-requires c κs = search needs
+
+slice-aggregate-write-row-by : tie.Need-slice-aggregate-write-row-by
+slice-aggregate-write-row-by c = search needs
+
+write-row-by-requires : tie.Need-write-row-by-requires
+write-row-by-requires c κs = search needs
+
+same-length : tie.Need-same-length
+same-length c = search needs
+
+returns : tie.Need-returns
+returns c =
+    let stored = c .before .before .before .before .before .before .before .before .args .stored .now in
+    let room = length (c .before .before .before .before .before .before .before .before .args .out .now) in
+    subst (WritesRow stored room) (sym (c .before .before .write-row-by .ensures ∙ ap (λ (m : List ℕ). writeRowOf m stored room) (c .before .before .before .before .before .machine .ensures)))
+    (write-row-right machineBytes stored room (omega arith) (λ i h. c .before .before .before .before .before .before .before .shared-slice-known .given i .fits) (λ l b h. by-machine l (bytes-each l b) (omega arith)))
+
+pub write-row-spec : {M : Type 1} → statement M
+write-row-spec =
+    tie.close
+    (tie.spec
+    machine-requires
+    slice-aggregate-write-row-by
+    write-row-by-requires
+    same-length
+    returns)

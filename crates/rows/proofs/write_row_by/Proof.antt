@@ -1,0 +1,71 @@
+use borrow.Author.Needs.{needs}
+use Rattle.rows.proofs.write_row_by.Statement.{statement}
+use Rattle.rows.proofs.write_row_by.Tie as tie
+use Rattle.rows.proofs.write_row_by.Reads as reads
+use Rattle.rows.proofs.write_row_by.Lts as lts
+use Rattle.answers.proofs.refuse.Reads as refuse-reads
+use Rattle.put_bytes.proofs.clear.Reads as clear-reads
+use Rattle.rows.proofs.finish_row.Reads as finish-row-reads
+use Rattle.rows.proofs.plus.Reads as plus-reads
+use Rattle.rows.proofs.put_columns.Reads as put-columns-reads
+use Rattle.rows.proofs.read_head.Reads as read-head-reads
+use Rattle.rows.proofs.write_behind.Reads as write-behind-reads
+use Rattle.slices.proofs.rest.Reads as rest-reads
+use mathlib.Core.Path.{sym, ap, _∙_}
+use borrow.Author.Tests.{not-true, not-false}
+use Rattle.rows.proofs.Steps.{refused-is, written-bad}
+use Rattle.rows.proofs.Wrote.{row-written}
+use lib.ListN.{length}
+
+read-head-requires : tie.Need-read-head-requires
+read-head-requires c κs = search needs
+
+clear-requires : tie.Need-clear-requires
+clear-requires c κs = search needs
+
+refuse-requires : tie.Need-refuse-requires
+refuse-requires c κs = search needs
+
+same-length : tie.Need-same-length
+same-length c = search needs
+
+returns : tie.Need-returns
+returns c = refused-is (length (c .before .before .before .before .before .before .before .before .before .before .before .args .out .now)) 9 _ (c .refuse .ensures) (c .before .before .before .clear .ensures) ∙ written-bad (c .before .before .before .before .before .before .before .before .before .before .before .args .machine .now) (c .before .before .before .before .before .before .before .before .before .before .before .args .stored .now) (length (c .before .before .before .before .before .before .before .before .before .before .before .args .out .now)) (c .before .before .before .before .before .before .before .read-head .ensures) (not-true _ (c .before .before .before .before .before .if1 .taken))
+
+put-columns-requires : tie.Need-put-columns-requires
+put-columns-requires c κs = search needs
+
+rest-requires : tie.Need-rest-requires
+rest-requires c κs = search needs
+
+plus-requires : tie.Need-plus-requires
+plus-requires c κs = search needs
+
+write-behind-requires : tie.Need-write-behind-requires
+write-behind-requires c κs = search needs
+
+finish-row-requires : tie.Need-finish-row-requires
+finish-row-requires c κs = search needs
+
+same-length-2 : tie.Need-same-length-2
+same-length-2 c = search needs
+
+returns-2 : tie.Need-returns-2
+returns-2 c = c .before .before .finish-row .ensures ∙ row-written (c .before .before .before .before .before .before .before .before .before .before .before .before .before .before .before .before .before .before .before .before .args .machine .now) (c .before .before .before .before .before .before .before .before .before .before .before .before .before .before .before .before .before .before .before .before .args .stored .now) (c .before .before .before .before .before .before .before .before .before .before .before .before .before .before .before .before .before .before .before .before .args .out .now) (c .before .before .before .before .before .before .before .before .before .before .before .before .before .before .before .before .read-head .ensures) (not-false _ (c .before .before .before .before .before .before .before .before .before .before .before .before .before .before .if1 .left)) (c .before .before .before .before .before .before .before .before .before .before .before .before .put-columns .ensures) (c .before .before .before .before .before .before .before .before .before .rest .ensures) (c .before .before .before .before .before .before .before .before .plus .ensures) (c .before .before .before .before .before .before .write-behind .ensures)
+
+pub write-row-by-spec : {M : Type 1} → statement M
+write-row-by-spec =
+    tie.close
+    (tie.spec
+    read-head-requires
+    clear-requires
+    refuse-requires
+    same-length
+    returns
+    put-columns-requires
+    rest-requires
+    plus-requires
+    write-behind-requires
+    finish-row-requires
+    same-length-2
+    returns-2)

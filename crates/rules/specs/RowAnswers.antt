@@ -1,0 +1,77 @@
+-- Document 02, M-101: what reading and writing a row answer, and every byte of the output. Assumes nothing.
+use Prim.Native.Nat.{ℕ, _+_, _-_, _<_, _≤_}
+use mathlib.Core.Path.{_≡_}
+use mathlib.Core.Bool.{Bool, true, false, not, _&&_}
+use mathlib.Core.List.{List, [], _∷_, _++_}
+use lib.Dec.{T, eqb}
+use lib.ListN.{length}
+use Rattle.rules.specs.Decimals.{Decimal, decimalText}
+use Rattle.rules.specs.Limits as Limits
+use Rattle.rules.specs.Limits.{maxLine}
+use Rattle.rules.specs.Preferred.{preferred}
+use Rattle.rules.specs.Stored.{stores}
+use Rattle.rules.specs.Answers.{Answer, refuses, Delivers, Reads, Sound}
+use Rattle.rules.specs.Rows.{tab, Row, preferredRow, rowHeadSize, rowHead, storedRow}
+
+-- a row is at most 4,160 bytes
+abbrev pub maxRow : ℕ
+maxRow = 4160
+
+-- ---- columns
+
+-- no byte of w is b
+abbrev pub lacks : ℕ → List ℕ → Bool
+lacks b [] = true
+lacks b (c ∷ w) = not (eqb c b) && lacks b w
+
+-- the column that bytes begin with ends at their first tab, or at their end: the column, what stands behind its tab, and where
+pub data Cut (bytes : List ℕ) : List ℕ → List ℕ → ℕ → Type 0 where
+  at-tab : (column more : List ℕ) → T (lacks 9 column) → column ++ (tab ++ more) ≡ bytes → Cut bytes column more (length column + 1)
+  no-tab : T (lacks 9 bytes) → Cut bytes bytes [] (length bytes)
+
+-- a good column is a decimal within its bounds
+pub record GoodColumn (column : List ℕ) (d : Decimal) : Type 0 where
+  pub text : decimalText d ≡ column
+  pub bounds : T (Limits.fits d)
+
+abbrev pub BadColumn : List ℕ → Type 0
+BadColumn column = (d : Decimal) → GoodColumn column d → ⊥
+
+-- ---- reading: 1; then 12; then 13; then the line's own
+
+-- the answer to a row, by the answer to its third column, which begins at a place: its output stands behind the head
+pub data Moves (head : List ℕ) (at room : ℕ) (line : Answer) : Answer → Type 0 where
+  done : line .number ≡ 0
+      → Moves head at room line (record { number = 0; place = 0; size = rowHeadSize + line .size; out = head ++ line .out })
+  no-room : line .number ≡ 8 → Moves head at room line (refuses room 8 (rowHeadSize + line .place))
+  refused : (line .number ≡ 0 → ⊥) → (line .number ≡ 8 → ⊥) → Moves head at room line (refuses room (line .number) (at + line .place))
+
+-- of a row with both numbers, whose third column, empty where there is none, begins at a place
+pub data ReadsThird (mz intensity : Decimal) (third : List ℕ) (at room : ℕ) : Answer → Type 0 where
+  line : {b a : Answer} → Reads third (room - rowHeadSize) b → Moves (stores (rowHead mz intensity)) at room b a → ReadsThird mz intensity third at room a
+
+-- of a row with a good m/z, behind whose tab these bytes begin at a place
+pub data ReadsIntensity (mz : Decimal) (bytes : List ℕ) (at room : ℕ) : Answer → Type 0 where
+  bad : {column third : List ℕ} {place : ℕ} → Cut bytes column third place → BadColumn column → ReadsIntensity mz bytes at room (refuses room 13 at)
+  good : {column third : List ℕ} {place : ℕ} → Cut bytes column third place → {intensity : Decimal} → GoodColumn column intensity
+      → {a : Answer} → ReadsThird mz intensity third (at + place) room a → ReadsIntensity mz bytes at room a
+
+pub data ReadsRow (row : List ℕ) (room : ℕ) : Answer → Type 0 where
+  long : maxRow < length row → ReadsRow row room (refuses room 1 maxRow)
+  bad : length row ≤ maxRow → {column more : List ℕ} {place : ℕ} → Cut row column more place → BadColumn column → ReadsRow row room (refuses room 12 0)
+  good : length row ≤ maxRow → {column more : List ℕ} {place : ℕ} → Cut row column more place → {mz : Decimal} → GoodColumn column mz
+      → {a : Answer} → ReadsIntensity mz more place room a → ReadsRow row room a
+
+-- ---- writing: 9, 1, 8
+
+-- stored bytes are a row
+pub record HoldsRow (bytes : List ℕ) (r : Row) : Type 0 where
+  pub mz : T (Limits.fits (r .mz))
+  pub intensity : T (Limits.fits (r .intensity))
+  pub table : Sound (r .table)
+  pub is : storedRow r ≡ bytes
+
+pub data WritesRow (bytes : List ℕ) (room : ℕ) : Answer → Type 0 where
+  no-row : ((r : Row) → HoldsRow bytes r → ⊥) → WritesRow bytes room (refuses room 9 0)
+  long : (r : Row) → HoldsRow bytes r → maxLine < length (preferred (r .table)) → WritesRow bytes room (refuses room 1 maxLine)
+  fits : (r : Row) → HoldsRow bytes r → length (preferred (r .table)) ≤ maxLine → {a : Answer} → Delivers room (preferredRow r) a → WritesRow bytes room a
