@@ -27,7 +27,7 @@ use Rattle.store_sections.specs.Headers.{endAt}
 use Rattle.measure_line.specs.declared.Totals.{Totals}
 use Rattle.measure_line.specs.Totals.{partsAt, totalsOf}
 use Rattle.measure_line.specs.Refusals.{firstOf}
-use Rattle.read_line.specs.Readings.{countsIn, tableOver, spelledOver, anyOver, readOf}
+use Rattle.read_line.specs.Readings.{tableOver, spelledOver, anyOver, readOf}
 use Rattle.read_line.proofs.Right.{read-right}
 use Rattle.answers.specs.Delivered.{lineOver}
 use Rattle.write_table.proofs.Holds.{spelling-as, no-number, take-given}
@@ -88,18 +88,18 @@ module _ (line : List ℕ) (room : ℕ) where
 
   over-is : (spelledOver zeros line .number ≡ 8 → ⊥) → relabelledOver line room ≡ answerBy line room (spelledOver zeros line)
   unfolding relabelledOver spelledOver
-  over-is h = by (eqb (firstOf t .number) 0) refl (ltb (length zeros) (endAt (countsIn t))) refl h
+  over-is h = by (eqb (firstOf t .number) 0) refl (ltb (length zeros) (endAt (t .counts))) refl h
     where
       w : Answer
       w = lineOver (spellingOf line t (partsAt line 0)) room
 
       stored-by : Bool → Answer
-      stored-by c = cond c (record { number = 8; place = endAt (countsIn t); size = 0; out = zeros }) (record { number = 0; place = 0; size = endAt (countsIn t); out = tableOver zeros line (countsIn t) })
+      stored-by c = cond c (record { number = 8; place = endAt (t .counts); size = 0; out = zeros }) (record { number = 0; place = 0; size = endAt (t .counts); out = tableOver zeros line (t .counts) })
 
       read-by : Bool → Bool → Answer
       read-by b c = cond b (stored-by c) (record { number = firstOf t .number; place = firstOf t .place; size = 0; out = zeros })
 
-      by : (b : Bool) → eqb (firstOf t .number) 0 ≡ b → (c : Bool) → ltb (length zeros) (endAt (countsIn t)) ≡ c → (read-by b c .number ≡ 8 → ⊥)
+      by : (b : Bool) → eqb (firstOf t .number) 0 ≡ b → (c : Bool) → ltb (length zeros) (endAt (t .counts)) ≡ c → (read-by b c .number ≡ 8 → ⊥)
           → cond b w (refuses room (firstOf t .number) (firstOf t .place)) ≡ answerBy line room (read-by b c)
       by true e true f n = absurd (n refl)
       by true e false f n = refl

@@ -15,7 +15,8 @@ use Rattle.rules.specs.Rows.{tab, rowHeadSize}
 use Rattle.put_bytes.specs.Puts.{maxPlace, Put}
 use Rattle.put_bytes.proofs.Putting.{put-length}
 use Rattle.answers.specs.declared.Answer.{Answer}
-use Rattle.answers.specs.Delivered.{answered, refusedOf, cleared}
+use Rattle.answers.specs.Delivered.{answered, refusedOf}
+use Rattle.put_bytes.specs.Puts.{cleared}
 use Rattle.rows.specs.Behind.{capped, Behind}
 use Rattle.rows.specs.Readings.{headedOf, movedOf}
 use Rattle.rows.specs.Writings.{bareOver, labelledOver, finishedOver, bareOf, labelledOf, behindOf}

@@ -18,7 +18,8 @@ use Rattle.rules.specs.RowAnswers.{maxRow}
 use Rattle.put_bytes.specs.Puts.{maxPlace, Put}
 use Rattle.put_bytes.proofs.Putting.{put-then, put-as}
 use Rattle.answers.specs.declared.Answer.{Answer}
-use Rattle.answers.specs.Delivered.{answered, refusedOf, cleared}
+use Rattle.answers.specs.Delivered.{answered, refusedOf}
+use Rattle.put_bytes.specs.Puts.{cleared}
 use Rattle.numbers.specs.declared.Decimal.{Decimal}
 use Rattle.io_parts.specs.Feeds.{beforeFeed}
 use Rattle.rows.specs.declared.Column.{Column}

@@ -14,7 +14,7 @@ use Rattle.numbers.specs.declared.Decimal.{Decimal}
 use Rattle.numbers.specs.declared.MadeDecimal.{MadeDecimal}
 use Rattle.numbers.specs.Making.{ruled, madeOf, madeNumber, madeDecimal}
 use Rattle.answers.specs.declared.Answer.{Answer}
-use Rattle.answers.specs.Delivered.{cleared}
+use Rattle.put_bytes.specs.Puts.{cleared}
 use Rattle.write_table.specs.Writings.{writtenOf}
 use Rattle.rows.specs.declared.Head.{Head}
 use Rattle.rows.specs.Behind.{capped}

@@ -1,4 +1,5 @@
 -- What is printed for a line of the input, and where it waits to be written. Assumes nothing.
+use Prim.Native.Nat.{ℕ}
 use mathlib.Core.Bool.{Bool}
 use mathlib.Core.List.{List}
 use Rattle.rules.specs.Largest.{maxTable}

@@ -27,7 +27,7 @@ same-length c = search needs
 returns : tie.Need-returns
 returns c =
     let at-size-in = c .before .before .before .before in
-    let at-behind-size = at-size-in .before .before in
+    let at-behind-size = at-size-in .before in
     let a = at-behind-size .before .before .before .before .args in
     read-behind (a .asked .now) (a .table .now) _ (at-behind-size .behind-size .ensures) (at-size-in .size-in .ensures) (c .before .before .read-by .ensures) (c .before .table .given .0) refl
 
