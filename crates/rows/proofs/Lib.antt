@@ -13,3 +13,4 @@ pub mod RowBack
 pub mod Lists
 pub mod Replaced
 pub mod StrayRow
+pub mod Worked

@@ -168,3 +168,27 @@ walk-rows {list} {at} (goes {n = n} {next = next} {rows = rows} e w) = by (found
             let d : next ≡ at + (n + 1) = omega (arith, x .after) in
             let z : drop next list ≡ drop (n + 1) s = ap (λ (m : ℕ). drop m list) d ∙ sym (drop-drop (n + 1) at list) in
             next-row (take n s) (y .free) (y .fed k) (subst (λ (v : List ℕ). RowsOf v rows) z r)
+
+-- every walk comes to its end
+walk-in : (list : List ℕ) (f at : ℕ) → length list ≤ at + f → (rows : List (List ℕ)) × Walked list at rows
+walk-in list zero at h = by (nextRowOf list at) refl
+  where
+    by : (x : NextRow) → nextRowOf list at ≡ x → (rows : List (List ℕ)) × Walked list at rows
+    by End e = ([], ends e)
+    by (Found n next) e = absurd (omega (arith, found-at list at n next e .before))
+walk-in list (suc f) at h = by (λ m g. walk-in list f m g) (nextRowOf list at) refl
+  where
+    by : ((m : ℕ) → length list ≤ m + f → (rows : List (List ℕ)) × Walked list m rows) → (x : NextRow) → nextRowOf list at ≡ x
+        → (rows : List (List ℕ)) × Walked list at rows
+    by more End e = ([], ends e)
+    by more (Found n next) e =
+        let g = goes-further list at n next e .0 in
+        let w = more next (omega arith) in
+        (take n (drop at list) ∷ w .0, goes e (w .1))
+
+pub walk-some : (list : List ℕ) → (rows : List (List ℕ)) × Walked list 0 rows
+walk-some list = walk-in list (length list) 0 (omega arith)
+
+-- a walk from the start hands out the rows of the list, all and in order
+pub walk-all : {list : List ℕ} {rows : List (List ℕ)} → Walked list 0 rows → RowsOf list rows
+walk-all w = walk-rows w

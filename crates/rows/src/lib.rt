@@ -16,7 +16,6 @@ ghost use Rattle.rows.specs.Readings.{headBytes, thirdOf, intensityOf, r
 ghost use Rattle.rows.specs.Writings.{isHead, headOf, columnsText, bareOver, labelledOver, finishedOver, writeRowOf};
 ghost use Rattle.rows.specs.Walks.{nextRowOf};
 use answers::Answer;
-use put_bytes::clear_from;
 use answers::refuse;
 use io_parts::line_end;
 use numbers::Decimal;
@@ -24,6 +23,7 @@ use numbers::DecimalRead;
 use numbers::put_decimal;
 use numbers::read_decimal;
 use put_bytes::clear;
+use put_bytes::clear_from;
 use put_bytes::put_le;
 use put_bytes::put8;
 use read_line::read_by;

@@ -32,7 +32,10 @@ begins-in-requires-2 c κs = search needs
 
 returns-3 : tie.Need-returns-3
 unfolding beginsDecimal
-returns-3 c = rw (sym (c .before .before .before .before .before .begins-in .ensures) ∙ c .before .before .before .before .if1 .left, sym (c .before .before .before .begins-with .ensures) ∙ not-false _ (c .before .before .if2 .left), c .begins-in2 .ensures, c .before .rest .ensures)
+returns-3 c =
+    let at-if1 = c .before .before .before .before in
+    let at-begins-in = at-if1 .before in
+    rw (sym (at-begins-in .begins-in .ensures) ∙ at-if1 .if1 .left, sym (c .before .before .before .begins-with .ensures) ∙ not-false _ (c .before .before .if2 .left), c .begins-in2 .ensures, c .before .rest .ensures)
 
 pub begins-decimal-spec : {M : Type 1} → statement M
 begins-decimal-spec =

@@ -18,7 +18,10 @@ same-length : tie.Need-same-length
 same-length c = search needs
 
 returns : tie.Need-returns
-returns c = bare-short (c .before .before .before .before .before .before .before .args .out .now) (c .before .before .before .before .before .before .before .args .to) (c .before .before .before .before .before .if1 .taken) (c .refuse .ensures) (c .before .before .before .clear .ensures)
+returns c =
+    let at-if1 = c .before .before .before .before .before in
+    let at-args = at-if1 .before .before in
+    bare-short (at-args .args .out .now) (at-args .args .to) (at-if1 .if1 .taken) (c .refuse .ensures) (c .before .before .before .clear .ensures)
 
 clear-from-requires : tie.Need-clear-from-requires
 clear-from-requires c κs = search needs
@@ -27,7 +30,10 @@ same-length-2 : tie.Need-same-length-2
 same-length-2 c = search needs
 
 returns-2 : tie.Need-returns-2
-returns-2 c = bare-done (c .before .before .before .before .before .before .args .out .now) (c .before .before .before .before .before .before .args .to) (c .before .before .before .before .if1 .left) (c .before .before .clear-from .ensures)
+returns-2 c =
+    let at-if1 = c .before .before .before .before in
+    let at-args = at-if1 .before .before in
+    bare-done (at-args .args .out .now) (at-args .args .to) (at-if1 .if1 .left) (c .before .before .clear-from .ensures)
 
 pub end-bare-spec : {M : Type 1} → statement M
 end-bare-spec =

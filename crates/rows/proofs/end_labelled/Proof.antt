@@ -25,7 +25,12 @@ same-length : tie.Need-same-length
 same-length c = search needs
 
 returns : tie.Need-returns
-returns c = labelled-short (c .before .before .before .before .before .before .before .before .before .args .out .now) (c .before .before .before .before .before .before .before .before .before .args .to) (c .before .before .before .before .before .before .before .before .before .args .n) (c .before .before .before .before .before .before .before .plus .ensures) (c .before .before .before .before .before .before .plus2 .ensures) (c .before .before .before .before .before .if1 .taken) (c .refuse .ensures) (c .before .before .before .clear .ensures)
+returns c =
+    let at-if1 = c .before .before .before .before .before in
+    let at-plus2 = at-if1 .before in
+    let at-plus = at-plus2 .before in
+    let at-args = at-plus .before .before in
+    labelled-short (at-args .args .out .now) (at-args .args .to) (at-args .args .n) (at-plus .plus .ensures) (at-plus2 .plus2 .ensures) (at-if1 .if1 .taken) (c .refuse .ensures) (c .before .before .before .clear .ensures)
 
 put8-requires : tie.Need-put8-requires
 put8-requires c κs = search needs
@@ -34,7 +39,12 @@ same-length-2 : tie.Need-same-length-2
 same-length-2 c = search needs
 
 returns-2 : tie.Need-returns-2
-returns-2 c = labelled-done (c .before .before .before .before .before .before .before .before .args .out .now) (c .before .before .before .before .before .before .before .before .args .to) (c .before .before .before .before .before .before .before .before .args .n) (c .before .before .before .before .before .before .plus .ensures) (c .before .before .before .before .before .plus2 .ensures) (c .before .before .before .before .if1 .left) (c .before .before .put8 .ensures)
+returns-2 c =
+    let at-if1 = c .before .before .before .before in
+    let at-plus2 = at-if1 .before in
+    let at-plus = at-plus2 .before in
+    let at-args = at-plus .before .before in
+    labelled-done (at-args .args .out .now) (at-args .args .to) (at-args .args .n) (at-plus .plus .ensures) (at-plus2 .plus2 .ensures) (at-if1 .if1 .left) (c .before .before .put8 .ensures)
 
 pub end-labelled-spec : {M : Type 1} → statement M
 end-labelled-spec =

@@ -25,7 +25,11 @@ same-length c = search needs
 
 returns : tie.Need-returns
 unfolding finishedOver
-returns c = rw (eq-eqb (c .before .before .before .before .before .before .before .before .before .args .line .number) 0 (c .before .before .before .before .before .before .if1 .taken), eq-eqb (c .before .before .before .before .before .before .before .before .before .args .line .len) 0 (c .before .before .before .before .if2 .taken)) (c .before .before .end-bare .ensures)
+returns c =
+    let at-if2 = c .before .before .before .before in
+    let at-if1 = at-if2 .before .before in
+    let at-args = at-if1 .before .before .before in
+    rw (eq-eqb (at-args .args .line .number) 0 (at-if1 .if1 .taken), eq-eqb (at-args .args .line .len) 0 (at-if2 .if2 .taken)) (c .before .before .end-bare .ensures)
 
 end-labelled-requires : tie.Need-end-labelled-requires
 end-labelled-requires c κs = search needs
@@ -35,7 +39,11 @@ same-length-2 c = search needs
 
 returns-2 : tie.Need-returns-2
 unfolding finishedOver
-returns-2 c = rw (eq-eqb (c .before .before .before .before .before .before .before .before .before .args .line .number) 0 (c .before .before .before .before .before .before .if1 .taken), ne-eqb (c .before .before .before .before .before .before .before .before .before .args .line .len) 0 (c .before .before .before .before .if2 .left)) (c .before .before .end-labelled .ensures)
+returns-2 c =
+    let at-if2 = c .before .before .before .before in
+    let at-if1 = at-if2 .before .before in
+    let at-args = at-if1 .before .before .before in
+    rw (eq-eqb (at-args .args .line .number) 0 (at-if1 .if1 .taken), ne-eqb (at-args .args .line .len) 0 (at-if2 .if2 .left)) (c .before .before .end-labelled .ensures)
 
 clear-requires : tie.Need-clear-requires
 clear-requires c κs = search needs
@@ -54,7 +62,11 @@ same-length-3 c = search needs
 
 returns-3 : tie.Need-returns-3
 unfolding finishedOver
-returns-3 c = rw (ne-eqb (c .before .before .before .before .before .before .before .before .before .before .before .before .args .line .number) 0 (c .before .before .before .before .before .before .before .before .before .if1 .left), eq-eqb (c .before .before .before .before .before .before .before .before .before .before .before .before .args .line .number) 8 (c .before .before .before .if3 .taken)) (refused-is (length (c .before .before .before .before .before .before .before .before .before .before .before .before .args .out .now)) 8 _ (c .refuse .ensures ∙ ap (refusedOf 8) (c .before .plus2 .ensures ∙ ap (λ (n : ℕ). capped n (c .before .before .before .before .before .before .before .before .before .before .before .before .args .line .place)) (c .before .before .plus .ensures))) (c .before .before .before .before .before .before .before .clear .ensures))
+returns-3 c =
+    let at-clear = c .before .before .before .before .before .before .before in
+    let at-if1 = at-clear .before .before in
+    let at-args = at-if1 .before .before .before in
+    rw (ne-eqb (at-args .args .line .number) 0 (at-if1 .if1 .left), eq-eqb (at-args .args .line .number) 8 (c .before .before .before .if3 .taken)) (refused-is (length (at-args .args .out .now)) 8 _ (c .refuse .ensures ∙ ap (refusedOf 8) (c .before .plus2 .ensures ∙ ap (λ (n : ℕ). capped n (at-args .args .line .place)) (c .before .before .plus .ensures))) (at-clear .clear .ensures))
 
 refuse-requires-2 : tie.Need-refuse-requires-2
 refuse-requires-2 c κs = search needs
@@ -64,7 +76,11 @@ same-length-4 c = search needs
 
 returns-4 : tie.Need-returns-4
 unfolding finishedOver
-returns-4 c = rw (ne-eqb (c .before .before .before .before .before .before .before .before .before .before .args .line .number) 0 (c .before .before .before .before .before .before .before .if1 .left), ne-eqb (c .before .before .before .before .before .before .before .before .before .before .args .line .number) 8 (c .before .if3 .left)) (refused-is (length (c .before .before .before .before .before .before .before .before .before .before .args .out .now)) _ _ (c .refuse2 .ensures) (c .before .before .before .before .before .clear .ensures))
+returns-4 c =
+    let at-clear = c .before .before .before .before .before in
+    let at-if1 = at-clear .before .before in
+    let at-args = at-if1 .before .before .before in
+    rw (ne-eqb (at-args .args .line .number) 0 (at-if1 .if1 .left), ne-eqb (at-args .args .line .number) 8 (c .before .if3 .left)) (refused-is (length (at-args .args .out .now)) _ _ (c .refuse2 .ensures) (at-clear .clear .ensures))
 
 pub finish-row-spec : {M : Type 1} → statement M
 finish-row-spec =

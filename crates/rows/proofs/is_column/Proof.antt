@@ -24,7 +24,9 @@ number-requires c κs = search needs
 
 returns-2 : tie.Need-returns-2
 unfolding isColumn
-returns-2 c = rw (sym (c .before .before .before .begins-decimal .ensures) ∙ not-false _ (c .before .before .if1 .left), ne-eqb (madeNumber (c .before .before .before .before .before .args .d .made)) 0 (λ e. c .if2 .taken (c .before .number .ensures ∙ e)))
+returns-2 c =
+    let at-args = c .before .before .before .before .before in
+    rw (sym (c .before .before .before .begins-decimal .ensures) ∙ not-false _ (c .before .before .if1 .left), ne-eqb (madeNumber (at-args .args .d .made)) 0 (λ e. c .if2 .taken (c .before .number .ensures ∙ e)))
 
 rest-requires : tie.Need-rest-requires
 rest-requires c κs = search needs
@@ -34,7 +36,11 @@ ends-column-requires c κs = search needs
 
 returns-3 : tie.Need-returns-3
 unfolding isColumn
-returns-3 c = rw (sym (c .before .before .before .before .before .begins-decimal .ensures) ∙ not-false _ (c .before .before .before .before .if1 .left), eq-eqb (madeNumber (c .before .before .before .before .before .before .before .args .d .made)) 0 (sym (c .before .before .before .number .ensures) ∙ c .before .before .if2 .left)) (c .ends-column .ensures ∙ ap endsColumn (c .before .rest .ensures))
+returns-3 c =
+    let at-if1 = c .before .before .before .before in
+    let at-begins-decimal = at-if1 .before in
+    let at-args = at-begins-decimal .before .before in
+    rw (sym (at-begins-decimal .begins-decimal .ensures) ∙ not-false _ (at-if1 .if1 .left), eq-eqb (madeNumber (at-args .args .d .made)) 0 (sym (c .before .before .before .number .ensures) ∙ c .before .before .if2 .left)) (c .ends-column .ensures ∙ ap endsColumn (c .before .rest .ensures))
 
 pub is-column-spec : {M : Type 1} → statement M
 is-column-spec =

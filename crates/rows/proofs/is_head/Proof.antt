@@ -19,7 +19,9 @@ returns-2 c = rw (le-ltb (length (c .before .before .before .args .stored .now))
 
 returns-3 : tie.Need-returns-3
 unfolding isHead
-returns-3 c = rw (le-ltb (length (c .before .before .before .before .args .stored .now)) 20 (c .before .before .if1 .left), eq-eqb (c .before .before .before .before .args .mz) 0 (c .before .if2 .left), ne-eqb (c .before .before .before .before .args .intensity) 0 (c .if3 .taken))
+returns-3 c =
+    let at-args = c .before .before .before .before in
+    rw (le-ltb (length (at-args .args .stored .now)) 20 (c .before .before .if1 .left), eq-eqb (at-args .args .mz) 0 (c .before .if2 .left), ne-eqb (at-args .args .intensity) 0 (c .if3 .taken))
 
 rest-requires : tie.Need-rest-requires
 rest-requires c κs = search needs
@@ -29,7 +31,10 @@ u16-at-requires c κs = search needs
 
 returns-4 : tie.Need-returns-4
 unfolding isHead
-returns-4 c = rw (le-ltb (length (c .before .before .before .before .before .before .args .stored .now)) 20 (c .before .before .before .before .if1 .left), eq-eqb (c .before .before .before .before .before .before .args .mz) 0 (c .before .before .before .if2 .left), eq-eqb (c .before .before .before .before .before .before .args .intensity) 0 (c .before .before .if3 .left), c .u16-at .ensures, c .before .rest .ensures)
+returns-4 c =
+    let at-if1 = c .before .before .before .before in
+    let at-args = at-if1 .before .before in
+    rw (le-ltb (length (at-args .args .stored .now)) 20 (at-if1 .if1 .left), eq-eqb (at-args .args .mz) 0 (c .before .before .before .if2 .left), eq-eqb (at-args .args .intensity) 0 (c .before .before .if3 .left), c .u16-at .ensures, c .before .rest .ensures)
 
 pub is-head-spec : {M : Type 1} → statement M
 is-head-spec =

@@ -24,7 +24,10 @@ advance-requires-2 : tie.Need-advance-requires-2
 advance-requires-2 c κs = search needs
 
 returns-2 : tie.Need-returns-2
-returns-2 c = next-found (c .before .before .before .before .before .before .args .list .now) (c .before .before .before .before .before .before .args .at) (c .before .before .before .before .if1 .left) (c .before .before .before .rest .ensures) (c .before .before .line-end .ensures .is) (c .before .advance .ensures) (c .advance2 .ensures)
+returns-2 c =
+    let at-if1 = c .before .before .before .before in
+    let at-args = at-if1 .before .before in
+    next-found (at-args .args .list .now) (at-args .args .at) (at-if1 .if1 .left) (c .before .before .before .rest .ensures) (c .before .before .line-end .ensures .is) (c .before .advance .ensures) (c .advance2 .ensures)
 
 pub next-row-spec : {M : Type 1} → statement M
 next-row-spec =

@@ -22,7 +22,10 @@ same-length c = search needs
 
 returns : tie.Need-returns
 unfolding columnsText
-returns c = put-then (c .before .before .before .before .before .before .before .before .before .before .put-decimal .ensures) (put-then (c .before .before .before .before .before .before .put8 .ensures) (c .before .before .put-decimal2 .ensures))
+returns c =
+    let at-put8 = c .before .before .before .before .before .before in
+    let at-put-decimal = at-put8 .before .before .before .before in
+    put-then (at-put-decimal .put-decimal .ensures) (put-then (at-put8 .put8 .ensures) (c .before .before .put-decimal2 .ensures))
 
 pub put-columns-spec : {M : Type 1} → statement M
 put-columns-spec =

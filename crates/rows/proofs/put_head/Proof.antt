@@ -45,7 +45,16 @@ same-length : tie.Need-same-length
 same-length c = search needs
 
 returns : tie.Need-returns
-returns c = head-put (c .before .before .before .before .before .before .before .before .before .before .before .before .before .before .before .before .before .before .before .before .before .before .value .ensures) (c .before .before .before .before .before .before .before .before .before .before .before .before .before .before .before .before .before .value2 .ensures) (c .before .before .before .before .before .before .before .before .before .before .before .before .places .ensures) (c .before .before .before .before .before .before .before .places2 .ensures) (c .before .before .before .before .before .before .before .before .before .before .before .before .before .before .before .before .before .before .before .before .before .put-le .ensures) (c .before .before .before .before .before .before .before .before .before .before .before .before .before .before .before .before .put-le2 .ensures) (c .before .before .before .before .before .before .before .before .before .before .before .put-le3 .ensures) (c .before .before .before .before .before .before .put-le4 .ensures) (c .before .before .put-le5 .ensures)
+returns c =
+    let at-put-le4 = c .before .before .before .before .before .before in
+    let at-places2 = at-put-le4 .before in
+    let at-put-le3 = at-places2 .before .before .before .before in
+    let at-places = at-put-le3 .before in
+    let at-put-le2 = at-places .before .before .before .before in
+    let at-value2 = at-put-le2 .before in
+    let at-put-le = at-value2 .before .before .before .before in
+    let at-value = at-put-le .before in
+    head-put (at-value .value .ensures) (at-value2 .value2 .ensures) (at-places .places .ensures) (at-places2 .places2 .ensures) (at-put-le .put-le .ensures) (at-put-le2 .put-le2 .ensures) (at-put-le3 .put-le3 .ensures) (at-put-le4 .put-le4 .ensures) (c .before .before .put-le5 .ensures)
 
 pub put-head-spec : {M : Type 1} → statement M
 put-head-spec =

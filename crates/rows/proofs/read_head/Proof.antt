@@ -50,7 +50,16 @@ decimal-requires-2 c κs = search needs
 
 returns : tie.Need-returns
 unfolding headOf
-returns c = rw (c .decimal2 .ensures, c .before .decimal .ensures, c .before .before .is-head .ensures, c .before .before .before .number2 .ensures, c .before .before .before .before .number .ensures, c .before .before .before .before .before .new2 .ensures, c .before .before .before .before .before .before .byte-of2 .ensures, c .before .before .before .before .before .before .before .u64-at2 .ensures, c .before .before .before .before .before .before .before .before .rest .ensures, c .before .before .before .before .before .before .before .before .before .new .ensures, c .before .before .before .before .before .before .before .before .before .before .byte-of .ensures, c .before .before .before .before .before .before .before .before .before .before .before .u64-at .ensures)
+returns c =
+    let at-number = c .before .before .before .before in
+    let at-new2 = at-number .before in
+    let at-byte-of2 = at-new2 .before in
+    let at-u64-at2 = at-byte-of2 .before in
+    let at-rest = at-u64-at2 .before in
+    let at-new = at-rest .before in
+    let at-byte-of = at-new .before in
+    let at-u64-at = at-byte-of .before in
+    rw (c .decimal2 .ensures, c .before .decimal .ensures, c .before .before .is-head .ensures, c .before .before .before .number2 .ensures, at-number .number .ensures, at-new2 .new2 .ensures, at-byte-of2 .byte-of2 .ensures, at-u64-at2 .u64-at2 .ensures, at-rest .rest .ensures, at-new .new .ensures, at-byte-of .byte-of .ensures, at-u64-at .u64-at .ensures)
 
 pub read-head-spec : {M : Type 1} → statement M
 read-head-spec =

@@ -30,7 +30,12 @@ same-length : tie.Need-same-length
 same-length c = search needs
 
 returns : tie.Need-returns
-returns c = refused-is (length (c .before .before .before .before .before .before .before .before .before .before .before .before .args .out .now)) 13 _ (c .refuse .ensures) (c .before .before .before .clear .ensures) ∙ intensity-bad (c .before .before .before .before .before .before .before .before .before .before .before .before .args .machine .now) (c .before .before .before .before .before .before .before .before .before .before .before .before .args .row .now) (length (c .before .before .before .before .before .before .before .before .before .before .before .before .args .out .now)) (c .before .before .before .before .before .before .before .before .before .before .before .before .args .at) (c .before .before .before .before .before .before .before .before .before .before .before .before .args .mz) (c .before .before .before .before .before .before .before .before .rest .ensures) (c .before .before .before .before .before .before .before .read-column .ensures) (not-true _ (c .before .before .before .before .before .if1 .taken))
+returns c =
+    let at-if1 = c .before .before .before .before .before in
+    let at-read-column = at-if1 .before .before in
+    let at-rest = at-read-column .before in
+    let at-args = at-rest .before .before .before .before in
+    refused-is (length (at-args .args .out .now)) 13 _ (c .refuse .ensures) (c .before .before .before .clear .ensures) ∙ intensity-bad (at-args .args .machine .now) (at-args .args .row .now) (length (at-args .args .out .now)) (at-args .args .at) (at-args .args .mz) (at-rest .rest .ensures) (at-read-column .read-column .ensures) (not-true _ (at-if1 .if1 .taken))
 
 advance-requires : tie.Need-advance-requires
 advance-requires c κs = search needs
@@ -45,7 +50,14 @@ same-length-2 : tie.Need-same-length-2
 same-length-2 c = search needs
 
 returns-2 : tie.Need-returns-2
-returns-2 c = c .before .before .read-third .ensures ∙ intensity-good (c .before .before .before .before .before .before .before .before .before .before .before .before .before .args .machine .now) (c .before .before .before .before .before .before .before .before .before .before .before .before .before .args .row .now) (length (c .before .before .before .before .before .before .before .before .before .before .before .before .before .args .out .now)) (c .before .before .before .before .before .before .before .before .before .before .before .before .before .args .at) (c .before .before .before .before .before .before .before .before .before .before .before .before .before .args .mz) (c .before .before .before .before .before .before .before .before .before .rest .ensures) (c .before .before .before .before .before .before .before .before .read-column .ensures) (not-false _ (c .before .before .before .before .before .before .if1 .left)) (c .before .before .before .before .before .advance .ensures) (c .before .before .before .before .rest2 .ensures)
+returns-2 c =
+    let at-rest2 = c .before .before .before .before in
+    let at-advance = at-rest2 .before in
+    let at-if1 = at-advance .before in
+    let at-read-column = at-if1 .before .before in
+    let at-rest = at-read-column .before in
+    let at-args = at-rest .before .before .before .before in
+    c .before .before .read-third .ensures ∙ intensity-good (at-args .args .machine .now) (at-args .args .row .now) (length (at-args .args .out .now)) (at-args .args .at) (at-args .args .mz) (at-rest .rest .ensures) (at-read-column .read-column .ensures) (not-false _ (at-if1 .if1 .left)) (at-advance .advance .ensures) (at-rest2 .rest2 .ensures)
 
 pub read-intensity-spec : {M : Type 1} → statement M
 read-intensity-spec =

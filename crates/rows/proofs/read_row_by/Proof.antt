@@ -22,7 +22,10 @@ same-length : tie.Need-same-length
 same-length c = search needs
 
 returns : tie.Need-returns
-returns c = refused-is (length (c .before .before .before .before .before .before .before .before .before .args .out .now)) 1 _ (c .refuse .ensures) (c .before .before .before .clear .ensures) ∙ row-long (c .before .before .before .before .before .before .before .before .before .args .machine .now) (c .before .before .before .before .before .before .before .before .before .args .row .now) (length (c .before .before .before .before .before .before .before .before .before .args .out .now)) (c .before .before .before .before .before .if1 .taken)
+returns c =
+    let at-if1 = c .before .before .before .before .before in
+    let at-args = at-if1 .before .before .before .before in
+    refused-is (length (at-args .args .out .now)) 1 _ (c .refuse .ensures) (c .before .before .before .clear .ensures) ∙ row-long (at-args .args .machine .now) (at-args .args .row .now) (length (at-args .args .out .now)) (at-if1 .if1 .taken)
 
 read-column-requires : tie.Need-read-column-requires
 read-column-requires c κs = search needs
@@ -37,7 +40,12 @@ same-length-2 : tie.Need-same-length-2
 same-length-2 c = search needs
 
 returns-2 : tie.Need-returns-2
-returns-2 c = refused-is (length (c .before .before .before .before .before .before .before .before .before .before .before .before .args .out .now)) 12 _ (c .refuse2 .ensures) (c .before .before .before .clear2 .ensures) ∙ row-bad (c .before .before .before .before .before .before .before .before .before .before .before .before .args .machine .now) (c .before .before .before .before .before .before .before .before .before .before .before .before .args .row .now) (length (c .before .before .before .before .before .before .before .before .before .before .before .before .args .out .now)) (c .before .before .before .before .before .before .before .before .if1 .left) (c .before .before .before .before .before .before .before .read-column .ensures) (not-true _ (c .before .before .before .before .before .if2 .taken))
+returns-2 c =
+    let at-if2 = c .before .before .before .before .before in
+    let at-read-column = at-if2 .before .before in
+    let at-if1 = at-read-column .before in
+    let at-args = at-if1 .before .before .before .before in
+    refused-is (length (at-args .args .out .now)) 12 _ (c .refuse2 .ensures) (c .before .before .before .clear2 .ensures) ∙ row-bad (at-args .args .machine .now) (at-args .args .row .now) (length (at-args .args .out .now)) (at-if1 .if1 .left) (at-read-column .read-column .ensures) (not-true _ (at-if2 .if2 .taken))
 
 read-intensity-requires : tie.Need-read-intensity-requires
 read-intensity-requires c κs = search needs
@@ -46,7 +54,12 @@ same-length-3 : tie.Need-same-length-3
 same-length-3 c = search needs
 
 returns-3 : tie.Need-returns-3
-returns-3 c = c .before .before .read-intensity .ensures ∙ row-good (c .before .before .before .before .before .before .before .before .before .before .before .args .machine .now) (c .before .before .before .before .before .before .before .before .before .before .before .args .row .now) (length (c .before .before .before .before .before .before .before .before .before .before .before .args .out .now)) (c .before .before .before .before .before .before .before .if1 .left) (c .before .before .before .before .before .before .read-column .ensures) (not-false _ (c .before .before .before .before .if2 .left))
+returns-3 c =
+    let at-if2 = c .before .before .before .before in
+    let at-read-column = at-if2 .before .before in
+    let at-if1 = at-read-column .before in
+    let at-args = at-if1 .before .before .before .before in
+    c .before .before .read-intensity .ensures ∙ row-good (at-args .args .machine .now) (at-args .args .row .now) (length (at-args .args .out .now)) (at-if1 .if1 .left) (at-read-column .read-column .ensures) (not-false _ (at-if2 .if2 .left))
 
 pub read-row-by-spec : {M : Type 1} → statement M
 read-row-by-spec =

@@ -30,7 +30,13 @@ same-length c = search needs
 
 returns : tie.Need-returns
 unfolding thirdOf
-returns c = moved-short (headBytes (c .before .before .before .before .before .before .before .before .before .before .before .before .before .before .before .before .args .mz) (c .before .before .before .before .before .before .before .before .before .before .before .before .before .before .before .before .args .intensity)) (c .before .before .before .before .before .before .before .before .before .before .before .before .before .before .before .before .args .at) (c .before .before .before .before .before .before .before .before .before .before .before .read-behind .ensures) (c .before .before .before .before .before .before .before .if1 .taken) (c .before .before .before .before .before .before .plus .ensures) (c .before .before .before .before .before .if2 .taken) (c .before .before .before .clear .ensures) (c .refuse .ensures)
+returns c =
+    let at-if2 = c .before .before .before .before .before in
+    let at-plus = at-if2 .before in
+    let at-if1 = at-plus .before in
+    let at-read-behind = at-if1 .before .before .before .before in
+    let at-args = at-read-behind .before .before .before .before .before in
+    moved-short (headBytes (at-args .args .mz) (at-args .args .intensity)) (at-args .args .at) (at-read-behind .read-behind .ensures) (at-if1 .if1 .taken) (at-plus .plus .ensures) (at-if2 .if2 .taken) (c .before .before .before .clear .ensures) (c .refuse .ensures)
 
 put-head-requires : tie.Need-put-head-requires
 put-head-requires c κs = search needs
@@ -40,7 +46,13 @@ same-length-2 c = search needs
 
 returns-2 : tie.Need-returns-2
 unfolding thirdOf
-returns-2 c = moved-done (headBytes (c .before .before .before .before .before .before .before .before .before .before .before .before .before .before .before .args .mz) (c .before .before .before .before .before .before .before .before .before .before .before .before .before .before .before .args .intensity)) (c .before .before .before .before .before .before .before .before .before .before .before .before .before .before .before .args .at) (c .before .before .before .before .before .before .before .before .before .before .read-behind .ensures) refl (c .before .before .before .before .before .before .if1 .taken) (c .before .before .before .before .before .plus .ensures) (c .before .before .before .before .if2 .left) (c .before .before .put-head .ensures)
+returns-2 c =
+    let at-if2 = c .before .before .before .before in
+    let at-plus = at-if2 .before in
+    let at-if1 = at-plus .before in
+    let at-read-behind = at-if1 .before .before .before .before in
+    let at-args = at-read-behind .before .before .before .before .before in
+    moved-done (headBytes (at-args .args .mz) (at-args .args .intensity)) (at-args .args .at) (at-read-behind .read-behind .ensures) refl (at-if1 .if1 .taken) (at-plus .plus .ensures) (at-if2 .if2 .left) (c .before .before .put-head .ensures)
 
 clear-requires-2 : tie.Need-clear-requires-2
 clear-requires-2 c κs = search needs
@@ -56,7 +68,12 @@ same-length-3 c = search needs
 
 returns-3 : tie.Need-returns-3
 unfolding thirdOf
-returns-3 c = moved-eight (headBytes (c .before .before .before .before .before .before .before .before .before .before .before .before .before .before .before .before .before .args .mz) (c .before .before .before .before .before .before .before .before .before .before .before .before .before .before .before .before .before .args .intensity)) (c .before .before .before .before .before .before .before .before .before .before .before .before .before .before .before .before .before .args .at) (c .before .before .before .before .before .before .before .before .before .before .before .before .read-behind .ensures) (c .before .before .before .before .before .before .before .before .if1 .left) (c .before .before .if3 .taken) (c .before .before .before .before .before .before .clear2 .ensures) (c .before .plus2 .ensures) (c .refuse2 .ensures)
+returns-3 c =
+    let at-clear2 = c .before .before .before .before .before .before in
+    let at-if1 = at-clear2 .before .before in
+    let at-read-behind = at-if1 .before .before .before .before in
+    let at-args = at-read-behind .before .before .before .before .before in
+    moved-eight (headBytes (at-args .args .mz) (at-args .args .intensity)) (at-args .args .at) (at-read-behind .read-behind .ensures) (at-if1 .if1 .left) (c .before .before .if3 .taken) (at-clear2 .clear2 .ensures) (c .before .plus2 .ensures) (c .refuse2 .ensures)
 
 plus-requires-3 : tie.Need-plus-requires-3
 plus-requires-3 c κs = search needs
@@ -69,7 +86,12 @@ same-length-4 c = search needs
 
 returns-4 : tie.Need-returns-4
 unfolding thirdOf
-returns-4 c = moved-refused (headBytes (c .before .before .before .before .before .before .before .before .before .before .before .before .before .before .before .before .before .args .mz) (c .before .before .before .before .before .before .before .before .before .before .before .before .before .before .before .before .before .args .intensity)) (c .before .before .before .before .before .before .before .before .before .before .before .before .before .before .before .before .before .args .at) (c .before .before .before .before .before .before .before .before .before .before .before .before .read-behind .ensures) (c .before .before .before .before .before .before .before .before .if1 .left) (c .before .before .if3 .left) (c .before .before .before .before .before .before .clear2 .ensures) (c .before .plus3 .ensures) (c .refuse3 .ensures)
+returns-4 c =
+    let at-clear2 = c .before .before .before .before .before .before in
+    let at-if1 = at-clear2 .before .before in
+    let at-read-behind = at-if1 .before .before .before .before in
+    let at-args = at-read-behind .before .before .before .before .before in
+    moved-refused (headBytes (at-args .args .mz) (at-args .args .intensity)) (at-args .args .at) (at-read-behind .read-behind .ensures) (at-if1 .if1 .left) (c .before .before .if3 .left) (at-clear2 .clear2 .ensures) (c .before .plus3 .ensures) (c .refuse3 .ensures)
 
 pub read-third-spec : {M : Type 1} → statement M
 read-third-spec =

@@ -30,7 +30,11 @@ same-length : tie.Need-same-length
 same-length c = search needs
 
 returns : tie.Need-returns
-returns c = refused-is (length (c .before .before .before .before .before .before .before .before .before .before .before .args .out .now)) 9 _ (c .refuse .ensures) (c .before .before .before .clear .ensures) ∙ written-bad (c .before .before .before .before .before .before .before .before .before .before .before .args .machine .now) (c .before .before .before .before .before .before .before .before .before .before .before .args .stored .now) (length (c .before .before .before .before .before .before .before .before .before .before .before .args .out .now)) (c .before .before .before .before .before .before .before .read-head .ensures) (not-true _ (c .before .before .before .before .before .if1 .taken))
+returns c =
+    let at-if1 = c .before .before .before .before .before in
+    let at-read-head = at-if1 .before .before in
+    let at-args = at-read-head .before .before .before .before in
+    refused-is (length (at-args .args .out .now)) 9 _ (c .refuse .ensures) (c .before .before .before .clear .ensures) ∙ written-bad (at-args .args .machine .now) (at-args .args .stored .now) (length (at-args .args .out .now)) (at-read-head .read-head .ensures) (not-true _ (at-if1 .if1 .taken))
 
 put-columns-requires : tie.Need-put-columns-requires
 put-columns-requires c κs = search needs
@@ -51,7 +55,15 @@ same-length-2 : tie.Need-same-length-2
 same-length-2 c = search needs
 
 returns-2 : tie.Need-returns-2
-returns-2 c = c .before .before .finish-row .ensures ∙ row-written (c .before .before .before .before .before .before .before .before .before .before .before .before .before .before .before .before .before .before .before .before .args .machine .now) (c .before .before .before .before .before .before .before .before .before .before .before .before .before .before .before .before .before .before .before .before .args .stored .now) (c .before .before .before .before .before .before .before .before .before .before .before .before .before .before .before .before .before .before .before .before .args .out .now) (c .before .before .before .before .before .before .before .before .before .before .before .before .before .before .before .before .read-head .ensures) (not-false _ (c .before .before .before .before .before .before .before .before .before .before .before .before .before .before .if1 .left)) (c .before .before .before .before .before .before .before .before .before .before .before .before .put-columns .ensures) (c .before .before .before .before .before .before .before .before .before .rest .ensures) (c .before .before .before .before .before .before .before .before .plus .ensures) (c .before .before .before .before .before .before .write-behind .ensures)
+returns-2 c =
+    let at-write-behind = c .before .before .before .before .before .before in
+    let at-plus = at-write-behind .before .before in
+    let at-rest = at-plus .before in
+    let at-put-columns = at-rest .before .before .before in
+    let at-if1 = at-put-columns .before .before in
+    let at-read-head = at-if1 .before .before in
+    let at-args = at-read-head .before .before .before .before in
+    c .before .before .finish-row .ensures ∙ row-written (at-args .args .machine .now) (at-args .args .stored .now) (at-args .args .out .now) (at-read-head .read-head .ensures) (not-false _ (at-if1 .if1 .left)) (at-put-columns .put-columns .ensures) (at-rest .rest .ensures) (at-plus .plus .ensures) (at-write-behind .write-behind .ensures)
 
 pub write-row-by-spec : {M : Type 1} → statement M
 write-row-by-spec =
