@@ -3,8 +3,8 @@ use run_program::was_asked;
 
 fn main() {
     if was_asked(
-        b"rooms",
-        b"rooms makes a table of each mzPAF line, with an output of the length that is asked for.
+        b"try_read_sized",
+        b"try_read_sized makes a table of each mzPAF line, with an output of the length that is asked for.
 
 Standard input has on each line a number of bytes (at most 21,340), a space and a line of annotations.
 Lines end at line feeds, and the last may lack its own.
@@ -16,5 +16,5 @@ table in hexadecimal digits, `-` where there is none.
     ) {
         return;
     }
-    run_reads::answer_lines(b"rooms", true);
+    run_reads::answer_lines(b"try_read_sized", true);
 }

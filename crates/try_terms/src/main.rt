@@ -39,8 +39,8 @@ const ANSWERS: usize = 2 * ANSWER;
 
 fn main() {
     if was_asked(
-        b"terms_run",
-        b"terms_run reads numbers, decimals, element symbols and formulas, each from the beginning of a text.
+        b"try_terms",
+        b"try_terms reads numbers, decimals, element symbols and formulas, each from the beginning of a text.
 
 Standard input has one question a line: a letter, a space and a text.
   n TEXT   the number: value (no more than a million), bytes
@@ -58,7 +58,7 @@ the text were read; a limit's number is 4 (a number past its bound), 5 (too many
     }
     let mut buf = io::large_buffer();
     let mut out = [0u8; ANSWERS];
-    all(b"terms_run", &mut buf, &mut out);
+    all(b"try_terms", &mut buf, &mut out);
 }
 
 // Line after line, until none comes. A proved loop has to end, so it counts down from a number that no run uses up.

@@ -3,8 +3,8 @@ use run_program::was_asked;
 
 fn main() {
     if was_asked(
-        b"write_rooms",
-        b"write_rooms spells each stored table as an mzPAF line, with an output of the length that is asked for.
+        b"try_write_sized",
+        b"try_write_sized spells each stored table as an mzPAF line, with an output of the length that is asked for.
 
 Standard input has on each line a number of bytes (at most 4,096), a space and a stored table in hexadecimal
 digits. Lines end at line feeds, and the last may lack its own.
@@ -16,5 +16,5 @@ line in hexadecimal digits, `-` where there is none or it is empty.
     ) {
         return;
     }
-    run_writes::answer_tables(b"write_rooms", true);
+    run_writes::answer_tables(b"try_write_sized", true);
 }
