@@ -1,4 +1,4 @@
-// The programs `reads` and `rooms`: lines of standard input are read, and each is answered by number, place and length, and the table
+// The programs `reads` and `try_read_sized`: lines of standard input are read, and each is answered by number, place and length, and the table
 // in hexadecimal digits, `-` where there is none. Lines end at line feeds, and the last may lack its own. Which lines are
 // found is stated by `next_line`, and `one_line` states what is answered to the line that was found; what is written cannot be stated, so
 // `answer_lines` and `all` are proved safe and ending.

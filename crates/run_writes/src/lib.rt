@@ -1,4 +1,4 @@
-// The programs `writes` and `write_rooms`: stored tables come from standard input, one a line in hexadecimal digits, and each is
+// The programs `writes` and `try_write_sized`: stored tables come from standard input, one a line in hexadecimal digits, and each is
 // answered by number, place and length, and its line in such digits, `-` where there is none or it is empty. Lines end at line feeds,
 // and the last may lack its own. Which lines are found is stated by `next_line`, and `one_table` states what is answered to the
 // table that was found; what is written cannot be stated, so `answer_tables` and `all` are proved safe and ending.
