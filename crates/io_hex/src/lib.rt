@@ -1,4 +1,4 @@
-// Bytes read from hexadecimal digits, two for each byte, the high one first; `tells` puts them so. Capitals are digits too.
+// Bytes read from hexadecimal digits, two for each byte, the high one first; `io_answers` puts them so. Capitals are digits too.
 ghost use mathlib.Core.Path.{_≡_};
 ghost use Rattle.put_bytes.specs.Puts.{Put};
 ghost use Rattle.io_hex.specs.Hexes.{hexValue, byteOf, spelled, unhexed};
