@@ -31,7 +31,11 @@ check-number-requires : tie.Need-check-number-requires
 check-number-requires c κs = search needs
 
 add-t9 : tie.Need-add-t9
-add-t9 c = omega (arith, number-fits (c .before .before .before .before .before .before .before .before .before .args .s .now) 1 (c .before .before .before .before .before .rest .ensures) (c .before .before .before .before .read-number .ensures))
+add-t9 c =
+    let at-read-number = c .before .before .before .before in
+    let at-rest = at-read-number .before in
+    let at-args = at-rest .before .before .before .before in
+    omega (arith, number-fits (at-args .args .s .now) 1 (at-rest .rest .ensures) (at-read-number .read-number .ensures))
 
 returns-2 : tie.Need-returns-2
 unfolding chargeOf

@@ -38,7 +38,17 @@ read-decimal-requires : tie.Need-read-decimal-requires
 read-decimal-requires c κs = search needs
 
 add-len : tie.Need-add-len
-add-len c = omega (arith, decimal-fits (c .before .before .before .before .before .before .before .before .before .args .s .now) (c .before .before .before .size-at .result) (c .before .before .rest2 .ensures) (c .before .read-decimal .ensures), c .before .before .before .size-at .ensures, size-small (c .before .before .before .before .begins-with2 .result))
+add-len c =
+    let at-size-at = c .before .before .before in
+    let at-begins-with2 = at-size-at .before in
+    let at-args = at-begins-with2 .before .before .before .before .before in
+    omega (
+      arith,
+      decimal-fits (at-args .args .s .now) (at-size-at .size-at .result) (c .before .before .rest2 .ensures)
+          (c .before .read-decimal .ensures),
+      at-size-at .size-at .ensures,
+      size-small (at-begins-with2 .begins-with2 .result),
+    )
 
 minus-or-zero-requires : tie.Need-minus-or-zero-requires
 minus-or-zero-requires c κs = search needs
@@ -53,14 +63,23 @@ begins-ppm-requires : tie.Need-begins-ppm-requires
 begins-ppm-requires c κs = search needs
 
 add-made-part : tie.Need-add-made-part
-add-made-part c = omega (arith, ppm-fits (c .before .before .before .before .before .before .before .before .before .before .before .before .before .before .args .s .now) (c .before .before .before .before .before .before .before .before .size-at .result + c .before .before .before .before .before .before .read-decimal .result .len) (c .before .before .rest3 .ensures) (sym (c .before .begins-ppm .ensures) ∙ c .if2 .taken))
+add-made-part c =
+    let at-read-decimal = c .before .before .before .before .before .before in
+    let at-size-at = at-read-decimal .before .before in
+    let at-args = at-size-at .before .before .before .before .before .before in
+    omega (
+      arith,
+      ppm-fits (at-args .args .s .now) (at-size-at .size-at .result + at-read-decimal .read-decimal .result .len)
+          (c .before .before .rest3 .ensures) (sym (c .before .begins-ppm .ensures) ∙ c .if2 .taken),
+    )
 
 made-part-requires : tie.Need-made-part-requires
 made-part-requires c κs = search needs
 
 returns-2 : tie.Need-returns-2
 returns-2 c =
-    let at-minus-or-zero2 = c .before .before .before .before in
+    let at-rest3 = c .before .before .before in
+    let at-minus-or-zero2 = at-rest3 .before in
     let at-minus-or-zero = at-minus-or-zero2 .before in
     let at-read-decimal = at-minus-or-zero .before .before in
     let at-rest2 = at-read-decimal .before in
@@ -70,14 +89,19 @@ returns-2 c =
     let at-if1 = at-rest .before in
     let at-begins-with = at-if1 .before in
     let at-args = at-begins-with .before .before in
-    in-ppm (at-args .args .s .now) (at-args .args .end) (at-args .args .f) (sym (at-begins-with .begins-with .ensures) ∙ not-false _ (at-if1 .if1 .left)) (at-begins-with2 .begins-with2 .ensures ∙ ap (startsWith (bytes "-")) (at-rest .rest .ensures)) (at-size-at .size-at .ensures) (at-rest2 .rest2 .ensures) (at-read-decimal .read-decimal .ensures) (c .before .before .before .rest3 .ensures) (at-minus-or-zero .minus-or-zero .ensures) (at-minus-or-zero2 .minus-or-zero2 .ensures) (sym (c .before .before .begins-ppm .ensures) ∙ c .before .if2 .taken) (c .made-part .ensures)
+    in-ppm (at-args .args .s .now) (at-args .args .end) (at-args .args .f)
+    (sym (at-begins-with .begins-with .ensures) ∙ not-false _ (at-if1 .if1 .left))
+    (at-begins-with2 .begins-with2 .ensures ∙ ap (startsWith (bytes "-")) (at-rest .rest .ensures)) (at-size-at .size-at .ensures)
+    (at-rest2 .rest2 .ensures) (at-read-decimal .read-decimal .ensures) (at-rest3 .rest3 .ensures) (at-minus-or-zero .minus-or-zero .ensures)
+    (at-minus-or-zero2 .minus-or-zero2 .ensures) (sym (c .before .before .begins-ppm .ensures) ∙ c .before .if2 .taken) (c .made-part .ensures)
 
 made-part-requires-2 : tie.Need-made-part-requires-2
 made-part-requires-2 c κs = search needs
 
 returns-3 : tie.Need-returns-3
 returns-3 c =
-    let at-minus-or-zero2 = c .before .before .before .before in
+    let at-rest3 = c .before .before .before in
+    let at-minus-or-zero2 = at-rest3 .before in
     let at-minus-or-zero = at-minus-or-zero2 .before in
     let at-read-decimal = at-minus-or-zero .before .before in
     let at-rest2 = at-read-decimal .before in
@@ -87,7 +111,11 @@ returns-3 c =
     let at-if1 = at-rest .before in
     let at-begins-with = at-if1 .before in
     let at-args = at-begins-with .before .before in
-    in-units (at-args .args .s .now) (at-args .args .end) (at-args .args .f) (sym (at-begins-with .begins-with .ensures) ∙ not-false _ (at-if1 .if1 .left)) (at-begins-with2 .begins-with2 .ensures ∙ ap (startsWith (bytes "-")) (at-rest .rest .ensures)) (at-size-at .size-at .ensures) (at-rest2 .rest2 .ensures) (at-read-decimal .read-decimal .ensures) (c .before .before .before .rest3 .ensures) (at-minus-or-zero .minus-or-zero .ensures) (at-minus-or-zero2 .minus-or-zero2 .ensures) (sym (c .before .before .begins-ppm .ensures) ∙ c .before .if2 .left) (c .made-part2 .ensures)
+    in-units (at-args .args .s .now) (at-args .args .end) (at-args .args .f)
+    (sym (at-begins-with .begins-with .ensures) ∙ not-false _ (at-if1 .if1 .left))
+    (at-begins-with2 .begins-with2 .ensures ∙ ap (startsWith (bytes "-")) (at-rest .rest .ensures)) (at-size-at .size-at .ensures)
+    (at-rest2 .rest2 .ensures) (at-read-decimal .read-decimal .ensures) (at-rest3 .rest3 .ensures) (at-minus-or-zero .minus-or-zero .ensures)
+    (at-minus-or-zero2 .minus-or-zero2 .ensures) (sym (c .before .before .begins-ppm .ensures) ∙ c .before .if2 .left) (c .made-part2 .ensures)
 
 pub read-deviation-spec : {M : Type 1} → statement M
 read-deviation-spec =
