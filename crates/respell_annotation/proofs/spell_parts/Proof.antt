@@ -47,28 +47,37 @@ put-run-requires-2 c κs = search needs
 
 same-length : tie.Need-same-length
 same-length c =
-    let at-way = c .before .before .before .before .before .before .before .before in
-    let c1 = at-way in
-    let c2 = c1 .before .before .before .before .before .before .before .before in
-    let c3 = c2 .before .before .before .before .before .before .before .before in
-    put-length (c .before .before .put-run2 .ensures) ∙ put-length (c1 .spell-adduct .ensures)
-    ∙ put-length (c1 .before .before .before .before .before .spell-isotopes .ensures .put) ∙ put-length (c2 .before .before .spell-changes .ensures .put)
-    ∙ put-length (c2 .before .before .before .before .before .before .before .spell-ion .ensures)
-    ∙ put-length (c3 .before .before .before .before .put-run .ensures)
+    let at-rest5 = c .before .before .before .before in
+    let at-spell-adduct = at-rest5 .before .before .before .before in
+    let at-spell-isotopes = at-spell-adduct .before .before .before .before .before in
+    let at-spell-changes = at-spell-isotopes .before .before .before .before .before in
+    let at-spell-ion = at-spell-changes .before .before .before .before .before in
+    let at-put-run = at-spell-ion .before .before .before .before .before in
+    put-length (c .before .before .put-run2 .ensures) ∙ put-length (at-spell-adduct .spell-adduct .ensures)
+    ∙ put-length (at-spell-isotopes .spell-isotopes .ensures .put) ∙ put-length (at-spell-changes .spell-changes .ensures .put)
+    ∙ put-length (at-spell-ion .spell-ion .ensures)
+    ∙ put-length (at-put-run .put-run .ensures)
 
 returns : tie.Need-returns
 returns c =
-    let at-rest5 = c .before .before .before .before in
-    let at-way = at-rest5 .before .before .before .before in
-    let c1 = at-way in
-    let c2 = c1 .before .before .before .before .before .before .before .before in
-    let c3 = c2 .before .before .before .before .before .before .before .before in
-    parts-put _ _ (c3 .before .before .before .before .before .first-of .ensures) (c3 .before .before .before .before .put-run .ensures)
-    (c3 .rest .ensures) (c2 .before .before .before .before .before .before .before .spell-ion .ensures)
-    (c2 .before .before .before .before .rest2 .ensures) (c2 .before .before .spell-changes .ensures)
-    (c1 .before .before .before .before .before .before .before .rest3 .ensures) (c1 .before .before .before .before .before .spell-isotopes .ensures)
-    (c1 .before .rest4 .ensures) (c1 .spell-adduct .ensures) (at-rest5 .rest5 .ensures)
-    (c .before .before .before .first-of2 .ensures) (c .before .before .put-run2 .ensures)
+    let at-first-of2 = c .before .before .before in
+    let at-rest5 = at-first-of2 .before in
+    let at-spell-adduct = at-rest5 .before .before .before .before in
+    let at-rest4 = at-spell-adduct .before in
+    let at-spell-isotopes = at-rest4 .before .before .before .before in
+    let at-rest3 = at-spell-isotopes .before .before in
+    let at-spell-changes = at-rest3 .before .before .before in
+    let at-rest2 = at-spell-changes .before .before in
+    let at-spell-ion = at-rest2 .before .before .before in
+    let at-rest = at-spell-ion .before in
+    let at-put-run = at-rest .before .before .before .before in
+    let at-first-of = at-put-run .before in
+    parts-put _ _ (at-first-of .first-of .ensures) (at-put-run .put-run .ensures)
+    (at-rest .rest .ensures) (at-spell-ion .spell-ion .ensures)
+    (at-rest2 .rest2 .ensures) (at-spell-changes .spell-changes .ensures)
+    (at-rest3 .rest3 .ensures) (at-spell-isotopes .spell-isotopes .ensures)
+    (at-rest4 .rest4 .ensures) (at-spell-adduct .spell-adduct .ensures) (at-rest5 .rest5 .ensures)
+    (at-first-of2 .first-of2 .ensures) (c .before .before .put-run2 .ensures)
 
 pub spell-parts-spec : {M : Type 1} → statement M
 spell-parts-spec =
