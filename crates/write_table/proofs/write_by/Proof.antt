@@ -22,7 +22,13 @@ same-length : tie.Need-same-length
 same-length c = search needs
 
 returns : tie.Need-returns
-returns c = let a = c .before .before .before .before .before .before .before .before .before .before .before .args in written-many (a .machine .now) (a .table .now) (length (a .out .now)) (printed-past {most = few} (c .before .before .before .before .before .before .print-table .ensures) (omega arith) (c .before .before .before .before .if1 .taken)) (c .before .before .write-many .ensures)
+returns c =
+    let at-if1 = c .before .before .before .before in
+    let at-print-table = at-if1 .before .before in
+    let at-args = at-print-table .before .before .before .before .before in
+    let a = at-args .args in
+    written-many (a .machine .now) (a .table .now) (length (a .out .now))
+    (printed-past {most = few} (at-print-table .print-table .ensures) (omega arith) (at-if1 .if1 .taken)) (c .before .before .write-many .ensures)
 
 write-many-requires-2 : tie.Need-write-many-requires-2
 write-many-requires-2 c κs = search needs
@@ -31,7 +37,14 @@ same-length-2 : tie.Need-same-length-2
 same-length-2 c = search needs
 
 returns-2 : tie.Need-returns-2
-returns-2 c = let a = c .before .before .before .before .before .before .before .before .before .before .before .before .args in written-large (a .machine .now) (a .table .now) (length (a .out .now)) (printed-within {most = few} (c .before .before .before .before .before .before .before .print-table .ensures) (omega arith) (c .before .before .before .before .before .if1 .left)) (c .before .before .before .before .if2 .taken) (c .before .before .write-many2 .ensures)
+returns-2 c =
+    let at-if2 = c .before .before .before .before in
+    let at-if1 = at-if2 .before in
+    let at-print-table = at-if1 .before .before in
+    let at-args = at-print-table .before .before .before .before .before in
+    let a = at-args .args in
+    written-large (a .machine .now) (a .table .now) (length (a .out .now))
+    (printed-within {most = few} (at-print-table .print-table .ensures) (omega arith) (at-if1 .if1 .left)) (at-if2 .if2 .taken) (c .before .before .write-many2 .ensures)
 
 slice-aggregate-first-of : tie.Need-slice-aggregate-first-of
 slice-aggregate-first-of c = search needs
@@ -49,7 +62,20 @@ same-length-3 : tie.Need-same-length-3
 same-length-3 c = search needs
 
 returns-3 : tie.Need-returns-3
-returns-3 c = let a = c .before .before .before .before .before .before .before .before .before .before .before .before .before .before .before .args in let p = c .before .before .before .before .before .before .before .before .before .before .print-table .ensures in let h = c .before .before .before .before .before .before .before .before .if1 .left in let w = printed-within {most = few} p (omega arith) h in written-few (a .machine .now) (a .table .now) (length (a .out .now)) w (c .before .before .before .before .before .before .before .if2 .left) (found-within (a .machine .now) few (zeros few) (printedTable (a .table .now)) (a .table .now) (length (a .out .now)) (c .before .before .before .before .before .first-of .ensures ∙ printed-first {most = few} p (omega arith) h) w (c .before .before .before .before .reads-to-few .ensures) (c .before .before .finish .ensures))
+returns-3 c =
+    let at-reads-to-few = c .before .before .before .before in
+    let at-first-of = at-reads-to-few .before in
+    let at-if2 = at-first-of .before .before in
+    let at-if1 = at-if2 .before in
+    let at-print-table = at-if1 .before .before in
+    let at-args = at-print-table .before .before .before .before .before in
+    let a = at-args .args in
+    let printed = at-print-table .print-table .ensures in
+    let not-past = at-if1 .if1 .left in
+    let within = printed-within {most = few} printed (omega arith) not-past in
+    written-few (a .machine .now) (a .table .now) (length (a .out .now)) within (at-if2 .if2 .left)
+    (found-within (a .machine .now) few (zeros few) (printedTable (a .table .now)) (a .table .now) (length (a .out .now))
+    (at-first-of .first-of .ensures ∙ printed-first {most = few} printed (omega arith) not-past) within (at-reads-to-few .reads-to-few .ensures) (c .before .before .finish .ensures))
 
 pub write-by-spec : {M : Type 1} → statement M
 write-by-spec =

@@ -27,7 +27,14 @@ same-length : tie.Need-same-length
 same-length c = search needs
 
 returns : tie.Need-returns
-returns c = let a = c .before .before .before .before .before .before .before .before .before .before .before .before .args in found-long (a .machine .now) longestPrinted (zeros maxAnyTable) (printedTable (a .table .now)) (a .table .now) (length (a .out .now)) (printed-past {most = longestPrinted} (c .before .before .before .before .before .before .before .print-table .ensures) (omega arith) (c .before .before .before .before .before .if1 .taken)) (c .before .before .before .clear .ensures) (c .refuse .ensures)
+returns c =
+    let at-clear = c .before .before .before in
+    let at-if1 = at-clear .before .before in
+    let at-print-table = at-if1 .before .before in
+    let at-args = at-print-table .before .before .before .before .before in
+    let a = at-args .args in
+    found-long (a .machine .now) longestPrinted (zeros maxAnyTable) (printedTable (a .table .now)) (a .table .now) (length (a .out .now))
+    (printed-past {most = longestPrinted} (at-print-table .print-table .ensures) (omega arith) (at-if1 .if1 .taken)) (at-clear .clear .ensures) (c .refuse .ensures)
 
 slice-aggregate-first-of : tie.Need-slice-aggregate-first-of
 slice-aggregate-first-of c = search needs
@@ -45,7 +52,18 @@ same-length-2 : tie.Need-same-length-2
 same-length-2 c = search needs
 
 returns-2 : tie.Need-returns-2
-returns-2 c = let a = c .before .before .before .before .before .before .before .before .before .before .before .before .before .before .args in let p = c .before .before .before .before .before .before .before .before .before .print-table .ensures in let h = c .before .before .before .before .before .before .before .if1 .left in found-within (a .machine .now) longestPrinted (zeros maxAnyTable) (printedTable (a .table .now)) (a .table .now) (length (a .out .now)) (c .before .before .before .before .before .first-of .ensures ∙ printed-first {most = longestPrinted} p (omega arith) h) (printed-within {most = longestPrinted} p (omega arith) h) (c .before .before .before .before .reads-to .ensures) (c .before .before .finish .ensures)
+returns-2 c =
+    let at-reads-to = c .before .before .before .before in
+    let at-first-of = at-reads-to .before in
+    let at-if1 = at-first-of .before .before in
+    let at-print-table = at-if1 .before .before in
+    let at-args = at-print-table .before .before .before .before .before in
+    let a = at-args .args in
+    let printed = at-print-table .print-table .ensures in
+    let not-past = at-if1 .if1 .left in
+    found-within (a .machine .now) longestPrinted (zeros maxAnyTable) (printedTable (a .table .now)) (a .table .now) (length (a .out .now))
+    (at-first-of .first-of .ensures ∙ printed-first {most = longestPrinted} printed (omega arith) not-past)
+    (printed-within {most = longestPrinted} printed (omega arith) not-past) (at-reads-to .reads-to .ensures) (c .before .before .finish .ensures)
 
 pub write-many-spec : {M : Type 1} → statement M
 write-many-spec =
