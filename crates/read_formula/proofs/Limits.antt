@@ -13,7 +13,7 @@ use Rattle.rules.specs.Limits.{maxUnits, maxCount, numberMark, manyMark, unitMa
 use Rattle.numbers.proofs.SpelledNumbers.{number-past}
 use Rattle.faults.specs.declared.Fault.{Fault}
 use Rattle.faults.specs.Faults.{join, after}
-use Rattle.read_formula.specs.Units.{unitFault}
+use Rattle.read_formula.specs.Units.{numbersFault, unitFault}
 use Rattle.faults.proofs.Marks.{join-kept}
 use Rattle.read_formula.proofs.Spelled.{capped, unitSpan}
 
@@ -24,7 +24,7 @@ mark-told f bound n at place h e = ap₂ (λ (b : Bool) (p : ℕ). join f (recor
 -- by how many bytes are left where the unit begins
 pub unit-told : (end : ℕ) (f : Fault) (u : FormulaUnit Written) (i left : ℕ) → length (unitText u) ≤ left → left ≤ end
     → unitFault f (unitSpan u) i end left ≡ after f (unitMarks i u (end - left))
-unfolding unitFault
+unfolding numbersFault
 unit-told end f (plain s silent) i left h g =
     let m : Mark = manyMark maxUnits i (end - left) in
     join-kept (join (join f m) (record { place = end - (left - 1); number = 4; broken = false })) (record { place = end - (left - length (wordOf s)); number = 4; broken = false }) refl

@@ -55,7 +55,11 @@ unitWith u e = record { nucleons = u .nucleons; element = e; count = u .count; �
 unfoldable pub unitOf : List ℕ → UnitRead
 unitOf s = let u = spanOf s in unitWith u (elementOf (drop (u .«symbol_at») s) .number)
 
+-- the limits of number i of at most `most` things in a row, each with two numbers, one a byte behind its beginning, the other `at` bytes behind it
+unfoldable pub numbersFault : Fault → ℕ → ℕ → ℕ → ℕ → ℕ → ℕ → ℕ → Fault
+numbersFault f most i first second at end left =
+    after f (manyMark most i (end - left) ∷ (numberMark maxCount first (end - (left - 1)) ++ numberMark maxCount second (end - (left - at))))
+
 -- the limits of unit number i of a formula
-unfoldable pub unitFault : Fault → UnitSpan → ℕ → ℕ → ℕ → Fault
-unitFault f u i end left =
-    after f (manyMark maxUnits i (end - left) ∷ (numberMark maxCount (u .nucleons) (end - (left - 1)) ++ numberMark maxCount (u .count) (end - (left - u .«count_at»))))
+abbrev pub unitFault : Fault → UnitSpan → ℕ → ℕ → ℕ → Fault
+unitFault f u i end left = numbersFault f maxUnits i (u .nucleons) (u .count) (u .«count_at») end left

@@ -7,7 +7,7 @@ ghost use Rattle.lang.specs.Re.{rng};
 ghost use Rattle.rules.specs.Limits.{numberMark, manyMark};
 ghost use Rattle.rules.specs.Texts.{firstIn, startsWith};
 ghost use Rattle.faults.specs.Faults.{numbered, join, after};
-ghost use Rattle.read_formula.specs.Units.{beginsUnit, orOne, plainSpan, labelledSpan, spanOf, unitOf, unitFault};
+ghost use Rattle.read_formula.specs.Units.{beginsUnit, orOne, plainSpan, labelledSpan, spanOf, unitOf, numbersFault};
 ghost use Rattle.read_formula.specs.Formulas.{formulaOf};
 use elements::read_element;
 use elements::symbol_len;
@@ -145,22 +145,32 @@ pub fn unit(s: &[u8]) -> UnitRead
     }
 }
 
-// The limits of unit number i of a formula, where `left` of the line's `end` bytes are left.
-fn unit_fault(f: Fault, u: UnitSpan, i: usize, end: usize, left: usize) -> Fault
-    ensures { λ r. ⌜ r ≡ unitFault f u i end left ⌝ }
+// The limits of number i of at most `most` things in a row, each with two numbers, one a byte behind its beginning, the other `at` bytes
+// behind it; `left` of the line's `end` bytes are left where it begins.
+pub fn numbers_fault(
+    f: Fault,
+    most: usize,
+    i: usize,
+    first: u32,
+    second: u32,
+    at: usize,
+    end: usize,
+    left: usize,
+) -> Fault
+    ensures { λ r. ⌜ r ≡ numbersFault f most i first second at end left ⌝ }
 {
-    let g = check_count(f, MAX_UNITS, i, minus_or_zero(end, left));
+    let g = check_count(f, most, i, minus_or_zero(end, left));
     let h = check_number(
         g,
         MAX_COUNT,
-        u.nucleons,
+        first,
         minus_or_zero(end, minus_or_zero(left, 1)),
     );
     check_number(
         h,
         MAX_COUNT,
-        u.count,
-        minus_or_zero(end, minus_or_zero(left, u.count_at)),
+        second,
+        minus_or_zero(end, minus_or_zero(left, at)),
     )
 }
 
@@ -174,7 +184,16 @@ pub fn formula(s: &[u8], end: usize, f: Fault) -> FormulaRead
     // Places are told by what is left, as no part knows where in the line it begins.
     while begins_unit(rest(s, at)) {
         let u = unit_span(rest(s, at));
-        fault = unit_fault(fault, u, units, end, s.len() - at);
+        fault = numbers_fault(
+            fault,
+            MAX_UNITS,
+            units,
+            u.nucleons,
+            u.count,
+            u.count_at,
+            end,
+            s.len() - at,
+        );
         at += u.len;
         units += 1;
     }

@@ -29,17 +29,28 @@ rest-requires-2 c κs = search needs
 unit-span-requires : tie.Need-unit-span-requires Inv-loop μ-loop
 unit-span-requires c κs = search needs
 
-sub-unit-fault : tie.Need-sub-unit-fault Inv-loop μ-loop
-sub-unit-fault c = omega (arith, c .before .before .before .before .before .loop .inv .inside)
+sub-numbers-fault : tie.Need-sub-numbers-fault Inv-loop μ-loop
+sub-numbers-fault c = omega (arith, c .before .before .before .before .before .loop .inv .inside)
 
-unit-fault-requires : tie.Need-unit-fault-requires Inv-loop μ-loop
-unit-fault-requires c κs = search needs
+numbers-fault-requires : tie.Need-numbers-fault-requires Inv-loop μ-loop
+numbers-fault-requires c κs = search needs
 
 add-at : tie.Need-add-at Inv-loop μ-loop
 add-at c = omega (arith, moves (c .before .before .before .before .before .before .before .loop .inv) (c .before .before .before .before .before .before .rest .ensures) (sym (c .before .before .before .before .before .begins-unit .ensures) ∙ c .before .before .before .before .if1 .taken) (c .before .before .before .rest2 .ensures) (c .before .before .unit-span .ensures))
 
 add-units : tie.Need-add-units Inv-loop μ-loop
-add-units c = omega (arith, c .before .before .before .before .before .before .before .loop .inv .few, moves (c .before .before .before .before .before .before .before .loop .inv) (c .before .before .before .before .before .before .rest .ensures) (sym (c .before .before .before .before .before .begins-unit .ensures) ∙ c .before .before .before .before .if1 .taken) (c .before .before .before .rest2 .ensures) (c .before .before .unit-span .ensures))
+add-units c =
+    let at-rest2 = c .before .before .before in
+    let at-if1 = at-rest2 .before in
+    let at-begins-unit = at-if1 .before in
+    let at-rest = at-begins-unit .before in
+    let at-loop = at-rest .before in
+    omega (
+      arith,
+      at-loop .loop .inv .few,
+      moves (at-loop .loop .inv) (at-rest .rest .ensures)
+          (sym (at-begins-unit .begins-unit .ensures) ∙ at-if1 .if1 .taken) (at-rest2 .rest2 .ensures) (c .before .before .unit-span .ensures),
+    )
 
 loop-less : tie.Need-loop-less Inv-loop μ-loop
 loop-less c = omega (arith, moves (c .before .before .before .before .before .before .before .loop .inv) (c .before .before .before .before .before .before .rest .ensures) (sym (c .before .before .before .before .before .begins-unit .ensures) ∙ c .before .before .before .before .if1 .taken) (c .before .before .before .rest2 .ensures) (c .before .before .unit-span .ensures))
@@ -50,7 +61,7 @@ loop-again c =
     let at-begins-unit = at-if1 .before in
     let at-rest = at-begins-unit .before in
     let at-loop = at-rest .before in
-    turn (at-loop .loop .inv) (at-rest .rest .ensures) (sym (at-begins-unit .begins-unit .ensures) ∙ at-if1 .if1 .taken) (c .before .before .before .rest2 .ensures) (c .before .before .unit-span .ensures) (c .before .unit-fault .ensures)
+    turn (at-loop .loop .inv) (at-rest .rest .ensures) (sym (at-begins-unit .begins-unit .ensures) ∙ at-if1 .if1 .taken) (c .before .before .before .rest2 .ensures) (c .before .before .unit-span .ensures) (c .before .numbers-fault .ensures)
 
 returns : tie.Need-returns Inv-loop μ-loop
 returns c = ends (c .before .before .before .loop .inv) (c .before .before .rest .ensures) (sym (c .before .begins-unit .ensures) ∙ c .if1 .left)
@@ -66,8 +77,8 @@ formula-spec =
     begins-unit-requires
     rest-requires-2
     unit-span-requires
-    sub-unit-fault
-    unit-fault-requires
+    sub-numbers-fault
+    numbers-fault-requires
     add-at
     add-units
     loop-less

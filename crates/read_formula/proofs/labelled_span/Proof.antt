@@ -30,7 +30,17 @@ read-number-requires-2 : tie.Need-read-number-requires-2
 read-number-requires-2 c κs = search needs
 
 add-end : tie.Need-add-end
-add-end c = omega (arith, count-fits (c .before .before .before .before .before .before .before .before .before .args .s .now) (c .before .before .before .before .before .before .before .rest .ensures) (c .before .before .before .before .before .before .read-number .ensures) (c .before .before .before .before .rest2 .ensures) (c .before .before .before .symbol-len .ensures) (c .before .before .rest3 .ensures) (c .before .read-number2 .ensures))
+add-end c =
+    let at-symbol-len = c .before .before .before in
+    let at-rest2 = at-symbol-len .before in
+    let at-read-number = at-rest2 .before .before in
+    let at-rest = at-read-number .before in
+    let at-args = at-rest .before .before in
+    omega (
+      arith,
+      count-fits (at-args .args .s .now) (at-rest .rest .ensures) (at-read-number .read-number .ensures) (at-rest2 .rest2 .ensures)
+          (at-symbol-len .symbol-len .ensures) (c .before .before .rest3 .ensures) (c .before .read-number2 .ensures),
+    )
 
 with-bracket-requires : tie.Need-with-bracket-requires
 with-bracket-requires c κs = search needs

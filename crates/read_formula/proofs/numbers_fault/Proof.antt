@@ -1,8 +1,8 @@
--- `read_formula::unit_fault` meets its contract: the three checks, with their places, rewritten. Assumes nothing.
-use Rattle.read_formula.specs.Units.{unitFault}
+-- `read_formula::numbers_fault` meets its contract: the three checks, with their places, rewritten. Assumes nothing.
+use Rattle.read_formula.specs.Units.{numbersFault}
 use borrow.Author.Needs.{needs}
-use Rattle.read_formula.proofs.unit_fault.Statement.{statement}
-use Rattle.read_formula.proofs.unit_fault.Tie as tie
+use Rattle.read_formula.proofs.numbers_fault.Statement.{statement}
+use Rattle.read_formula.proofs.numbers_fault.Tie as tie
 
 minus-or-zero-requires : tie.Need-minus-or-zero-requires
 minus-or-zero-requires c κs = search needs
@@ -29,7 +29,7 @@ check-number-requires-2 : tie.Need-check-number-requires-2
 check-number-requires-2 c κs = search needs
 
 returns : tie.Need-returns
-unfolding unitFault
+unfolding numbersFault
 returns c =
     let at-minus-or-zero3 = c .before .before .before .before in
     let at-minus-or-zero2 = at-minus-or-zero3 .before in
@@ -37,8 +37,8 @@ returns c =
     let at-minus-or-zero = at-check-count .before in
     simp (c .check-number2 .ensures, c .before .before .before .check-number .ensures, at-check-count .check-count .ensures, at-minus-or-zero .minus-or-zero .ensures, at-minus-or-zero2 .minus-or-zero2 .ensures, at-minus-or-zero3 .minus-or-zero3 .ensures, c .before .before .minus-or-zero4 .ensures, c .before .minus-or-zero5 .ensures)
 
-pub unit-fault-spec : {M : Type 1} → statement M
-unit-fault-spec =
+pub numbers-fault-spec : {M : Type 1} → statement M
+numbers-fault-spec =
     tie.close
     (tie.spec
     minus-or-zero-requires
