@@ -36,8 +36,11 @@ same-length c = search needs
 
 returns : tie.Need-returns
 returns c =
-    let a = c .before .before .before .before .before .before .before .before .args in
-    let h = leb-true (a .at + a .n) (length (a .out .now)) (sym (c .before .before .before .before .before .has-room .ensures) ∙ c .before .before .before .before .if1 .taken) in
+    let at-if1 = c .before .before .before .before in
+    let at-has-room = at-if1 .before in
+    let at-args = at-has-room .before .before .before in
+    let a = at-args .args in
+    let h = leb-true (a .at + a .n) (length (a .out .now)) (sym (at-has-room .has-room .ensures) ∙ at-if1 .if1 .taken) in
     let k = add-sub-cancel-left (a .at) (a .n) in
     put-part (omega arith) h k (little-length (a .n) (a .v))
     (c .before .before .fill-le .ensures ∙ ap (λ (i : ℕ). little i (a .v)) (mid-len (a .at) (a .at + a .n) (a .out .now) h ∙ k))

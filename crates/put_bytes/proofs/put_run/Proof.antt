@@ -33,8 +33,11 @@ same-length c = search needs
 
 returns : tie.Need-returns
 returns c =
-    let a = c .before .before .before .before .before .before .before .before .before .args in
-    let h = leb-true (a .at + length (a .s .now)) (length (a .out .now)) (sym (c .before .before .before .before .before .has-room .ensures) ∙ c .before .before .before .before .if1 .taken) in
+    let at-if1 = c .before .before .before .before in
+    let at-has-room = at-if1 .before in
+    let at-args = at-has-room .before .before .before .before in
+    let a = at-args .args in
+    let h = leb-true (a .at + length (a .s .now)) (length (a .out .now)) (sym (at-has-room .has-room .ensures) ∙ at-if1 .if1 .taken) in
     put-part (omega arith) h (add-sub-cancel-left (a .at) (length (a .s .now))) refl (c .before .before .fill .ensures)
 
 put-run-far-requires : tie.Need-put-run-far-requires
