@@ -17,7 +17,7 @@ use Rattle.faults.proofs.Marks.{join-kept, after-append}
 use Rattle.read_formula.proofs.Spelled.{capped}
 use Rattle.read_formula.proofs.Limits.{mark-told}
 use Rattle.read_opening.proofs.SpelledOpenings.{countTold, sign-long}
-use Rattle.read_isotopes.specs.Isotopes.{isotopeFault}
+use Rattle.read_formula.specs.Units.{numbersFault}
 use Rattle.read_isotopes.proofs.Spelled.{shift-long, shiftFault}
 
 -- a silent count has no limit, and 1 breaks none
@@ -32,7 +32,7 @@ count-told f x place at p = by (x .count)
 fault-told : (end : ℕ) (f : Fault) (x : Shift Written) (nucleons i left : ℕ) → 1 ≤ left → left ≤ end
     → shiftFault i x nucleons end left f
     ≡ after (after (join f (manyMark maxIsotopes i (end - left))) (shiftMarks x (end - left))) (numberMark maxCount nucleons (end - (left - length (shiftText x))))
-unfolding isotopeFault
+unfolding numbersFault
 fault-told end f x nucleons i left h g =
     ap (λ (e : Fault). after e (numberMark maxCount nucleons (end - (left - length (shiftText x)))))
     (count-told (join f (manyMark maxIsotopes i (end - left))) x (end - (left - 1)) (end - left) (omega arith))

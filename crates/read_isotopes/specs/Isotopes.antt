@@ -1,23 +1,22 @@
 -- The isotope that bytes begin with: sign, count, `i`, and nothing, `A`, or nucleon number and symbol. Assumes nothing.
 use Prim.Native.Nat.{ℕ, _+_, _-_, min}
 use mathlib.Core.Bool.{cond}
-use mathlib.Core.List.{List, _∷_, _++_}
+use mathlib.Core.List.{List}
 use lib.ListN.{length, drop}
 use Rattle.rules.specs.Bytes.{bytes, digit}
 use Rattle.rules.specs.Texts.{startsWith, firstIn}
-use Rattle.rules.specs.Limits.{maxIsotopes, maxCount, numberMark, manyMark}
+use Rattle.rules.specs.Limits.{maxIsotopes}
 use Rattle.numbers.specs.Leading.{numberOf}
 use Rattle.elements.specs.Symbols.{elementOf}
 use Rattle.faults.specs.declared.Fault.{Fault}
-use Rattle.faults.specs.Faults.{after}
+use Rattle.read_formula.specs.Units.{numbersFault}
 use Rattle.read_opening.specs.declared.Head.{Head}
 use Rattle.read_opening.specs.Heads.{headOf}
 use Rattle.read_isotopes.specs.declared.IsotopeRead.{IsotopeRead}
 
 -- the limits of isotope number i, whose nucleon number stands `at` bytes behind its sign
-unfoldable pub isotopeFault : ℕ → Head → ℕ → ℕ → ℕ → ℕ → Fault → Fault
-isotopeFault i h nucleons at end left f =
-    after f (manyMark maxIsotopes i (end - left) ∷ (numberMark maxCount (h .count) (end - (left - 1)) ++ numberMark maxCount nucleons (end - (left - at))))
+abbrev pub isotopeFault : ℕ → Head → ℕ → ℕ → ℕ → ℕ → Fault → Fault
+isotopeFault i h nucleons at end left f = numbersFault f maxIsotopes i (h .count) nucleons at end left
 
 abbrev pub isotopeWith : Head → ℕ → ℕ → ℕ → ℕ → Fault → IsotopeRead
 isotopeWith h kind nucleons element len f =

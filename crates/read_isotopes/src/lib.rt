@@ -1,15 +1,12 @@
 // Isotopes, read from the rest of a line: measured, stored, and spelled anew.
 ghost use mathlib.Core.Path.{_≡_};
 ghost use Rattle.put_bytes.specs.Puts.{Put};
-ghost use Rattle.read_isotopes.specs.Isotopes.{isotopeFault, isotopeOf};
+ghost use Rattle.read_isotopes.specs.Isotopes.{isotopeOf};
 ghost use Rattle.read_isotopes.specs.Rows.{isotopesOf};
 ghost use Rattle.read_isotopes.specs.Records.{recordOf, StoresIsotopes};
 ghost use Rattle.read_isotopes.specs.Spelled.{isotopeSpelled, SpellsIsotopes};
 use elements::read_element;
 use faults::Fault;
-use faults::check_count;
-use faults::check_number;
-use limits::MAX_COUNT;
 use limits::MAX_ISOTOPES;
 use numbers::read_number;
 use print_count::Respelled;
@@ -17,7 +14,7 @@ use print_count::put_head;
 use put_bytes::put_le;
 use put_bytes::put_run;
 use put_bytes::put8;
-use read_opening::Head;
+use read_formula::numbers_fault;
 use read_opening::begins_isotope;
 use read_opening::read_head;
 use slices::advance;
@@ -52,33 +49,6 @@ pub struct IsotopesStored {
     pub next: usize,
 }
 
-// The limits of isotope number i, whose nucleon number stands `at` bytes behind its sign.
-fn isotope_fault(
-    i: usize,
-    h: Head,
-    nucleons: u32,
-    at: usize,
-    end: usize,
-    left: usize,
-    f: Fault,
-) -> Fault
-    ensures { λ r. ⌜ r ≡ isotopeFault i h nucleons at end left f ⌝ }
-{
-    let g = check_count(f, MAX_ISOTOPES, i, minus_or_zero(end, left));
-    let e = check_number(
-        g,
-        MAX_COUNT,
-        h.count,
-        minus_or_zero(end, minus_or_zero(left, 1)),
-    );
-    check_number(
-        e,
-        MAX_COUNT,
-        nucleons,
-        minus_or_zero(end, minus_or_zero(left, at)),
-    )
-}
-
 // The isotope that a part begins with.
 pub fn isotope(i: usize, s: &[u8], end: usize, f: Fault) -> IsotopeRead
     ensures { λ r. ⌜ r ≡ isotopeOf i end (now (s .entry)) f ⌝ }
@@ -96,10 +66,10 @@ pub fn isotope(i: usize, s: &[u8], end: usize, f: Fault) -> IsotopeRead
             nucleons: a.value,
             element: e.number,
             len: advance(advance(at, a.len, s.len()), e.len, s.len()),
-            fault: isotope_fault(i, h, a.value, at, end, s.len(), f),
+            fault: numbers_fault(f, MAX_ISOTOPES, i, h.count, a.value, at, end, s.len()),
         };
     }
-    let fault = isotope_fault(i, h, 0, at, end, s.len(), f);
+    let fault = numbers_fault(f, MAX_ISOTOPES, i, h.count, 0, at, end, s.len());
     if begins_with(t, b'A') {
         return IsotopeRead {
             sign: h.sign,

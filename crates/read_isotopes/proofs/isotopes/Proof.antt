@@ -32,13 +32,40 @@ isotope-requires : tie.Need-isotope-requires Inv-loop μ-loop
 isotope-requires c κs = search needs
 
 add-at : tie.Need-add-at Inv-loop μ-loop
-add-at c = omega (arith, moves (c .before .before .before .before .before .before .before .loop .inv) (c .before .before .before .before .before .before .rest .ensures) (c .before .before .before .before .before .before .before .loop .n) (c .before .before .before .before .before .before .before .before .before .args .end) (c .before .before .before .before .before .before .before .loop .fault) (sym (c .before .before .before .before .before .begins-isotope .ensures) ∙ c .before .before .before .before .if1 .taken) (c .before .before .before .rest2 .ensures) (c .before .before .isotope .ensures))
+add-at c =
+    let at-rest2 = c .before .before .before in
+    let at-if1 = at-rest2 .before in
+    let at-begins-isotope = at-if1 .before in
+    let at-rest = at-begins-isotope .before in
+    let at-loop = at-rest .before in
+    let at-args = at-loop .before .before in
+    let moved = moves (at-loop .loop .inv) (at-rest .rest .ensures) (at-loop .loop .n) (at-args .args .end) (at-loop .loop .fault)
+    (sym (at-begins-isotope .begins-isotope .ensures) ∙ at-if1 .if1 .taken) (at-rest2 .rest2 .ensures) (c .before .before .isotope .ensures) in
+    omega (arith, moved)
 
 add-n : tie.Need-add-n Inv-loop μ-loop
-add-n c = omega (arith, c .before .before .before .before .before .before .before .loop .inv .few, moves (c .before .before .before .before .before .before .before .loop .inv) (c .before .before .before .before .before .before .rest .ensures) (c .before .before .before .before .before .before .before .loop .n) (c .before .before .before .before .before .before .before .before .before .args .end) (c .before .before .before .before .before .before .before .loop .fault) (sym (c .before .before .before .before .before .begins-isotope .ensures) ∙ c .before .before .before .before .if1 .taken) (c .before .before .before .rest2 .ensures) (c .before .before .isotope .ensures))
+add-n c =
+    let at-rest2 = c .before .before .before in
+    let at-if1 = at-rest2 .before in
+    let at-begins-isotope = at-if1 .before in
+    let at-rest = at-begins-isotope .before in
+    let at-loop = at-rest .before in
+    let at-args = at-loop .before .before in
+    let moved = moves (at-loop .loop .inv) (at-rest .rest .ensures) (at-loop .loop .n) (at-args .args .end) (at-loop .loop .fault)
+    (sym (at-begins-isotope .begins-isotope .ensures) ∙ at-if1 .if1 .taken) (at-rest2 .rest2 .ensures) (c .before .before .isotope .ensures) in
+    omega (arith, at-loop .loop .inv .few, moved)
 
 loop-less : tie.Need-loop-less Inv-loop μ-loop
-loop-less c = omega (arith, moves (c .before .before .before .before .before .before .before .loop .inv) (c .before .before .before .before .before .before .rest .ensures) (c .before .before .before .before .before .before .before .loop .n) (c .before .before .before .before .before .before .before .before .before .args .end) (c .before .before .before .before .before .before .before .loop .fault) (sym (c .before .before .before .before .before .begins-isotope .ensures) ∙ c .before .before .before .before .if1 .taken) (c .before .before .before .rest2 .ensures) (c .before .before .isotope .ensures))
+loop-less c =
+    let at-rest2 = c .before .before .before in
+    let at-if1 = at-rest2 .before in
+    let at-begins-isotope = at-if1 .before in
+    let at-rest = at-begins-isotope .before in
+    let at-loop = at-rest .before in
+    let at-args = at-loop .before .before in
+    let moved = moves (at-loop .loop .inv) (at-rest .rest .ensures) (at-loop .loop .n) (at-args .args .end) (at-loop .loop .fault)
+    (sym (at-begins-isotope .begins-isotope .ensures) ∙ at-if1 .if1 .taken) (at-rest2 .rest2 .ensures) (c .before .before .isotope .ensures) in
+    omega (arith, moved)
 
 loop-again : tie.Need-loop-again Inv-loop μ-loop
 loop-again c =

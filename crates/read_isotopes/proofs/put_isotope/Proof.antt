@@ -37,7 +37,16 @@ same-length : tie.Need-same-length
 same-length c = search needs
 
 returns : tie.Need-returns
-returns c = put-then (put-as (c .before .before .before .before .before .before .before .before .before .before .before .before .before .before .before .before .before .before .before .before .before .put8 .ensures) (byte-kept _ (omega arith))) (put-then (put-as (c .before .before .before .before .before .before .before .before .before .before .before .before .before .before .before .before .before .put82 .ensures) (byte-kept _ (omega arith))) (put-then (c .before .before .before .before .before .before .before .before .before .before .before .before .put-le .ensures) (put-then (c .before .before .before .before .before .before .before .put-le2 .ensures) (put-as (c .before .before .put-le3 .ensures) (sym (append-nil (little 2 (c .before .before .before .before .before .before .before .before .before .before .before .before .before .before .before .before .before .before .before .before .before .before .before .before .args .x .element))))))))
+returns c =
+    let at-put-le2 = c .before .before .before .before .before .before .before in
+    let at-put-le = at-put-le2 .before .before .before .before .before in
+    let at-put82 = at-put-le .before .before .before .before .before in
+    let at-put8 = at-put82 .before .before .before .before in
+    let at-args = at-put8 .before .before .before in
+    put-then (put-as (at-put8 .put8 .ensures) (byte-kept _ (omega arith)))
+    (put-then (put-as (at-put82 .put82 .ensures) (byte-kept _ (omega arith)))
+    (put-then (at-put-le .put-le .ensures) (put-then (at-put-le2 .put-le2 .ensures)
+    (put-as (c .before .before .put-le3 .ensures) (sym (append-nil (little 2 (at-args .args .x .element))))))))
 
 pub put-isotope-spec : {M : Type 1} → statement M
 put-isotope-spec =

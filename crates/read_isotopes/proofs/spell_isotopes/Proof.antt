@@ -38,10 +38,29 @@ spell-isotope-requires : tie.Need-spell-isotope-requires Inv-loop μ-loop
 spell-isotope-requires c κs = search needs
 
 add-len : tie.Need-add-len Inv-loop μ-loop
-add-len c = omega (arith, c .before .before .before .before .before .before .before .before .before .before .before .before .before .before .good .1 .1 .0, moves (c .before .before .before .before .before .before .before .before .before .before .before .loop .inv .puts .passed) (c .before .before .before .before .before .before .before .before .before .before .rest .ensures) 0 0 (fault 0 0) (sym (c .before .before .before .before .before .before .before .before .before .begins-isotope .ensures) ∙ c .before .before .before .before .before .before .before .before .if1 .taken) (c .before .before .before .before .before .before .before .rest2 .ensures) (c .before .before .before .before .before .before .isotope .ensures))
+add-len c =
+    let at-isotope = c .before .before .before .before .before .before in
+    let at-rest2 = at-isotope .before in
+    let at-if1 = at-rest2 .before in
+    let at-begins-isotope = at-if1 .before in
+    let at-rest = at-begins-isotope .before in
+    let at-loop = at-rest .before in
+    let at-start = at-loop .before .before .before in
+    let moved = moves (at-loop .loop .inv .puts .passed) (at-rest .rest .ensures) 0 0 (fault 0 0)
+    (sym (at-begins-isotope .begins-isotope .ensures) ∙ at-if1 .if1 .taken) (at-rest2 .rest2 .ensures) (at-isotope .isotope .ensures) in
+    omega (arith, at-start .good .1 .1 .0, moved)
 
 loop-less : tie.Need-loop-less Inv-loop μ-loop
-loop-less c = omega (arith, moves (c .before .before .before .before .before .before .before .before .before .before .before .loop .inv .puts .passed) (c .before .before .before .before .before .before .before .before .before .before .rest .ensures) 0 0 (fault 0 0) (sym (c .before .before .before .before .before .before .before .before .before .begins-isotope .ensures) ∙ c .before .before .before .before .before .before .before .before .if1 .taken) (c .before .before .before .before .before .before .before .rest2 .ensures) (c .before .before .before .before .before .before .isotope .ensures))
+loop-less c =
+    let at-isotope = c .before .before .before .before .before .before in
+    let at-rest2 = at-isotope .before in
+    let at-if1 = at-rest2 .before in
+    let at-begins-isotope = at-if1 .before in
+    let at-rest = at-begins-isotope .before in
+    let at-loop = at-rest .before in
+    let moved = moves (at-loop .loop .inv .puts .passed) (at-rest .rest .ensures) 0 0 (fault 0 0)
+    (sym (at-begins-isotope .begins-isotope .ensures) ∙ at-if1 .if1 .taken) (at-rest2 .rest2 .ensures) (at-isotope .isotope .ensures) in
+    omega (arith, moved)
 
 loop-again : tie.Need-loop-again Inv-loop μ-loop
 loop-again c =

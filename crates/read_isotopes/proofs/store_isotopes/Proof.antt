@@ -35,13 +35,42 @@ put-isotope-requires : tie.Need-put-isotope-requires Inv-loop μ-loop
 put-isotope-requires c κs = search needs
 
 add-at : tie.Need-add-at Inv-loop μ-loop
-add-at c = omega (arith, moves (c .before .before .before .before .before .before .before .before .before .before .loop .inv .passed) (c .before .before .before .before .before .before .before .before .before .rest .ensures) 0 0 (fault 0 0) (sym (c .before .before .before .before .before .before .before .before .begins-isotope .ensures) ∙ c .before .before .before .before .before .before .before .if1 .taken) (c .before .before .before .before .before .before .rest2 .ensures) (c .before .before .before .before .before .isotope .ensures))
+add-at c =
+    let at-isotope = c .before .before .before .before .before in
+    let at-rest2 = at-isotope .before in
+    let at-if1 = at-rest2 .before in
+    let at-begins-isotope = at-if1 .before in
+    let at-rest = at-begins-isotope .before in
+    let at-loop = at-rest .before in
+    let at-start = at-loop .before .before .before in
+    let moved = moves (at-loop .loop .inv .passed) (at-rest .rest .ensures) 0 0 (fault 0 0)
+    (sym (at-begins-isotope .begins-isotope .ensures) ∙ at-if1 .if1 .taken) (at-rest2 .rest2 .ensures) (at-isotope .isotope .ensures) in
+    omega (arith, at-start .good .0, moved)
 
 add-n : tie.Need-add-n Inv-loop μ-loop
-add-n c = omega (arith, c .before .before .before .before .before .before .before .before .before .before .loop .inv .passed .few, moves (c .before .before .before .before .before .before .before .before .before .before .loop .inv .passed) (c .before .before .before .before .before .before .before .before .before .rest .ensures) 0 0 (fault 0 0) (sym (c .before .before .before .before .before .before .before .before .begins-isotope .ensures) ∙ c .before .before .before .before .before .before .before .if1 .taken) (c .before .before .before .before .before .before .rest2 .ensures) (c .before .before .before .before .before .isotope .ensures))
+add-n c =
+    let at-isotope = c .before .before .before .before .before in
+    let at-rest2 = at-isotope .before in
+    let at-if1 = at-rest2 .before in
+    let at-begins-isotope = at-if1 .before in
+    let at-rest = at-begins-isotope .before in
+    let at-loop = at-rest .before in
+    let at-start = at-loop .before .before .before in
+    let moved = moves (at-loop .loop .inv .passed) (at-rest .rest .ensures) 0 0 (fault 0 0)
+    (sym (at-begins-isotope .begins-isotope .ensures) ∙ at-if1 .if1 .taken) (at-rest2 .rest2 .ensures) (at-isotope .isotope .ensures) in
+    omega (arith, at-start .good .0, at-loop .loop .inv .passed .few, moved)
 
 loop-less : tie.Need-loop-less Inv-loop μ-loop
-loop-less c = omega (arith, moves (c .before .before .before .before .before .before .before .before .before .before .loop .inv .passed) (c .before .before .before .before .before .before .before .before .before .rest .ensures) 0 0 (fault 0 0) (sym (c .before .before .before .before .before .before .before .before .begins-isotope .ensures) ∙ c .before .before .before .before .before .before .before .if1 .taken) (c .before .before .before .before .before .before .rest2 .ensures) (c .before .before .before .before .before .isotope .ensures))
+loop-less c =
+    let at-isotope = c .before .before .before .before .before in
+    let at-rest2 = at-isotope .before in
+    let at-if1 = at-rest2 .before in
+    let at-begins-isotope = at-if1 .before in
+    let at-rest = at-begins-isotope .before in
+    let at-loop = at-rest .before in
+    let moved = moves (at-loop .loop .inv .passed) (at-rest .rest .ensures) 0 0 (fault 0 0)
+    (sym (at-begins-isotope .begins-isotope .ensures) ∙ at-if1 .if1 .taken) (at-rest2 .rest2 .ensures) (at-isotope .isotope .ensures) in
+    omega (arith, moved)
 
 loop-again : tie.Need-loop-again Inv-loop μ-loop
 loop-again c =
