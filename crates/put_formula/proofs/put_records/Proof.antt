@@ -43,12 +43,16 @@ loop-less c = search needs
 
 loop-again : tie.Need-loop-again Inv-loop μ-loop
 loop-again c =
-    let at-unit = c .before .before .before .before .before in
+    let at-put-record = c .before .before .before in
+    let at-unit = at-put-record .before .before in
     let at-rest = at-unit .before in
     let at-loop-test = at-rest .before in
     let at-loop = at-loop-test .before in
     let at-args = at-loop .before .before .before in
-    chain-turn (λ r. recordOf (unitOf r)) unitSize _ _ (at-loop .loop .from) (at-loop .loop .inv) (at-loop-test .loop-test .taken) (c .before .before .before .put-record .ensures) (ap recordOf (at-unit .unit .ensures ∙ ap unitOf (at-rest .rest .ensures))) (c .advance .ensures ∙ ap (λ (u : UnitRead). min (at-loop .loop .from + u .len) (length (at-args .args .s .now))) (at-unit .unit .ensures ∙ ap unitOf (at-rest .rest .ensures)))
+    chain-turn (λ r. recordOf (unitOf r)) unitSize _ _ (at-loop .loop .from) (at-loop .loop .inv) (at-loop-test .loop-test .taken)
+    (at-put-record .put-record .ensures) (ap recordOf (at-unit .unit .ensures ∙ ap unitOf (at-rest .rest .ensures)))
+    (c .advance .ensures ∙ ap (λ (u : UnitRead). min (at-loop .loop .from + u .len) (length (at-args .args .s .now)))
+    (at-unit .unit .ensures ∙ ap unitOf (at-rest .rest .ensures)))
 
 same-length : tie.Need-same-length Inv-loop μ-loop
 same-length c = c .before .loop .inv .same
