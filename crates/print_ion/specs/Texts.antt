@@ -2,13 +2,12 @@
 use Prim.Native.Nat.{ℕ}
 use Prim.Native.Char.{code}
 use mathlib.Core.List.{List, [], _∷_, _++_, map}
-use lib.ListN.{getD, drop}
+use lib.ListN.{getD}
 use Rattle.rules.specs.Bytes.{bytes}
 use Rattle.rules.specs.Ions.{seriesNames}
 use Rattle.rules.specs.Limits.{maxUnits, maxText}
 use Rattle.rules.specs.Layout.{textLengthAt, unitCountAt}
-use Rattle.slices.specs.Numbers.{u16At}
-use Rattle.print_parts.specs.Numbers.{upTo}
+use Rattle.print_parts.specs.Numbers.{numberAt}
 
 -- the name of a series, 1 to 13; nothing for another number
 unfoldable pub seriesPrinted : ℕ → List ℕ
@@ -27,7 +26,7 @@ bracketsPrinted w = enclosedPrinted (code "[") w (code "]")
 
 -- how many units, and how many bytes of text; no more than the limits allow
 unfoldable pub ionUnits : List ℕ → ℕ
-ionUnits s = upTo (u16At (drop unitCountAt s)) maxUnits
+ionUnits s = numberAt s unitCountAt maxUnits
 
 unfoldable pub ionBytes : List ℕ → ℕ
-ionBytes s = upTo (u16At (drop textLengthAt s)) maxText
+ionBytes s = numberAt s textLengthAt maxText

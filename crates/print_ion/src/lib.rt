@@ -17,7 +17,7 @@ use layout::UNIT_COUNT_AT;
 use limits::MAX_TEXT;
 use limits::MAX_UNITS;
 use numbers::put_number;
-use print_parts::at_most;
+use print_parts::number_at;
 use put_bytes::put_between;
 use put_bytes::put_run;
 use put_bytes::put8;
@@ -65,13 +65,13 @@ fn put_enclosed(out: &mut [u8], to: usize, first: u8, w: &[u8], last: u8) -> usi
 pub fn ion_units(s: &[u8]) -> usize
     ensures { λ r. ⌜ r ≡ ionUnits (now (s .entry)) ⌝ }
 {
-    at_most(u16_at(rest(s, UNIT_COUNT_AT)), MAX_UNITS)
+    number_at(s, UNIT_COUNT_AT, MAX_UNITS)
 }
 
 pub fn ion_bytes(s: &[u8]) -> usize
     ensures { λ r. ⌜ r ≡ ionBytes (now (s .entry)) ⌝ }
 {
-    at_most(u16_at(rest(s, TEXT_LENGTH_AT)), MAX_TEXT)
+    number_at(s, TEXT_LENGTH_AT, MAX_TEXT)
 }
 
 // ---- ions: s begins with the record, w is the text

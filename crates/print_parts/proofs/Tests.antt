@@ -16,6 +16,7 @@ use Rattle.slices.specs.Numbers.{u16At}
 use Rattle.put_formula.specs.Preferred.{symbolText, printedUnits}
 use Rattle.print_count.specs.Heads.{signBytes, countText, headText}
 use Rattle.slices.specs.Numbers.{u32At, u64At}
+use Rattle.print_parts.specs.Numbers.{numberAt}
 use Rattle.print_parts.specs.Changes.{changeUnits, changeName, contentPrinted, changePrinted}
 use Rattle.print_parts.specs.Isotopes.{whichPrinted, isotopePrinted}
 use Rattle.print_parts.specs.Tails.{chargePrinted, signedSize, signedPrinted, deviationPrinted, confidencePrinted}
@@ -23,20 +24,17 @@ use Rattle.print_parts.specs.Tails.{chargePrinted, signedSize, signedPri
 -- ---- losses and adduct items
 
 module _ (l : List ℕ) {kind : ℕ} (is : kind ≡ getD l contentKindAt 0) where
-  at-word : {t : List ℕ} {w n : ℕ} (m : ℕ) → t ≡ drop contentSizeAt l → w ≡ u16At t → n ≡ min w m → n ≡ min (u16At (drop contentSizeAt l)) m
-  at-word m e p q = q ∙ ap (λ (v : ℕ). min v m) (p ∙ ap u16At e)
-
-  pub units-some : {t : List ℕ} {w n : ℕ} → kind ≡ 0 → t ≡ drop contentSizeAt l → w ≡ u16At t → n ≡ min w maxUnits → n ≡ changeUnits l
+  pub units-some : {n : ℕ} → kind ≡ 0 → n ≡ numberAt l contentSizeAt maxUnits → n ≡ changeUnits l
   unfolding changeUnits
-  units-some h e p q = rw (eq-eqb (getD l contentKindAt 0) 0 (sym is ∙ h)) (at-word maxUnits e p q)
+  units-some h q = rw (eq-eqb (getD l contentKindAt 0) 0 (sym is ∙ h)) q
 
   pub units-none : (kind ≡ 0 → ⊥) → 0 ≡ changeUnits l
   unfolding changeUnits
   units-none h = rw (ne-eqb (getD l contentKindAt 0) 0 (λ z. h (is ∙ z)))
 
-  pub name-some : {t : List ℕ} {w n : ℕ} → kind ≡ 1 → t ≡ drop contentSizeAt l → w ≡ u16At t → n ≡ min w maxText → n ≡ changeName l
+  pub name-some : {n : ℕ} → kind ≡ 1 → n ≡ numberAt l contentSizeAt maxText → n ≡ changeName l
   unfolding changeName
-  name-some h e p q = rw (eq-eqb (getD l contentKindAt 0) 1 (sym is ∙ h)) (at-word maxText e p q)
+  name-some h q = rw (eq-eqb (getD l contentKindAt 0) 1 (sym is ∙ h)) q
 
   pub name-none : (kind ≡ 1 → ⊥) → 0 ≡ changeName l
   unfolding changeName

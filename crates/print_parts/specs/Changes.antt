@@ -14,14 +14,14 @@ use Rattle.slices.specs.Numbers.{u16At}
 use Rattle.put_formula.specs.Preferred.{printedUnits}
 use Rattle.print_count.specs.Heads.{signBytes, countText}
 use Rattle.print_parts.specs.declared.PrintedTo.{PrintedTo}
-use Rattle.print_parts.specs.Numbers.{upTo}
+use Rattle.print_parts.specs.Numbers.{numberAt}
 
 -- how many units, and how many bytes of a name; no more than the limits allow
 unfoldable pub changeUnits : List ℕ → ℕ
-changeUnits l = cond (eqb (getD l contentKindAt 0) 0) (upTo (u16At (drop contentSizeAt l)) maxUnits) 0
+changeUnits l = cond (eqb (getD l contentKindAt 0) 0) (numberAt l contentSizeAt maxUnits) 0
 
 unfoldable pub changeName : List ℕ → ℕ
-changeName l = cond (eqb (getD l contentKindAt 0) 1) (upTo (u16At (drop contentSizeAt l)) maxText) 0
+changeName l = cond (eqb (getD l contentKindAt 0) 1) (numberAt l contentSizeAt maxText) 0
 
 unfoldable pub contentPrinted : List ℕ → List ℕ → List ℕ → List ℕ
 contentPrinted l u t =

@@ -4,7 +4,7 @@
 ghost use mathlib.Core.Path.{_≡_};
 ghost use lib.ListN.{getD};
 ghost use Rattle.put_bytes.specs.Puts.{Put};
-ghost use Rattle.print_parts.specs.Numbers.{upTo};
+ghost use Rattle.print_parts.specs.Numbers.{upTo, numberAt};
 ghost use Rattle.slices.specs.Numbers.{u32At, u64At};
 ghost use Rattle.print_parts.specs.Changes.{changeUnits, changeName, contentPrinted, changePrinted, PrintsChanges};
 ghost use Rattle.print_parts.specs.Isotopes.{whichPrinted, isotopePrinted, isotopesPrinted};
@@ -66,6 +66,13 @@ pub fn at_most(n: u16, most: usize) -> usize
     m
 }
 
+// The number that stands in two bytes at a place, or the most that may be.
+pub fn number_at(s: &[u8], i: usize, most: usize) -> usize
+    ensures { λ r. ⌜ r ≡ numberAt (now (s .entry)) i most ⌝ }
+{
+    at_most(u16_at(rest(s, i)), most)
+}
+
 // ---- losses and adduct items
 
 // How many units a loss or an adduct item has.
@@ -73,7 +80,7 @@ pub fn units_of(l: &[u8]) -> usize
     ensures { λ r. ⌜ r ≡ changeUnits (now (l .entry)) ⌝ }
 {
     if byte_of(l, CONTENT_KIND_AT) == 0 {
-        return at_most(u16_at(rest(l, CONTENT_SIZE_AT)), MAX_UNITS);
+        return number_at(l, CONTENT_SIZE_AT, MAX_UNITS);
     }
     0
 }
@@ -83,7 +90,7 @@ pub fn name_of(l: &[u8]) -> usize
     ensures { λ r. ⌜ r ≡ changeName (now (l .entry)) ⌝ }
 {
     if byte_of(l, CONTENT_KIND_AT) == 1 {
-        return at_most(u16_at(rest(l, CONTENT_SIZE_AT)), MAX_TEXT);
+        return number_at(l, CONTENT_SIZE_AT, MAX_TEXT);
     }
     0
 }

@@ -3,13 +3,11 @@ use Prim.Native.Nat.{ℕ, zero, suc}
 use mathlib.Core.Bool.{cond}
 use mathlib.Core.List.{List, [], _++_}
 use lib.Dec.{eqb}
-use lib.ListN.{drop}
 use Rattle.rules.specs.Bytes.{bytes}
 use Rattle.rules.specs.Limits.{maxAnnotations}
 use Rattle.rules.specs.Layout.{annotationPairAt}
-use Rattle.slices.specs.Numbers.{u16At}
 use Rattle.store_sections.specs.Headers.{startsOf}
-use Rattle.print_parts.specs.Numbers.{upTo}
+use Rattle.print_parts.specs.Numbers.{numberAt}
 use Rattle.print_table.specs.Parts.{StoredParts, storedPartsAt, countsAt}
 use Rattle.print_table.specs.Annotations.{annotationPrinted, partsBehind}
 
@@ -23,4 +21,4 @@ annotationsPrinted i zero p = []
 annotationsPrinted i (suc n) p = commaPrinted i ++ (annotationPrinted p ++ annotationsPrinted (suc i) n (partsBehind p))
 
 unfoldable pub printedTable : List ℕ → List ℕ
-printedTable table = annotationsPrinted 0 (upTo (u16At (drop annotationPairAt table)) maxAnnotations) (storedPartsAt table (startsOf (countsAt table)))
+printedTable table = annotationsPrinted 0 (numberAt table annotationPairAt maxAnnotations) (storedPartsAt table (startsOf (countsAt table)))

@@ -29,6 +29,7 @@ use print_ion::ion_units;
 use print_ion::print_front;
 use print_parts::PrintedTo;
 use print_parts::at_most;
+use print_parts::number_at;
 use print_parts::print_changes;
 use print_parts::print_isotopes;
 use print_parts::print_tail;
@@ -148,7 +149,7 @@ pub fn counts_at(table: &[u8]) -> Counts
 pub fn print_table(out: &mut [u8], to: usize, table: &[u8]) -> usize
     ensures { λ r. ⌜ Put (now (out .entry)) to (printedTable (now (table .entry))) (now (out .exit)) r ⌝ }
 {
-    let n = at_most(u16_at(rest(table, ANNOTATION_PAIR_AT)), MAX_ANNOTATIONS);
+    let n = number_at(table, ANNOTATION_PAIR_AT, MAX_ANNOTATIONS);
     let mut c = starts(counts_at(table));
     let mut at = to;
     let mut i: usize = 0;

@@ -165,7 +165,11 @@ returns-9 c =
     put-as (c .before .before .print-unknown .ensures) (kind-is _ _ _ (at-byte-of .byte-of .ensures) ((at-first-of .first-of .ensures) ∙ ap (λ (n : ℕ). take n (at-args .args .t .now)) (at-ion-bytes .ion-bytes .ensures)) 9 (at-match .match .keys9))
 
 returns-10 : tie.Need-returns-10
-returns-10 c = put-as (put-none (omega arith) (omega arith)) (kind-none _ _ _ (c .before .byte-of .ensures) ((c .before .before .first-of .ensures) ∙ ap (λ (n : ℕ). take n (c .before .before .before .before .before .before .before .before .args .t .now)) (c .before .before .before .ion-bytes .ensures)) (none-to 9 _ (c .match .rest)))
+returns-10 c =
+    let at-ion-bytes = c .before .before .before in
+    let at-args = at-ion-bytes .before .before .before .before .before in
+    put-as (put-none (omega arith) (omega arith)) (kind-none _ _ _ (c .before .byte-of .ensures)
+    ((c .before .before .first-of .ensures) ∙ ap (λ (n : ℕ). take n (at-args .args .t .now)) (at-ion-bytes .ion-bytes .ensures)) (none-to 9 _ (c .match .rest)))
 
 pub print-ion-spec : {M : Type 1} → statement M
 print-ion-spec =

@@ -53,7 +53,8 @@ loop-less c = search needs
 
 loop-again : tie.Need-loop-again Inv-loop μ-loop
 loop-again c =
-    let at-units-of = c .before .before .before .before in
+    let at-advance = c .before .before .before in
+    let at-units-of = at-advance .before in
     let at-print-change = at-units-of .before .before .before in
     let at-rest3 = at-print-change .before in
     let at-rest2 = at-rest3 .before in
@@ -61,7 +62,9 @@ loop-again c =
     let at-loop-test = at-rest .before in
     let at-loop = at-loop-test .before in
     let at-args = at-loop .before .before .before .before .before in
-    changes-turn _ (at-args .args .l .now) (at-args .args .u .now) (at-args .args .t .now) (at-loop .loop .inv) (at-loop-test .loop-test .taken) (at-rest .rest .ensures) (at-rest2 .rest2 .ensures) (at-rest3 .rest3 .ensures) (at-print-change .print-change .ensures) (at-units-of .units-of .ensures) (c .before .before .before .advance .ensures) (c .before .before .name-of .ensures) (c .before .advance2 .ensures) (c .advance3 .ensures)
+    changes-turn _ (at-args .args .l .now) (at-args .args .u .now) (at-args .args .t .now) (at-loop .loop .inv) (at-loop-test .loop-test .taken)
+    (at-rest .rest .ensures) (at-rest2 .rest2 .ensures) (at-rest3 .rest3 .ensures) (at-print-change .print-change .ensures)
+    (at-units-of .units-of .ensures) (at-advance .advance .ensures) (c .before .before .name-of .ensures) (c .before .advance2 .ensures) (c .advance3 .ensures)
 
 same-length : tie.Need-same-length Inv-loop μ-loop
 same-length c = c .before .loop .inv .going .same

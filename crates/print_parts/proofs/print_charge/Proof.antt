@@ -25,7 +25,13 @@ same-length : tie.Need-same-length
 same-length c = search needs
 
 returns-2 : tie.Need-returns-2
-returns-2 c = put-as (put-then (c .before .before .before .before .before .before .put8 .ensures) (c .before .before .put-number .ensures)) (charge-more (c .before .before .before .before .before .before .before .before .before .before .before .before .args .s .now) (c .before .before .before .before .before .before .before .before .before .byte-of .ensures) (omega (arith, c .before .before .before .before .before .before .before .before .if1 .left)))
+returns-2 c =
+    let at-put8 = c .before .before .before .before .before .before in
+    let at-if1 = at-put8 .before .before in
+    let at-byte-of = at-if1 .before in
+    let at-args = at-byte-of .before .before .before in
+    put-as (put-then (at-put8 .put8 .ensures) (c .before .before .put-number .ensures))
+    (charge-more (at-args .args .s .now) (at-byte-of .byte-of .ensures) (omega (arith, at-if1 .if1 .left)))
 
 pub print-charge-spec : {M : Type 1} → statement M
 print-charge-spec =

@@ -61,7 +61,8 @@ cast-t19 c = search needs
 
 returns : tie.Need-returns
 returns c =
-    let at-u16-at4 = c .before .before .before .before in
+    let at-rest5 = c .before .before .before in
+    let at-u16-at4 = at-rest5 .before in
     let at-rest4 = at-u16-at4 .before in
     let at-u16-at3 = at-rest4 .before in
     let at-rest3 = at-u16-at3 .before in
@@ -69,7 +70,14 @@ returns c =
     let at-rest2 = at-u16-at2 .before in
     let at-u16-at = at-rest2 .before in
     let at-rest = at-u16-at .before in
-    λ i. record { annotations = ((at-u16-at .u16-at .ensures) ∙ ap u16At (at-rest .rest .ensures)) i; losses = ((at-u16-at2 .u16-at2 .ensures) ∙ ap u16At (at-rest2 .rest2 .ensures)) i; isotopes = ((at-u16-at3 .u16-at3 .ensures) ∙ ap u16At (at-rest3 .rest3 .ensures)) i; items = ((at-u16-at4 .u16-at4 .ensures) ∙ ap u16At (at-rest4 .rest4 .ensures)) i; units = ((c .before .before .u16-at5 .ensures) ∙ ap u16At (c .before .before .before .rest5 .ensures)) i; text = ((c .u16-at6 .ensures) ∙ ap u16At (c .before .rest6 .ensures)) i }
+    λ i. record {
+      annotations = ((at-u16-at .u16-at .ensures) ∙ ap u16At (at-rest .rest .ensures)) i;
+      losses = ((at-u16-at2 .u16-at2 .ensures) ∙ ap u16At (at-rest2 .rest2 .ensures)) i;
+      isotopes = ((at-u16-at3 .u16-at3 .ensures) ∙ ap u16At (at-rest3 .rest3 .ensures)) i;
+      items = ((at-u16-at4 .u16-at4 .ensures) ∙ ap u16At (at-rest4 .rest4 .ensures)) i;
+      units = ((c .before .before .u16-at5 .ensures) ∙ ap u16At (at-rest5 .rest5 .ensures)) i;
+      text = ((c .u16-at6 .ensures) ∙ ap u16At (c .before .rest6 .ensures)) i;
+    }
 
 pub counts-at-spec : {M : Type 1} → statement M
 counts-at-spec =

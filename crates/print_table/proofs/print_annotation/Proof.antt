@@ -32,7 +32,10 @@ ion-units-requires : tie.Need-ion-units-requires
 ion-units-requires c κs = search needs
 
 mul-advance : tie.Need-mul-advance
-mul-advance c = omega (arith, c .ion-units .ensures, few-units (c .before .before .before .before .before .before .before .before .before .before .rest .result .now))
+mul-advance c =
+    let at-front = c .before .before .before in
+    let at-start = at-front .before .before .before .before .before .before .before in
+    omega (arith, c .ion-units .ensures, few-units (at-start .rest .result .now))
 
 advance-requires : tie.Need-advance-requires
 advance-requires c κs = search needs
@@ -86,19 +89,40 @@ advance-requires-5 : tie.Need-advance-requires-5
 advance-requires-5 c κs = search needs
 
 mul-advance-2 : tie.Need-mul-advance-2
-mul-advance-2 c = omega (arith, c .before .before .before .before .before .before .before .before .before .before .before .before .before .before .before .before .before .before .before .before .before .before .before .before .before .before .before .before .before .before .before .before .before .before .before .before .before .before .row-of .ensures)
+mul-advance-2 c =
+    let at-tail = c .before .before .before in
+    let at-adduct = at-tail .before .before .before .before in
+    let at-isotopes = at-adduct .before .before .before .before .before .before .before in
+    let at-losses = at-isotopes .before .before .before .before .before .before .before in
+    let at-advance2 = at-losses .before .before .before .before .before in
+    let at-front = at-advance2 .before .before .before .before .before .before in
+    omega (arith, at-front .before .before .before .before .before .before .row-of .ensures)
 
 advance-requires-6 : tie.Need-advance-requires-6
 advance-requires-6 c κs = search needs
 
 mul-advance-3 : tie.Need-mul-advance-3
-mul-advance-3 c = omega (arith, c .before .before .before .before .before .before .before .before .before .before .before .before .before .before .before .before .before .before .before .before .before .before .before .before .before .before .before .before .before .before .before .before .before .before .before .before .before .before .row-of2 .ensures)
+mul-advance-3 c =
+    let at-tail = c .before .before .before .before in
+    let at-adduct = at-tail .before .before .before .before in
+    let at-isotopes = at-adduct .before .before .before .before .before .before .before in
+    let at-losses = at-isotopes .before .before .before .before .before .before .before in
+    let at-advance2 = at-losses .before .before .before .before .before in
+    let at-front = at-advance2 .before .before .before .before .before .before in
+    omega (arith, at-front .before .before .before .before .before .row-of2 .ensures)
 
 advance-requires-7 : tie.Need-advance-requires-7
 advance-requires-7 c κs = search needs
 
 mul-advance-4 : tie.Need-mul-advance-4
-mul-advance-4 c = omega (arith, c .before .before .before .before .before .before .before .before .before .before .before .before .before .before .before .before .before .before .before .before .before .before .before .before .before .before .before .before .before .before .before .before .before .before .before .before .before .before .row-of3 .ensures)
+mul-advance-4 c =
+    let at-tail = c .before .before .before .before .before in
+    let at-adduct = at-tail .before .before .before .before in
+    let at-isotopes = at-adduct .before .before .before .before .before .before .before in
+    let at-losses = at-isotopes .before .before .before .before .before .before .before in
+    let at-advance2 = at-losses .before .before .before .before .before in
+    let at-front = at-advance2 .before .before .before .before .before .before in
+    omega (arith, at-front .before .before .before .before .row-of3 .ensures)
 
 advance-requires-8 : tie.Need-advance-requires-8
 advance-requires-8 c κs = search needs
@@ -111,35 +135,45 @@ advance-requires-10 c κs = search needs
 
 same-length : tie.Need-same-length
 same-length c =
-    let at-way = c .before .before .before .before .before .before .before .before in
-    let tail = at-way in
-    let adduct = tail .before .before .before .before in
-    let isotopes = adduct .before .before .before .before .before .before .before in
-    let losses = isotopes .before .before .before .before .before .before .before in
-    let front = losses .before .before .before .before .before .before .before .before .before .before .before in
-    put-length (put-then (front .print-front .ensures) (put-then (losses .print-changes .ensures .put) (put-then (isotopes .print-isotopes .ensures) (put-then (adduct .print-adduct .ensures .put) (tail .print-tail .ensures)))))
+    let at-advance6 = c .before .before .before .before in
+    let at-tail = at-advance6 .before .before .before .before in
+    let at-adduct = at-tail .before .before .before .before in
+    let at-isotopes = at-adduct .before .before .before .before .before .before .before in
+    let at-losses = at-isotopes .before .before .before .before .before .before .before in
+    let at-advance2 = at-losses .before .before .before .before .before in
+    let at-front = at-advance2 .before .before .before .before .before .before in
+    put-length (put-then (at-front .print-front .ensures) (put-then (at-losses .print-changes .ensures .put)
+    (put-then (at-isotopes .print-isotopes .ensures) (put-then (at-adduct .print-adduct .ensures .put) (at-tail .print-tail .ensures)))))
 
 returns : tie.Need-returns
 returns c =
     let at-advance6 = c .before .before .before .before in
     let at-advance5 = at-advance6 .before in
-    let at-way = at-advance5 .before .before .before in
-    let tail = at-way in
-    let adduct = tail .before .before .before .before in
-    let isotopes = adduct .before .before .before .before .before .before .before in
-    let losses = isotopes .before .before .before .before .before .before .before in
-    let front = losses .before .before .before .before .before .before .before .before .before .before .before in
-    let start = front .before .before .before .before .before .before .before in
-    annotation-printed (start .before .before .before .args .table .now) (start .before .before .before .args .c)
-    (start .rest .ensures) (front .before .before .before .before .before .before .row-of .ensures) (front .before .before .before .before .before .row-of2 .ensures) (front .before .before .before .before .row-of3 .ensures)
-    (front .before .before .rest2 .ensures) (front .before .rest3 .ensures) (front .print-front .ensures)
-    (losses .before .before .before .before .before .before .before .before .ion-units .ensures) (losses .before .before .before .before .before .before .before .advance .ensures) (losses .before .before .before .before .before .before .ion-bytes .ensures) (losses .before .before .before .before .before .advance2 .ensures)
-    (losses .before .before .before .rest4 .ensures) (losses .before .before .rest5 .ensures) (losses .before .rest6 .ensures) (losses .print-changes .ensures)
-    (isotopes .before .before .before .before .advance3 .ensures) (isotopes .before .before .before .advance4 .ensures)
-    (isotopes .before .rest7 .ensures) (isotopes .print-isotopes .ensures)
-    (adduct .before .before .before .rest8 .ensures) (adduct .before .before .rest9 .ensures) (adduct .before .rest10 .ensures) (adduct .print-adduct .ensures)
-    (tail .print-tail .ensures)
-    (at-advance5 .advance5 .ensures) (at-advance6 .advance6 .ensures) (c .before .before .before .advance7 .ensures) (c .before .before .advance8 .ensures) (c .before .advance9 .ensures) (c .advance10 .ensures)
+    let at-tail = at-advance5 .before .before .before in
+    let at-adduct = at-tail .before .before .before .before in
+    let at-isotopes = at-adduct .before .before .before .before .before .before .before in
+    let at-losses = at-isotopes .before .before .before .before .before .before .before in
+    let at-advance2 = at-losses .before .before .before .before .before in
+    let at-ion-bytes = at-advance2 .before in
+    let at-advance = at-ion-bytes .before in
+    let at-ion-units = at-advance .before in
+    let at-front = at-ion-units .before .before .before in
+    let at-row-of3 = at-front .before .before .before .before in
+    let at-row-of2 = at-row-of3 .before in
+    let at-row-of = at-row-of2 .before in
+    let at-start = at-row-of .before in
+    let at-args = at-start .before .before .before in
+    annotation-printed (at-args .args .table .now) (at-args .args .c)
+    (at-start .rest .ensures) (at-row-of .row-of .ensures) (at-row-of2 .row-of2 .ensures) (at-row-of3 .row-of3 .ensures)
+    (at-front .before .before .rest2 .ensures) (at-front .before .rest3 .ensures) (at-front .print-front .ensures)
+    (at-ion-units .ion-units .ensures) (at-advance .advance .ensures) (at-ion-bytes .ion-bytes .ensures) (at-advance2 .advance2 .ensures)
+    (at-losses .before .before .before .rest4 .ensures) (at-losses .before .before .rest5 .ensures) (at-losses .before .rest6 .ensures) (at-losses .print-changes .ensures)
+    (at-isotopes .before .before .before .before .advance3 .ensures) (at-isotopes .before .before .before .advance4 .ensures)
+    (at-isotopes .before .rest7 .ensures) (at-isotopes .print-isotopes .ensures)
+    (at-adduct .before .before .before .rest8 .ensures) (at-adduct .before .before .rest9 .ensures) (at-adduct .before .rest10 .ensures) (at-adduct .print-adduct .ensures)
+    (at-tail .print-tail .ensures)
+    (at-advance5 .advance5 .ensures) (at-advance6 .advance6 .ensures) (c .before .before .before .advance7 .ensures) (c .before .before .advance8 .ensures)
+    (c .before .advance9 .ensures) (c .advance10 .ensures)
 
 pub print-annotation-spec : {M : Type 1} → statement M
 print-annotation-spec =
