@@ -33,22 +33,69 @@ units-in-requires : tie.Need-units-in-requires Inv-loop μ-loop
 units-in-requires c κs = search needs
 
 add-units : tie.Need-add-units Inv-loop μ-loop
-add-units c = omega (arith, moves (c .before .before .before .before .before .before .before .loop .inv) (c .before .before .before .before .before .before .rest .ensures) (sym (c .before .before .before .before .before .begins-change .ensures) ∙ c .before .before .before .before .if1 .taken) (c .before .before .before .rest2 .ensures) (c .before .before .read-change .ensures) .inside, moves (c .before .before .before .before .before .before .before .loop .inv) (c .before .before .before .before .before .before .rest .ensures) (sym (c .before .before .before .before .before .begins-change .ensures) ∙ c .before .before .before .before .if1 .taken) (c .before .before .before .rest2 .ensures) (c .before .before .read-change .ensures) .held, c .units-in .ensures)
+add-units c =
+    let at-rest2 = c .before .before .before in
+    let at-if1 = at-rest2 .before in
+    let at-begins-change = at-if1 .before in
+    let at-rest = at-begins-change .before in
+    let at-loop = at-rest .before in
+    let moved = moves (at-loop .loop .inv) (at-rest .rest .ensures) (sym (at-begins-change .begins-change .ensures) ∙ at-if1 .if1 .taken)
+    (at-rest2 .rest2 .ensures) (c .before .before .read-change .ensures) in
+    omega (arith, moved .inside, moved .held, c .units-in .ensures)
 
 text-in-requires : tie.Need-text-in-requires Inv-loop μ-loop
 text-in-requires c κs = search needs
 
 add-text : tie.Need-add-text Inv-loop μ-loop
-add-text c = omega (arith, moves (c .before .before .before .before .before .before .before .before .loop .inv) (c .before .before .before .before .before .before .before .rest .ensures) (sym (c .before .before .before .before .before .before .begins-change .ensures) ∙ c .before .before .before .before .before .if1 .taken) (c .before .before .before .before .rest2 .ensures) (c .before .before .before .read-change .ensures) .inside, moves (c .before .before .before .before .before .before .before .before .loop .inv) (c .before .before .before .before .before .before .before .rest .ensures) (sym (c .before .before .before .before .before .before .begins-change .ensures) ∙ c .before .before .before .before .before .if1 .taken) (c .before .before .before .before .rest2 .ensures) (c .before .before .before .read-change .ensures) .held, c .text-in .ensures)
+add-text c =
+    let at-read-change = c .before .before .before in
+    let at-rest2 = at-read-change .before in
+    let at-if1 = at-rest2 .before in
+    let at-begins-change = at-if1 .before in
+    let at-rest = at-begins-change .before in
+    let at-loop = at-rest .before in
+    let at-start = at-loop .before .before in
+    let moved = moves (at-loop .loop .inv) (at-rest .rest .ensures) (sym (at-begins-change .begins-change .ensures) ∙ at-if1 .if1 .taken)
+    (at-rest2 .rest2 .ensures) (at-read-change .read-change .ensures) in
+    omega (arith, at-start .good .1 .0, moved .inside, moved .held, c .text-in .ensures)
 
 add-at : tie.Need-add-at Inv-loop μ-loop
-add-at c = omega (arith, moves (c .before .before .before .before .before .before .before .before .before .loop .inv) (c .before .before .before .before .before .before .before .before .rest .ensures) (sym (c .before .before .before .before .before .before .before .begins-change .ensures) ∙ c .before .before .before .before .before .before .if1 .taken) (c .before .before .before .before .before .rest2 .ensures) (c .before .before .before .before .read-change .ensures) .inside)
+add-at c =
+    let at-read-change = c .before .before .before .before in
+    let at-rest2 = at-read-change .before in
+    let at-if1 = at-rest2 .before in
+    let at-begins-change = at-if1 .before in
+    let at-rest = at-begins-change .before in
+    let at-loop = at-rest .before in
+    let at-start = at-loop .before .before in
+    let moved = moves (at-loop .loop .inv) (at-rest .rest .ensures) (sym (at-begins-change .begins-change .ensures) ∙ at-if1 .if1 .taken)
+    (at-rest2 .rest2 .ensures) (at-read-change .read-change .ensures) in
+    omega (arith, at-start .good .1 .0, moved .inside)
 
 add-n : tie.Need-add-n Inv-loop μ-loop
-add-n c = omega (arith, c .before .before .before .before .before .before .before .before .before .loop .inv .few, moves (c .before .before .before .before .before .before .before .before .before .loop .inv) (c .before .before .before .before .before .before .before .before .rest .ensures) (sym (c .before .before .before .before .before .before .before .begins-change .ensures) ∙ c .before .before .before .before .before .before .if1 .taken) (c .before .before .before .before .before .rest2 .ensures) (c .before .before .before .before .read-change .ensures) .some, moves (c .before .before .before .before .before .before .before .before .before .loop .inv) (c .before .before .before .before .before .before .before .before .rest .ensures) (sym (c .before .before .before .before .before .before .before .begins-change .ensures) ∙ c .before .before .before .before .before .before .if1 .taken) (c .before .before .before .before .before .rest2 .ensures) (c .before .before .before .before .read-change .ensures) .inside)
+add-n c =
+    let at-read-change = c .before .before .before .before in
+    let at-rest2 = at-read-change .before in
+    let at-if1 = at-rest2 .before in
+    let at-begins-change = at-if1 .before in
+    let at-rest = at-begins-change .before in
+    let at-loop = at-rest .before in
+    let at-start = at-loop .before .before in
+    let moved = moves (at-loop .loop .inv) (at-rest .rest .ensures) (sym (at-begins-change .begins-change .ensures) ∙ at-if1 .if1 .taken)
+    (at-rest2 .rest2 .ensures) (at-read-change .read-change .ensures) in
+    omega (arith, at-start .good .1 .0, at-loop .loop .inv .few, moved .some, moved .inside)
 
 loop-less : tie.Need-loop-less Inv-loop μ-loop
-loop-less c = omega (arith, moves (c .before .before .before .before .before .before .before .before .before .loop .inv) (c .before .before .before .before .before .before .before .before .rest .ensures) (sym (c .before .before .before .before .before .before .before .begins-change .ensures) ∙ c .before .before .before .before .before .before .if1 .taken) (c .before .before .before .before .before .rest2 .ensures) (c .before .before .before .before .read-change .ensures) .some, moves (c .before .before .before .before .before .before .before .before .before .loop .inv) (c .before .before .before .before .before .before .before .before .rest .ensures) (sym (c .before .before .before .before .before .before .before .begins-change .ensures) ∙ c .before .before .before .before .before .before .if1 .taken) (c .before .before .before .before .before .rest2 .ensures) (c .before .before .before .before .read-change .ensures) .inside)
+loop-less c =
+    let at-read-change = c .before .before .before .before in
+    let at-rest2 = at-read-change .before in
+    let at-if1 = at-rest2 .before in
+    let at-begins-change = at-if1 .before in
+    let at-rest = at-begins-change .before in
+    let at-loop = at-rest .before in
+    let moved = moves (at-loop .loop .inv) (at-rest .rest .ensures) (sym (at-begins-change .begins-change .ensures) ∙ at-if1 .if1 .taken)
+    (at-rest2 .rest2 .ensures) (at-read-change .read-change .ensures) in
+    omega (arith, moved .some, moved .inside)
 
 loop-again : tie.Need-loop-again Inv-loop μ-loop
 loop-again c =
