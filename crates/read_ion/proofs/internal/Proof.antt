@@ -54,7 +54,8 @@ with-text-requires c κs = search needs
 
 returns : tie.Need-returns
 returns c =
-    let at-check-number2 = c .before .before .before .before in
+    let at-advance3 = c .before .before .before in
+    let at-check-number2 = at-advance3 .before in
     let at-minus-or-zero4 = at-check-number2 .before in
     let at-minus-or-zero3 = at-minus-or-zero4 .before in
     let at-read-number2 = at-minus-or-zero3 .before in
@@ -67,7 +68,11 @@ returns c =
     let at-read-number = at-minus-or-zero .before in
     let at-rest = at-read-number .before in
     let at-args = at-rest .before .before in
-    internal-is (at-args .args .s .now) (at-args .args .end) (at-args .args .f) (at-rest .rest .ensures) (at-read-number .read-number .ensures) (at-minus-or-zero .minus-or-zero .ensures) (at-minus-or-zero2 .minus-or-zero2 .ensures) (at-check-number .check-number .ensures) (at-advance .advance .ensures) (at-advance2 .advance2 .ensures) (at-rest2 .rest2 .ensures) (at-read-number2 .read-number2 .ensures) (at-minus-or-zero3 .minus-or-zero3 .ensures) (at-minus-or-zero4 .minus-or-zero4 .ensures) (at-check-number2 .check-number2 .ensures) (c .before .before .before .advance3 .ensures) (c .before .before .rest3 .ensures) (c .before .text-in-braces .ensures) (c .with-text .ensures)
+    internal-is (at-args .args .s .now) (at-args .args .end) (at-args .args .f) (at-rest .rest .ensures) (at-read-number .read-number .ensures)
+    (at-minus-or-zero .minus-or-zero .ensures) (at-minus-or-zero2 .minus-or-zero2 .ensures) (at-check-number .check-number .ensures)
+    (at-advance .advance .ensures) (at-advance2 .advance2 .ensures) (at-rest2 .rest2 .ensures) (at-read-number2 .read-number2 .ensures)
+    (at-minus-or-zero3 .minus-or-zero3 .ensures) (at-minus-or-zero4 .minus-or-zero4 .ensures) (at-check-number2 .check-number2 .ensures)
+    (at-advance3 .advance3 .ensures) (c .before .before .rest3 .ensures) (c .before .text-in-braces .ensures) (c .with-text .ensures)
 
 pub internal-spec : {M : Type 1} → statement M
 internal-spec =
