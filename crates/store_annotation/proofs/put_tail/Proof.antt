@@ -43,15 +43,18 @@ same-length c = search needs
 returns : tie.Need-returns
 unfolding tailBytes
 returns c =
-    let at-way = c .before .before .before .before .before .before .before in
-    let at-put-le2 = at-way in
+    let at-value2 = c .before .before .before in
+    let at-put-le2 = at-value2 .before .before .before .before in
     let at-signed = at-put-le2 .before in
     let at-value = at-signed .before in
     let at-put8 = at-value .before .before .before .before in
     let at-put-kind2 = at-put8 .before .before .before .before in
     let at-put-kind = at-put-kind2 .before .before .before .before in
     let at-put-le = at-put-kind .before .before .before .before in
-    put-then (at-put-le .put-le .ensures) (put-then (at-put-kind .put-kind .ensures) (put-then (at-put-kind2 .put-kind2 .ensures) (put-then (at-put8 .put8 .ensures) (put-then (put-as (at-put-le2 .put-le2 .ensures) (ap (little 8) (at-signed .signed .ensures ∙ ap (signedOf _) (at-value .value .ensures)))) (put-as (c .before .before .put-le3 .ensures) (ap (little 4) (c .before .before .before .value2 .ensures)))))))
+    put-then (at-put-le .put-le .ensures) (put-then (at-put-kind .put-kind .ensures)
+    (put-then (at-put-kind2 .put-kind2 .ensures) (put-then (at-put8 .put8 .ensures)
+    (put-then (put-as (at-put-le2 .put-le2 .ensures) (ap (little 8) (at-signed .signed .ensures ∙ ap (signedOf _) (at-value .value .ensures))))
+    (put-as (c .before .before .put-le3 .ensures) (ap (little 4) (at-value2 .value2 .ensures)))))))
 
 pub put-tail-spec : {M : Type 1} → statement M
 put-tail-spec =

@@ -66,7 +66,8 @@ same-length c =
 
 returns : tie.Need-returns
 returns c =
-    let at-put-annotation = c .before .before .before .before .before .before in
+    let at-rest5 = c .before .before .before in
+    let at-put-annotation = at-rest5 .before .before .before in
     let at-cursor2 = at-put-annotation .before in
     let at-store-adduct = at-cursor2 .before .before .before .before .before in
     let at-rest4 = at-store-adduct .before in
@@ -78,7 +79,10 @@ returns c =
     let at-rest2 = at-store-changes .before .before in
     let at-put-ion = at-rest2 .before .before .before in
     let at-rest = at-put-ion .before in
-    annotation-stored (at-rest .rest .ensures) (at-put-ion .put-ion .ensures) (at-rest2 .rest2 .ensures) (at-store-changes .store-changes .ensures) (at-rest3 .rest3 .ensures) (at-cursor .cursor .ensures) (at-store-isotopes .store-isotopes .ensures) (at-with-cursor .with-cursor .ensures) (at-rest4 .rest4 .ensures) (at-store-adduct .store-adduct .ensures) (at-cursor2 .cursor2 .ensures) (at-put-annotation .put-annotation .ensures) (c .with-cursor2 .ensures) (c .before .before .before .rest5 .ensures) (c .before .before .rest6 .ensures) (c .before .minus-or-zero .ensures)
+    annotation-stored (at-rest .rest .ensures) (at-put-ion .put-ion .ensures) (at-rest2 .rest2 .ensures) (at-store-changes .store-changes .ensures)
+    (at-rest3 .rest3 .ensures) (at-cursor .cursor .ensures) (at-store-isotopes .store-isotopes .ensures) (at-with-cursor .with-cursor .ensures)
+    (at-rest4 .rest4 .ensures) (at-store-adduct .store-adduct .ensures) (at-cursor2 .cursor2 .ensures) (at-put-annotation .put-annotation .ensures)
+    (c .with-cursor2 .ensures) (at-rest5 .rest5 .ensures) (c .before .before .rest6 .ensures) (c .before .minus-or-zero .ensures)
 
 pub store-spec : {M : Type 1} → statement M
 store-spec =
