@@ -30,12 +30,15 @@ minus-or-zero-requires c κs = search needs
 
 returns : tie.Need-returns
 returns c =
-    let at-own-counts = c .before .before .before .before in
+    let at-plus = c .before .before .before in
+    let at-own-counts = at-plus .before in
     let at-rest2 = at-own-counts .before in
     let at-rest = at-rest2 .before in
     let at-share-of = at-rest .before in
-    let at-args = at-share-of .before .before .before .before .before .before .before .before .before .before in
-    measure-is (at-args .args .s .now) (at-args .args .p) (at-share-of .share-of .ensures) (at-rest .rest .ensures) (at-rest2 .rest2 .ensures) (at-own-counts .own-counts .ensures) (c .before .before .before .plus .ensures) (c .before .before .keeps-rules .ensures) (c .before .rest3 .ensures) (c .minus-or-zero .ensures)
+    let at-n = at-share-of .before .before .before .before .before in
+    let at-args = at-n .before .before .before .before .before in
+    measure-is (at-args .args .s .now) (at-args .args .p) (at-share-of .share-of .ensures) (at-rest .rest .ensures) (at-rest2 .rest2 .ensures)
+    (at-own-counts .own-counts .ensures) (at-plus .plus .ensures) (c .before .before .keeps-rules .ensures) (c .before .rest3 .ensures) (c .minus-or-zero .ensures)
 
 pub measure-spec : {M : Type 1} → statement M
 measure-spec =
