@@ -44,7 +44,15 @@ loop-less : tie.Need-loop-less Inv-loop μ-loop
 loop-less c = search needs
 
 loop-again : tie.Need-loop-again Inv-loop μ-loop
-loop-again c = (omega arith, more (c .before .before .before .before .before .before .before .before .loop .inv .1) (c .before .before .put8 .ensures) (pair-more (c .before .before .before .before .before .before .before .before .before .before .before .args .s .now) (c .before .before .before .before .before .before .before .before .loop .i) (c .before .before .before .before .before .before .before .loop-test .taken) (c .before .before .before .byte-of .ensures)))
+loop-again c =
+    let at-byte-of = c .before .before .before in
+    let at-loop-test = at-byte-of .before .before .before .before in
+    let at-loop = at-loop-test .before in
+    let at-args = at-loop .before .before .before in (
+      omega arith,
+      more (at-loop .loop .inv .1) (c .before .before .put8 .ensures)
+          (pair-more (at-args .args .s .now) (at-loop .loop .i) (at-loop-test .loop-test .taken) (at-byte-of .byte-of .ensures)),
+    )
 
 same-length : tie.Need-same-length Inv-loop μ-loop
 same-length c = search needs
