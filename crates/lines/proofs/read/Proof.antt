@@ -27,11 +27,14 @@ same-length c = search needs
 
 returns : tie.Need-returns
 returns c =
-    let line = c .before .before .before .before .before .before .before .before .args .line .now in
-    let room = length (c .before .before .before .before .before .before .before .before .args .out .now) in
-    subst (Reads line room) (sym (c .before .before .read-by .ensures ∙ ap (λ (m : List ℕ). readOf (scannedBy m line) line room) (c .before .before .before .before .before .machine .ensures)))
+    let at-machine = c .before .before .before .before .before in
+    let at-shared-slice-known = at-machine .before .before in
+    let at-args = at-shared-slice-known .before in
+    let line = at-args .args .line .now in
+    let room = length (at-args .args .out .now) in
+    subst (Reads line room) (sym (c .before .before .read-by .ensures ∙ ap (λ (m : List ℕ). readOf (scannedBy m line) line room) (at-machine .machine .ensures)))
     (read-right line room (omega arith) (scannedBy machineBytes line)
-    (by-machine line (λ i h. c .before .before .before .before .before .before .before .shared-slice-known .given i .fits) (omega arith)))
+    (by-machine line (λ i h. at-shared-slice-known .shared-slice-known .given i .fits) (omega arith)))
 
 pub read-spec : {M : Type 1} → statement M
 read-spec =

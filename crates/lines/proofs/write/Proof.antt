@@ -28,9 +28,11 @@ same-length c = search needs
 
 returns : tie.Need-returns
 returns c =
-    let table = c .before .before .before .before .before .before .before .before .args .table .now in
-    let room = length (c .before .before .before .before .before .before .before .before .args .out .now) in
-    subst (Writes table room) (sym (c .before .before .write-by .ensures ∙ ap (λ (m : List ℕ). writtenOf m table room) (c .before .before .before .before .before .machine .ensures)))
+    let at-machine = c .before .before .before .before .before in
+    let at-args = at-machine .before .before .before in
+    let table = at-args .args .table .now in
+    let room = length (at-args .args .out .now) in
+    subst (Writes table room) (sym (c .before .before .write-by .ensures ∙ ap (λ (m : List ℕ). writtenOf m table room) (at-machine .machine .ensures)))
     (write-right machineBytes table room (λ l b h. by-machine l (bytes-each l b) (omega arith)))
 
 pub write-spec : {M : Type 1} → statement M
