@@ -48,8 +48,7 @@ same-length c = search needs
 
 returns : tie.Need-returns
 returns c =
-    let at-way = c .before .before .before .before .before .before in
-    let at-put-field3 = at-way in
+    let at-put-field3 = c .before .before .before .before .before .before in
     let at-places = at-put-field3 .before in
     let at-put-field2 = at-places .before .before .before .before in
     let at-value = at-put-field2 .before in
@@ -57,7 +56,9 @@ returns c =
     let at-put-field = at-made .before .before .before .before in
     let at-read-decimal = at-put-field .before .before in
     let at-args = at-read-decimal .before .before .before in
-    put-as (put-then (at-put-field .put-field .ensures) (put-then (put-as (at-put-field2 .put-field2 .ensures) (ap field (at-value .value .ensures))) (put-then (put-as (at-put-field3 .put-field3 .ensures) (ap field (at-places .places .ensures))) (c .before .before .put-decimal .ensures)))) (decimal-fits _ (at-args .args .text .now) (at-read-decimal .read-decimal .ensures) (at-made .made .given .1))
+    put-as (put-then (at-put-field .put-field .ensures) (put-then (put-as (at-put-field2 .put-field2 .ensures) (ap field (at-value .value .ensures)))
+    (put-then (put-as (at-put-field3 .put-field3 .ensures) (ap field (at-places .places .ensures))) (c .before .before .put-decimal .ensures))))
+    (decimal-fits _ (at-args .args .text .now) (at-read-decimal .read-decimal .ensures) (at-made .made .given .1))
 
 same-length-2 : tie.Need-same-length-2
 same-length-2 c = search needs
