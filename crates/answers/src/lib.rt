@@ -3,10 +3,12 @@
 ghost use mathlib.Core.Path.{_≡_};
 ghost use lib.ListN.{length};
 ghost use Rattle.answers.specs.Delivered.{answered, refusedOf, lineOver, closedOver};
+ghost use Rattle.answers.specs.Behind.{capped};
 use limits::MAX_LINE;
 use put_bytes::clear;
 use put_bytes::clear_from;
 use put_bytes::put_run;
+use slices::advance;
 
 // The number of refusal, or 0; its place, or the bytes needed; and how many bytes of the output were written.
 pub struct Answer {
@@ -51,4 +53,11 @@ pub fn write_line(line: &[u8], out: &mut [u8]) -> Answer
 {
     let n = put_run(out, 0, line);
     close_line(out, n)
+}
+
+// a + b, or the largest place there is: what an answer tells of a part is moved by where the part begins.
+pub fn plus(a: usize, b: usize) -> usize
+    ensures { λ r. ⌜ r ≡ capped a b ⌝ }
+{
+    advance(a, b, usize::MAX)
 }

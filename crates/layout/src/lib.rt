@@ -4,6 +4,7 @@
 ghost use mathlib.Core.Path.{_≡_};
 ghost use mathlib.Core.List.{[], _∷_};
 ghost use Rattle.rules.specs.Stored.{headerSize};
+ghost use Rattle.rules.specs.Rows.{rowHeadSize};
 ghost use Rattle.rules.specs.Editions.{editionNumber};
 ghost use Rattle.layout.specs.Editions.{editionOf};
 ghost use Rattle.rules.specs.Layout.{annotationWidth, lossWidth, isotopeWidth, itemWidth, unitWidth};
@@ -41,6 +42,9 @@ pub const ISOTOPE_SIZE: usize = 8;
 pub const ITEM_SIZE: usize = 6;
 
 pub const UNIT_SIZE: usize = 6;
+
+// Of a stored row, the bytes before its table (document 02, M-101).
+pub const ROW_HEAD_SIZE: usize = 20;
 
 // ---- where the fields of an annotation stand
 
@@ -146,8 +150,8 @@ pub const TEXT_SECTION: usize = 5;
 
 // ---- that these are the definitions' numbers
 
-fn sizes() -> [usize; 6]
-    ensures { λ r. ⌜ r ≡ headerSize ∷ annotationWidth ∷ lossWidth ∷ isotopeWidth ∷ itemWidth ∷ unitWidth ∷ [] ⌝ }
+fn sizes() -> [usize; 7]
+    ensures { λ r. ⌜ r ≡ headerSize ∷ annotationWidth ∷ lossWidth ∷ isotopeWidth ∷ itemWidth ∷ unitWidth ∷ rowHeadSize ∷ [] ⌝ }
 {
     [
         HEADER_SIZE,
@@ -156,6 +160,7 @@ fn sizes() -> [usize; 6]
         ISOTOPE_SIZE,
         ITEM_SIZE,
         UNIT_SIZE,
+        ROW_HEAD_SIZE,
     ]
 }
 

@@ -6,6 +6,7 @@ ghost use Rattle.rules.specs.Limits.{maxLine, maxAnnotations, maxLosses, maxIso
 ghost use Rattle.rules.specs.Limits.{maxPosition, maxCount, maxCharge, maxPlaces, maxDigits};
 ghost use Rattle.rules.specs.House.{one};
 ghost use Rattle.rules.specs.Largest.{maxAnyTable, maxTable};
+ghost use Rattle.rules.specs.RowAnswers.{maxRow};
 
 // The bytes of a line.
 pub const MAX_LINE: usize = 4096;
@@ -52,6 +53,9 @@ pub const MAX_ANY_TABLE: usize = 43596;
 // The bytes of the table of a line that is read: it has no texts but the line's own.
 pub const MAX_TABLE: usize = 21340;
 
+// The bytes of a row of a peak list, its line feed not counted (document 02, M-101).
+pub const MAX_ROW: usize = 4160;
+
 // ---- that these are the definitions' numbers
 
 fn how_many() -> [usize; 7]
@@ -86,8 +90,8 @@ fn how_sure() -> u64
     ONE
 }
 
-fn how_many_bytes() -> [usize; 2]
-    ensures { λ r. ⌜ r ≡ maxAnyTable ∷ maxTable ∷ [] ⌝ }
+fn how_many_bytes() -> [usize; 3]
+    ensures { λ r. ⌜ r ≡ maxAnyTable ∷ maxTable ∷ maxRow ∷ [] ⌝ }
 {
-    [MAX_ANY_TABLE, MAX_TABLE]
+    [MAX_ANY_TABLE, MAX_TABLE, MAX_ROW]
 }

@@ -7,7 +7,7 @@ use Rattle.rules.proofs.WritesOne as rules
 use Rattle.shape.proofs.Unambiguous as shape
 use Rattle.answers.specs.declared.Answer.{Answer}
 use Rattle.answers.specs.Delivered.{answered}
-use Rattle.read_line.proofs.One.{answered-one}
+use Rattle.answers.proofs.One.{answered-one}
 use Rattle.lines.specs.Relabels.{Relabels}
 use Rattle.lines.proofs.Back as back
 

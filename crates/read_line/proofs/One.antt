@@ -1,5 +1,5 @@
 -- Two answers that meet a contract of this crate are equal. Assumes nothing.
-use mathlib.Core.Path.{_≡_, sym, ap, ap₂, _∙_}
+use mathlib.Core.Path.{_≡_, sym, ap₂, _∙_}
 use mathlib.Core.List.{List, _++_}
 use lib.ListN.{take, drop, take-append-drop}
 use Prim.Native.Nat.{ℕ}
@@ -11,6 +11,7 @@ use Rattle.answers.specs.declared.Answer.{Answer}
 use Rattle.read_line.specs.declared.StoredTo.{StoredTo}
 use Rattle.read_line.specs.Stores.{StoresNext, StoresLine}
 use Rattle.answers.specs.Delivered.{answered}
+use Rattle.answers.proofs.One.{answered-one}
 use Rattle.read_line.specs.Readings.{ReadsSpelled}
 
 pub stores-next-one : {line d e f : List ℕ} {from : ℕ} {p : Parts} {c : Cursors} {r q : StoredTo}
@@ -23,11 +24,6 @@ stores-next-one a b =
 -- it has no result but the output
 pub stores-line-one : {line d e f : List ℕ} {p : Parts} {c : Cursors} → StoresLine line p d c e → StoresLine line p d c f → e ≡ f
 stores-line-one a b = ran-one (a .ran) (b .ran) .0
-
--- the answer of the paper fixes the output and the code's answer
-pub answered-one : {r q : Answer} {e f : List ℕ} → answered r e ≡ answered q f → (e ≡ f) × (r ≡ q)
-answered-one x =
-    (ap (λ (a : rules.Answer). a .out) x, ap (λ (a : rules.Answer). record { number = a .number; place = a .place; len = a .size }) x)
 
 -- an answer in the first n bytes of an output, and the bytes behind them
 pub answered-in-one : (n : ℕ) {r q : Answer} {rest e f : List ℕ} {a : rules.Answer} → answered r (take n e) ≡ a → drop n e ≡ rest

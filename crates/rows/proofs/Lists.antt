@@ -4,18 +4,17 @@ use mathlib.Core.Path.{_≡_, refl, sym, ap, ap₂, _∙_, subst}
 use mathlib.Core.Bool.{Bool, true, false, cond}
 use mathlib.Core.List.{List, [], _∷_, _++_, cons≢nil}
 use native.Mathlib.Omega.{arith}
-use native.Mathlib.Numerals.{add-one}
 use lib.Dec.{T, eqb, leb}
 use lib.ListN.{length, take, drop, length-drop, drop-of-length-le}
 use lib.Seq.{drop-drop, take-all}
 use borrow.Author.Tests.{eqb-true, eqb-false, leb-true, leb-false}
 use Rattle.rules.specs.RowAnswers.{lacks}
-use Rattle.rules.specs.Lists.{feed, RowsOf, no-rows, last-row, next-row}
+use Rattle.rules.specs.Lists.{RowsOf, no-rows, last-row, next-row}
 use Rattle.io_parts.specs.Feeds.{beforeFeed}
 use Rattle.rows.specs.declared.NextRow.{NextRow}
 use Rattle.rows.specs.declared.NextRow.the-variants.{Found, End}
 use Rattle.rows.specs.Walks.{nextRowOf}
-use Rattle.rows.proofs.Cuts.{lacks-more, cut-same, no-cut}
+use Rattle.read_row.proofs.Cuts.{lacks-more, cut-same, no-cut}
 
 -- ---- in one way
 

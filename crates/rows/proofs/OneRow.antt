@@ -1,27 +1,25 @@
 -- Demand 3 for rows: no row spells two rows. Reading a row, and writing a stored one, has one answer. Assumes nothing.
 use Prim.Native.Nat.{ℕ, zero, suc, _+_, _-_, _≤_, _<_}
 use mathlib.Core.Path.{_≡_, refl, sym, ap, ap₂, _∙_, subst}
-use mathlib.Core.Bool.{Bool, true, false}
+use mathlib.Core.Bool.{false}
 use mathlib.Core.List.{List, [], _∷_, _++_, append-nil, tail-eq-of-cons-eq, nil≢cons, cons≢nil}
 use native.Mathlib.Omega.{arith}
-use lib.Dec.{T}
 use lib.ListN.{length, drop}
 use Rattle.lang.specs.Digits.{valueFrom}
 use Rattle.lang.specs.Parts.{Opt, silent, written, optText}
 use Rattle.lang.specs.Order.{Each, none}
 use Rattle.rules.specs.Bytes.{digit}
-use Rattle.rules.specs.Numbers.{digits, Number}
+use Rattle.rules.specs.Numbers.{digits}
 use Rattle.rules.specs.Texts.{firstIn}
 use Rattle.rules.specs.Decimals.{Decimal, whole, lastDigits, pointText, decimalText}
-use Rattle.rules.specs.Annotations.{Annotation}
 use Rattle.rules.specs.Lines.{Spelling, lineText}
 use Rattle.rules.specs.Limits.{maxLine}
 use Rattle.rules.specs.Fields.{Table, Says, Spells}
 use Rattle.rules.specs.Stored.{stores, stored}
 use Rattle.rules.specs.Preferred.{preferred}
-use Rattle.rules.specs.Answers.{Answer, refuses, Delivers, Sound, Holds, Reads}
-use Rattle.rules.specs.Rows.{tab, RowSpelling, thirdText, rowText, Row, annotations, SaysRow, SpellsRow, preferredThird, preferredRowSpelling, preferredRow, rowHeadSize, rowHead}
-use Rattle.rules.specs.RowAnswers.{Cut, GoodColumn, BadColumn, Moves, done, no-room, refused, ReadsThird, line, ReadsIntensity, ReadsRow, HoldsRow, WritesRow}
+use Rattle.rules.specs.Answers.{Answer, Delivers, Sound, Holds}
+use Rattle.rules.specs.Rows.{thirdText, Row, annotations, SpellsRow, preferredThird, preferredRowSpelling, preferredRow, rowHeadSize, rowHead}
+use Rattle.rules.specs.RowAnswers.{GoodColumn, BadColumn, Moves, done, no-room, refused, ReadsThird, line, ReadsIntensity, ReadsRow, HoldsRow, WritesRow}
 use Rattle.rules.specs.Editions.{current}
 use Rattle.rules.proofs.Cuts as rules
 use Rattle.rules.proofs.Digits.{one-number}
@@ -30,15 +28,11 @@ use Rattle.rules.proofs.OneAnswer.{delivers-one}
 use Rattle.rules.proofs.WritesOne.{holds-one}
 use Rattle.rules.proofs.PreferredSpells.{said-in-order, preferred-says}
 use Rattle.shape.proofs.Unambiguous.{unambiguous, reads-one}
-use Rattle.numbers.specs.declared.Decimal as numbers
 use Rattle.numbers.specs.Leading.{leading}
-use Rattle.numbers.specs.Making.{ruled}
 use Rattle.numbers.proofs.Leads.{leading-read, all-digits}
-use Rattle.rows.specs.declared.Head.{Head}
-use Rattle.rows.specs.Writings.{headOf}
-use Rattle.rows.proofs.Cuts.{cut-same, no-cut, SameCut, cut-one}
-use Rattle.rows.proofs.Decimals.{decimal-lacks, dotted, point-dotted}
-use Rattle.rows.proofs.Heads.{head-found}
+use Rattle.read_row.proofs.Cuts.{cut-same, no-cut, cut-one}
+use Rattle.read_row.proofs.Decimals.{decimal-lacks, dotted, point-dotted}
+use Rattle.write_row.proofs.Heads.{head-one}
 
 -- ---- a decimal is one by its text
 
@@ -172,15 +166,11 @@ reads-row-one {room = room} {c = c} (ReadsRow.good h {more = more} {place = plac
 
 pub holds-row-one : {bytes : List ℕ} {r u : Row} → HoldsRow bytes r → HoldsRow bytes u → r ≡ u
 holds-row-one {bytes} {r} {u} x y =
-    let a = head-found (r .mz) (r .intensity) (x .mz) (x .intensity) (stored current (r .table)) in
-    let b = head-found (u .mz) (u .intensity) (y .mz) (y .intensity) (stored current (u .table)) in
-    let q = sym a ∙ ap headOf (x .is ∙ sym (y .is)) ∙ b in
-    let mz : r .mz ≡ u .mz = ap (λ (h : Head). ruled (h .mz)) q in
-    let intensity : r .intensity ≡ u .intensity = ap (λ (h : Head). ruled (h .intensity)) q in
+    let q = head-one (r .mz) (r .intensity) (x .mz) (x .intensity) (stored current (r .table)) (u .mz) (u .intensity) (y .mz) (y .intensity) (stored current (u .table)) (x .is ∙ sym (y .is)) in
     let s : Holds current (drop rowHeadSize bytes) (r .table) = record { sound = x .table; is = ap (drop rowHeadSize) (x .is) } in
     let t : Holds current (drop rowHeadSize bytes) (u .table) = record { sound = y .table; is = ap (drop rowHeadSize) (y .is) } in
     let table = holds-one s t in
-    λ i. record { mz = mz i; intensity = intensity i; table = table i }
+    λ i. record { mz = q .0 i; intensity = q .1 i; table = table i }
 
 -- a line is not too long and short enough
 one-size : {r u : Row} → r ≡ u → maxLine < length (preferred (r .table)) → length (preferred (u .table)) ≤ maxLine → ⊥

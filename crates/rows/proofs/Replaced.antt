@@ -2,30 +2,27 @@
 -- replaced one gets what it would alone. And a list written row by row reads back to its rows. Assumes nothing.
 use Prim.Native.Nat.{ℕ, _≤_}
 use mathlib.Core.Path.{_≡_, refl, sym, ap, ap₂, _∙_, subst}
-use mathlib.Core.Bool.{Bool, true, false, not, _&&_}
+use mathlib.Core.Bool.{Bool, true, not, _&&_}
 use mathlib.Core.List.{List, [], _∷_, _++_, map, append-assoc, append-nil}
 use mathlib.Core.Logic.{inl, inr}
-use native.Mathlib.Omega.{arith}
-use lib.Dec.{T, eqb}
+use lib.Dec.{T}
 use lib.ListN.{length, take}
 use Rattle.lang.specs.Re.{Rng, inC, Re, eps, cls, seq, alt, star, Tree, texts, text}
-use Rattle.lang.specs.Parts.{Opt, silent, written, optText, flat}
+use Rattle.lang.specs.Parts.{Opt, silent, written, optText}
 use Rattle.lang.specs.Order.{Each, none, next}
 use Rattle.lang.proofs.Deriv.{and-0, and-1}
-use Rattle.lang.proofs.Lits.{in→}
 use Rattle.lang.proofs.Tests.{t-is}
-use Rattle.rules.specs.Bytes.{digit}
 use Rattle.rules.specs.Elements.{symbols}
 use Rattle.rules.specs.Decimals.{Decimal, decimalText}
 use Rattle.rules.specs.Lines.{Spelling, lineText}
 use Rattle.rules.specs.Answers.{Answer, gives}
-use Rattle.rules.specs.Rows.{tab, RowSpelling, thirdText, rowText, preferredRowSpelling, preferredRow}
+use Rattle.rules.specs.Rows.{tab, RowSpelling, thirdText, rowText, preferredRowSpelling}
 use Rattle.rules.specs.RowAnswers.{lacks, ReadsRow, WritesRow}
 use Rattle.rules.specs.Lists.{feed, RowsOf, no-rows, last-row, next-row, listText, ReadsList}
 use Rattle.shape.proofs.Grammar.{lineRe, symbolRe, decimalRe}
 use Rattle.shape.proofs.MeansNumbers.{means-decimal}
 use Rattle.shape.proofs.MeansLine.{means-line}
-use Rattle.rows.proofs.Cuts.{lacks-more, lacks-append}
+use Rattle.read_row.proofs.Cuts.{lacks-more, lacks-append}
 use Rattle.rows.proofs.OneRow.{reads-row-one}
 use Rattle.rows.proofs.RowBack.{wrote, read-back-row}
 use Rattle.rows.proofs.Lists.{rows-one, rows-some}

@@ -6,7 +6,7 @@ use native.Mathlib.Omega.{arith}
 use native.Mathlib.Nat.{le-refl}
 use lib.Dec.{T}
 use lib.ListN.{length, take, replicate, length-append}
-use Rattle.lang.specs.Parts.{Opt, silent, written, optText}
+use Rattle.lang.specs.Parts.{silent, written, optText}
 use Rattle.lang.specs.Order.{Each}
 use Rattle.rules.specs.Decimals.{Decimal, decimalText}
 use Rattle.rules.specs.Lines.{Spelling, lineText}
@@ -16,16 +16,15 @@ use Rattle.rules.specs.Preferred.{preferred}
 use Rattle.rules.specs.Stored.{stores, stored}
 use Rattle.rules.specs.Answers.{Answer, gives, Delivers, no-room, done, Sound, Holds, Reads, Writes}
 use Rattle.rules.specs.Rows.{tab, thirdText, Row, SpellsRow, preferredThird, preferredRow, rowHeadSize, rowHead, storedRow}
-use Rattle.rules.specs.RowAnswers.{maxRow, lacks, Cut, at-tab, no-tab, GoodColumn, Moves, ReadsThird, line, ReadsIntensity, ReadsRow, HoldsRow, WritesRow}
+use Rattle.rules.specs.RowAnswers.{maxRow, lacks, at-tab, no-tab, Moves, ReadsThird, line, ReadsIntensity, ReadsRow, HoldsRow, WritesRow}
 use Rattle.rules.specs.Editions.{current}
 use Rattle.rules.proofs.Rising.{decimal-some}
 use Rattle.shape.proofs.OneSpelling.{one-spelling}
 use Rattle.write_table.proofs.Holds.{take-given}
 use Rattle.lines.proofs.Back.{read-back}
 use Rattle.lines.proofs.Right.{reads-table}
-use Rattle.rows.proofs.Cuts.{no-cut}
-use Rattle.rows.proofs.Decimals.{decimal-lacks}
-use Rattle.rows.proofs.WriteRight.{decimal-short}
+use Rattle.read_row.proofs.Cuts.{no-cut}
+use Rattle.read_row.proofs.Decimals.{decimal-lacks, decimal-short}
 use Rattle.rows.proofs.OneRow.{reads-row-one}
 
 -- ---- reading what was written
@@ -48,9 +47,21 @@ headed head table room e =
     ap₂ (λ (x : ℕ) (y : List ℕ). record { number = 0; place = 0; size = x; out = y }) n
     (ap (λ (m : ℕ). head ++ (table ++ replicate m 0)) k ∙ sym (append-assoc head table (replicate (room - length (head ++ table)) 0)))
 
+-- a preferred row is within the bound of a row
+third-length : (t : Table) → length (preferred t) ≤ maxLine → length (optText thirdText (preferredThird t)) ≤ maxLine + 1
+third-length [] k = omega arith
+third-length (a ∷ t) k = omega arith
+
+pub preferred-row-short : (r : Row) → T (fits (r .mz)) → T (fits (r .intensity)) → length (preferred (r .table)) ≤ maxLine → length (preferredRow r) ≤ maxRow
+preferred-row-short r f g l =
+    let v = decimalText (r .mz) in
+    let w = decimalText (r .intensity) in
+    let x = optText thirdText (preferredThird (r .table)) in
+    omega (arith, length-append v (tab ++ (w ++ x)), length-append w x, decimal-short (r .mz) f, decimal-short (r .intensity) g, third-length (r .table) l)
+
 module _ (r : Row) (f : T (fits (r .mz))) (g : T (fits (r .intensity))) (s : Sound (r .table)) (l : length (preferred (r .table)) ≤ maxLine)
     (room : ℕ) (h : length (storedRow r) ≤ room) where
-  third-read : (at : ℕ) → ReadsThird (r .mz) (r .intensity) (preferred (r .table)) at room (gives room (storedRow r))
+  pub third-read : (at : ℕ) → ReadsThird (r .mz) (r .intensity) (preferred (r .table)) at room (gives room (storedRow r))
   third-read at =
       let head = stores (rowHead (r .mz) (r .intensity)) in
       subst (ReadsThird (r .mz) (r .intensity) (preferred (r .table)) at room) (headed head (stored current (r .table)) room refl)
@@ -68,17 +79,12 @@ module _ (r : Row) (f : T (fits (r .mz))) (g : T (fits (r .intensity))) (s : Sou
       ReadsIntensity.good (at-tab w (preferred (a ∷ t)) (decimal-lacks (r .intensity)) refl) (record { text = refl; bounds = g })
       (subst (λ (x : Table). ReadsThird (r .mz) (r .intensity) (preferred x) (at + (length w + 1)) room (gives room (storedRow r))) e (third-read (at + (length w + 1))))
 
-  third-length : (t : Table) → length (preferred t) ≤ maxLine → length (optText thirdText (preferredThird t)) ≤ maxLine + 1
-  third-length [] k = omega arith
-  third-length (a ∷ t) k = omega arith
-
   row-read : ReadsRow (preferredRow r) room (gives room (storedRow r))
   row-read =
       let v = decimalText (r .mz) in
       let w = decimalText (r .intensity) in
       let x = optText thirdText (preferredThird (r .table)) in
-      ReadsRow.good
-      (omega (arith, length-append v (tab ++ (w ++ x)), length-append w x, decimal-short (r .mz) f, decimal-short (r .intensity) g, third-length (r .table) l))
+      ReadsRow.good (preferred-row-short r f g l)
       (at-tab v (w ++ x) (decimal-lacks (r .mz)) refl) (record { text = refl; bounds = f }) (intensity-read (r .table) refl (length v + 1))
 
 -- the row that was written is the preferred one of the stored row
@@ -118,7 +124,7 @@ pub record ReadRow (row : List ℕ) (room : ℕ) (a : Answer) : Type 0 where
   pub is : a ≡ gives room (storedRow means)
 
 -- the empty third column, and none, have no annotations
-no-annotations : {s : Spelling} {t : Table} → lineText s ≡ [] → Each Says s t → Each Says [] t
+pub no-annotations : {s : Spelling} {t : Table} → lineText s ≡ [] → Each Says s t → Each Says [] t
 no-annotations {s} {t} e x = subst (λ (u : Spelling). Each Says u t) (one-spelling s [] e) x
 
 module _ {row : List ℕ} (mz intensity : Decimal) where
@@ -159,7 +165,7 @@ module _ {row : List ℕ} (mz intensity : Decimal) where
       }
 
 -- every decimal has a text
-no-decimal : (d : Decimal) → decimalText d ≡ [] → ⊥
+pub no-decimal : (d : Decimal) → decimalText d ≡ [] → ⊥
 no-decimal d e = omega (arith, decimal-some d, ap length e)
 
 read-intensity : {row bytes : List ℕ} {at room : ℕ} {a : Answer} (mz : Decimal) → ReadsIntensity mz bytes at room a → a .number ≡ 0
@@ -172,7 +178,7 @@ read-intensity mz (ReadsIntensity.good (no-tab l) {intensity = d} g r) e q =
     read-third mz d r e (without-third mz d (ap (λ (x : List ℕ). decimalText mz ++ (tab ++ x)) (g .text) ∙ q))
 
 -- a row whose m/z is all has no intensity
-nothing-behind : {mz : Decimal} {at room : ℕ} {a : Answer} → ReadsIntensity mz [] at room a → a .number ≡ 0 → ⊥
+pub nothing-behind : {mz : Decimal} {at room : ℕ} {a : Answer} → ReadsIntensity mz [] at room a → a .number ≡ 0 → ⊥
 nothing-behind (ReadsIntensity.bad x n) e = omega arith
 nothing-behind (ReadsIntensity.good (at-tab column third l p) g r) e = no-cut 9 column [] third tt p
 nothing-behind (ReadsIntensity.good (no-tab l) {intensity = d} g r) e = no-decimal d (g .text)

@@ -1,36 +1,35 @@
 -- A stray byte of the third column stays stray: whatever is behind it, every row of at most 4,096 bytes that agrees with the row up to and
 -- including that byte is answered the same. Assumes nothing.
-use Prim.Native.Nat.{ℕ, _+_, _-_, _≤_, _<_, min}
-use mathlib.Core.Path.{_≡_, refl, sym, ap, ap₂, _∙_, subst}
-use mathlib.Core.List.{List, [], _∷_, _++_, append-assoc}
+use Prim.Native.Nat.{ℕ, _+_, _-_, _≤_}
+use mathlib.Core.Path.{_≡_, refl, sym, ap, _∙_, subst}
+use mathlib.Core.List.{List, [], _++_, append-assoc}
 use native.Mathlib.Omega.{arith}
 use lib.Dec.{T}
 use lib.ListN.{length, take, drop, length-append, length-take, length-drop, take-append-drop}
 use lib.Seq.{take-add, take-append-seam, drop-append-seam}
 use Rattle.rules.specs.Decimals.{Decimal, decimalText}
 use Rattle.rules.specs.Limits.{fits, maxLine}
-use Rattle.rules.specs.Stored.{stores}
 use Rattle.rules.specs.Answers.{Answer, refuses, Reads}
-use Rattle.rules.specs.Rows.{tab, rowHeadSize, rowHead}
-use Rattle.rules.specs.RowAnswers.{maxRow, at-tab, no-tab, GoodColumn, Moves, ReadsThird, line, ReadsIntensity, ReadsRow}
+use Rattle.rules.specs.Rows.{tab, rowHeadSize}
+use Rattle.rules.specs.RowAnswers.{maxRow, at-tab, no-tab, Moves, ReadsThird, line, ReadsIntensity, ReadsRow}
 use Rattle.rules.proofs.Cuts as rules
 use Rattle.rules.proofs.StrayStays.{two-is-stray, stray-answered}
-use Rattle.rows.proofs.Cuts.{no-cut}
-use Rattle.rows.proofs.Decimals.{decimal-lacks}
+use Rattle.read_row.proofs.Cuts.{no-cut}
+use Rattle.read_row.proofs.Decimals.{decimal-lacks}
 use Rattle.rows.proofs.OneRow.{reads-row-one}
 
 -- the first two columns and their tabs
-abbrev columns : Decimal → Decimal → List ℕ
+abbrev pub columns : Decimal → Decimal → List ℕ
 columns mz intensity = decimalText mz ++ (tab ++ (decimalText intensity ++ tab))
 
-abbrev begin : Decimal → Decimal → ℕ
+abbrev pub begin : Decimal → Decimal → ℕ
 begin mz intensity = length (decimalText mz) + 1 + (length (decimalText intensity) + 1)
 
-columns-length : (mz intensity : Decimal) → length (columns mz intensity) ≡ begin mz intensity
+pub columns-length : (mz intensity : Decimal) → length (columns mz intensity) ≡ begin mz intensity
 columns-length mz intensity =
     omega (arith, length-append (decimalText mz) (tab ++ (decimalText intensity ++ tab)), length-append (decimalText intensity) tab)
 
-columns-then : (mz intensity : Decimal) (third : List ℕ)
+pub columns-then : (mz intensity : Decimal) (third : List ℕ)
     → columns mz intensity ++ third ≡ decimalText mz ++ (tab ++ (decimalText intensity ++ (tab ++ third)))
 columns-then mz intensity third =
     append-assoc (decimalText mz) (tab ++ (decimalText intensity ++ tab)) third

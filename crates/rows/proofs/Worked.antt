@@ -2,20 +2,20 @@
 use Prim.Native.Nat.{ℕ, _+_}
 use Prim.Native.String.{String}
 use mathlib.Core.Path.{_≡_, refl}
-use mathlib.Core.Bool.{true, false}
+use mathlib.Core.Bool.{false}
 use mathlib.Core.List.{List, [], _∷_, _++_, cons≢nil}
 use native.Mathlib.Omega.{arith}
 use lib.Dec.{T}
 use Rattle.lang.specs.Digits.{valueFrom}
-use Rattle.lang.specs.Parts.{Opt, silent, written}
+use Rattle.lang.specs.Parts.{written}
 use Rattle.rules.specs.Bytes.{bytes}
 use Rattle.rules.specs.Numbers.{digits, digitsIn}
-use Rattle.rules.specs.Decimals.{Decimal, whole, lastDigits, pointText}
+use Rattle.rules.specs.Decimals.{whole, lastDigits, pointText}
 use Rattle.rules.specs.Elements.{symbols}
 use Rattle.rules.specs.Lines.{Spelling}
 use Rattle.rules.specs.Stored.{stores}
 use Rattle.rules.specs.Answers.{refuses}
-use Rattle.rules.specs.Rows.{tab, RowSpelling, rowText, Row, preferredRow, rowHead}
+use Rattle.rules.specs.Rows.{tab, RowSpelling, rowText, preferredRow, rowHead}
 use Rattle.rules.specs.RowAnswers.{lacks, no-tab, at-tab, GoodColumn, BadColumn, ReadsIntensity, ReadsRow}
 use Rattle.rules.specs.Lists.{feed, RowsOf, no-rows, last-row, next-row}
 use Rattle.rules.proofs.worked.Spell.{decimal, y}
@@ -23,8 +23,8 @@ use Rattle.rules.proofs.TableOf.{tableOf}
 use Rattle.numbers.specs.Leading.{leading}
 use Rattle.numbers.specs.Making.{madeOf}
 use Rattle.numbers.specs.Points.{fraction, pointed, decimalOf}
-use Rattle.rows.specs.Columns.{beginsDecimal, endsColumn, isColumn, columnOf}
-use Rattle.rows.proofs.Decimals.{read-bad}
+use Rattle.read_row.specs.Columns.{beginsDecimal, endsColumn, isColumn, columnOf}
+use Rattle.read_row.proofs.Decimals.{read-bad}
 
 -- ---- columns
 

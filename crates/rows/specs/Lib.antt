@@ -1,5 +1,2 @@
-pub mod Columns
-pub mod Behind
-pub mod Readings
-pub mod Writings
 pub mod Walks
+pub mod Relabels

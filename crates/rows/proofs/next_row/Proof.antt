@@ -1,11 +1,7 @@
+-- `rows::next_row` meets its contract. Assumes nothing.
 use borrow.Author.Needs.{needs}
 use Rattle.rows.proofs.next_row.Statement.{statement}
 use Rattle.rows.proofs.next_row.Tie as tie
-use Rattle.rows.proofs.next_row.Reads as reads
-use Rattle.rows.proofs.next_row.Lts as lts
-use Rattle.io_parts.proofs.line_end.Reads as line-end-reads
-use Rattle.slices.proofs.advance.Reads as advance-reads
-use Rattle.slices.proofs.rest.Reads as rest-reads
 use Rattle.rows.proofs.Steps.{next-end, next-found}
 
 returns : tie.Need-returns

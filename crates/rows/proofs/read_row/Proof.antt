@@ -1,10 +1,7 @@
+-- `rows::read_row` meets its contract. Assumes nothing.
 use borrow.Author.Needs.{needs}
 use Rattle.rows.proofs.read_row.Statement.{statement}
 use Rattle.rows.proofs.read_row.Tie as tie
-use Rattle.rows.proofs.read_row.Reads as reads
-use Rattle.rows.proofs.read_row.Lts as lts
-use Rattle.rows.proofs.read_row_by.Reads as read-row-by-reads
-use Rattle.scan_line.proofs.machine.Reads as machine-reads
 use mathlib.Core.Path.{sym, ap, _∙_, subst}
 use mathlib.Core.List.{List}
 use Prim.Native.Nat.{ℕ}
@@ -13,9 +10,9 @@ use lib.ListN.{length, drop, length-drop}
 use Rattle.rules.specs.RowAnswers.{ReadsRow}
 use Rattle.scan_line.specs.Steps.{machineBytes}
 use Rattle.scan_line.proofs.Scans.{by-machine}
-use Rattle.rows.specs.Readings.{readRowOf}
-use Rattle.rows.proofs.Heads.{bytes-drop}
-use Rattle.rows.proofs.ReadRight.{read-row-right}
+use Rattle.read_row.specs.Readings.{readRowOf}
+use Rattle.write_row.proofs.Heads.{bytes-drop}
+use Rattle.read_row.proofs.Right.{read-row-right}
 
 machine-requires : tie.Need-machine-requires
 machine-requires c κs = search needs
@@ -31,11 +28,14 @@ same-length c = search needs
 
 returns : tie.Need-returns
 returns c =
-    let row = c .before .before .before .before .before .before .before .before .args .row .now in
-    let room = length (c .before .before .before .before .before .before .before .before .args .out .now) in
-    subst (ReadsRow row room) (sym (c .before .before .read-row-by .ensures ∙ ap (λ (m : List ℕ). readRowOf m row room) (c .before .before .before .before .before .machine .ensures)))
+    let at-machine = c .before .before .before .before .before in
+    let at-known = at-machine .before .before in
+    let at-args = at-known .before in
+    let row = at-args .args .row .now in
+    let room = length (at-args .args .out .now) in
+    subst (ReadsRow row room) (sym (c .before .before .read-row-by .ensures ∙ ap (λ (m : List ℕ). readRowOf m row room) (at-machine .machine .ensures)))
     (read-row-right machineBytes row room (omega arith)
-    (λ n. by-machine (drop n row) (bytes-drop row n (λ i h. c .before .before .before .before .before .before .before .shared-slice-known .given i .fits)) (omega (arith, length-drop n row))))
+    (λ n. by-machine (drop n row) (bytes-drop row n (λ i h. at-known .shared-slice-known .given i .fits)) (omega (arith, length-drop n row))))
 
 pub read-row-spec : {M : Type 1} → statement M
 read-row-spec =

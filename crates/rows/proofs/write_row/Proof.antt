@@ -1,10 +1,7 @@
+-- `rows::write_row` meets its contract. Assumes nothing.
 use borrow.Author.Needs.{needs}
 use Rattle.rows.proofs.write_row.Statement.{statement}
 use Rattle.rows.proofs.write_row.Tie as tie
-use Rattle.rows.proofs.write_row.Reads as reads
-use Rattle.rows.proofs.write_row.Lts as lts
-use Rattle.rows.proofs.write_row_by.Reads as write-row-by-reads
-use Rattle.scan_line.proofs.machine.Reads as machine-reads
 use mathlib.Core.Path.{sym, ap, _∙_, subst}
 use mathlib.Core.List.{List}
 use Prim.Native.Nat.{ℕ}
@@ -14,8 +11,8 @@ use Rattle.rules.specs.RowAnswers.{WritesRow}
 use Rattle.scan_line.specs.Steps.{machineBytes}
 use Rattle.scan_line.proofs.Scans.{by-machine}
 use Rattle.write_table.proofs.Low.{bytes-each}
-use Rattle.rows.specs.Writings.{writeRowOf}
-use Rattle.rows.proofs.WriteRight.{write-row-right}
+use Rattle.write_row.specs.Writings.{writeRowOf}
+use Rattle.write_row.proofs.Right.{write-row-right}
 
 machine-requires : tie.Need-machine-requires
 machine-requires c κs = search needs
@@ -31,10 +28,13 @@ same-length c = search needs
 
 returns : tie.Need-returns
 returns c =
-    let stored = c .before .before .before .before .before .before .before .before .args .stored .now in
-    let room = length (c .before .before .before .before .before .before .before .before .args .out .now) in
-    subst (WritesRow stored room) (sym (c .before .before .write-row-by .ensures ∙ ap (λ (m : List ℕ). writeRowOf m stored room) (c .before .before .before .before .before .machine .ensures)))
-    (write-row-right machineBytes stored room (omega arith) (λ i h. c .before .before .before .before .before .before .before .shared-slice-known .given i .fits) (λ l b h. by-machine l (bytes-each l b) (omega arith)))
+    let at-machine = c .before .before .before .before .before in
+    let at-known = at-machine .before .before in
+    let at-args = at-known .before in
+    let stored = at-args .args .stored .now in
+    let room = length (at-args .args .out .now) in
+    subst (WritesRow stored room) (sym (c .before .before .write-row-by .ensures ∙ ap (λ (m : List ℕ). writeRowOf m stored room) (at-machine .machine .ensures)))
+    (write-row-right machineBytes stored room (omega arith) (λ i h. at-known .shared-slice-known .given i .fits) (λ l b h. by-machine l (bytes-each l b) (omega arith)))
 
 pub write-row-spec : {M : Type 1} → statement M
 write-row-spec =

@@ -1,0 +1,2 @@
+-- Laws of a row in preferred spelling.
+pub mod Steps

@@ -1,0 +1,21 @@
+-- Two answers that meet a contract of this crate are equal. Assumes nothing.
+use Prim.Native.Nat.{ℕ}
+use mathlib.Core.Path.{_≡_}
+use mathlib.Core.List.{List}
+use Rattle.rules.specs.RowAnswers.{ReadsRow, WritesRow}
+use Rattle.answers.specs.declared.Answer.{Answer}
+use Rattle.answers.specs.Delivered.{answered}
+use Rattle.answers.proofs.One.{answered-one}
+use Rattle.rows.specs.Relabels.{RelabelsRow}
+use Rattle.rows.proofs.OneRow as one
+use Rattle.rows.proofs.RelabelBack as back
+
+module _ {room : ℕ} {r q : Answer} {e f : List ℕ} where
+  pub reads-row-one : (row : List ℕ) → ReadsRow row room (answered r e) → ReadsRow row room (answered q f) → (e ≡ f) × (r ≡ q)
+  reads-row-one row a b = answered-one (one.reads-row-one a b)
+
+  pub writes-row-one : (bytes : List ℕ) → WritesRow bytes room (answered r e) → WritesRow bytes room (answered q f) → (e ≡ f) × (r ≡ q)
+  writes-row-one bytes a b = answered-one (one.writes-row-one a b)
+
+  pub relabels-row-one : (row : List ℕ) → RelabelsRow row room (answered r e) → RelabelsRow row room (answered q f) → (e ≡ f) × (r ≡ q)
+  relabels-row-one row a b = answered-one (back.relabels-row-one a b)

@@ -1,0 +1,6 @@
+-- Laws of writing a row.
+pub mod Heads
+pub mod Right
+pub mod Over
+pub mod Steps
+pub mod Wrote
