@@ -1,4 +1,5 @@
 // Each line of standard input, read into an output that is as long as any line needs.
+use run_program::Input;
 use run_program::was_asked;
 
 fn main() {
@@ -15,5 +16,5 @@ table in hexadecimal digits, `-` where there is none.
     ) {
         return;
     }
-    run_reads::answer_lines(b"reads", false);
+    run_reads::answer_lines(b"reads", Input::Lines, false);
 }

@@ -1,12 +1,12 @@
 -- The preferred spelling of a row, by the machine's bytes, is what the rules say: what writing gives for the stored row that reading
 -- gives. It rests on what is said of the line alone (`Relabels`). Assumes nothing.
-use Prim.Native.Nat.{ℕ, _+_, _-_, _≤_, _<_, min}
+use Prim.Native.Nat.{ℕ, _+_, _-_, _≤_, _<_, _^_, min}
 use mathlib.Core.Path.{_≡_, refl, sym, ap, ap₂, _∙_, subst}
 use mathlib.Core.Bool.{Bool, true, false, cond}
 use mathlib.Core.List.{List, [], _∷_, _++_, append-assoc, append-nil}
 use native.Mathlib.Omega.{arith}
 use lib.Dec.{T, eqb, ltb, leb}
-use lib.ListN.{length, take, drop, replicate, length-append, length-take, length-drop, drop-of-length-le, replicate-append-replicate}
+use lib.ListN.{length, getD, take, drop, replicate, length-append, length-take, length-drop, drop-of-length-le, replicate-append-replicate}
 use lib.Seq.{take-at, drop-at, take-all, take-append-add, length-take-le}
 use borrow.Author.Tests.{ltb-true, ltb-false, lt-ltb, le-ltb, leb-true, leb-false, eqb-true, ne-eqb}
 use Rattle.lang.specs.Order.{Each, none}
@@ -26,7 +26,8 @@ use Rattle.rules.proofs.Totals.{in-none}
 use Rattle.rules.proofs.WritesOne.{holds-one}
 use Rattle.put_bytes.specs.Puts.{maxPlace}
 use Rattle.scan_line.specs.Verdicts.{JudgedBy}
-use Rattle.scan_line.specs.Steps.{scannedBy}
+use Rattle.scan_line.specs.Steps.{machineBytes, scannedBy}
+use Rattle.scan_line.proofs.Scans.{by-machine}
 use Rattle.numbers.specs.Making.{ruled}
 use Rattle.answers.specs.Behind.{capped}
 use Rattle.answers.proofs.Behind.{capped-is}
@@ -42,6 +43,7 @@ use Rattle.read_row.proofs.Decimals.{decimal-lacks, read-good, read-bad}
 use Rattle.read_row.proofs.LinePlaces.{reads-place}
 use Rattle.read_row.proofs.Right.{cut-rest}
 use Rattle.write_row.specs.Writings.{bareOf}
+use Rattle.write_row.proofs.Heads.{bytes-drop}
 use Rattle.write_row.proofs.Right.{bare-delivered, preferred-some}
 use Rattle.respell_row.specs.Relabelled.{placeOf, spelledOf, thirdOf, columnsOf, intensityOf, mzIn, relabelledRowOf}
 use Rattle.rows.specs.Relabels.{maxStoredRow, RelabelsRow, refused, relabelled}
@@ -341,3 +343,10 @@ relabel-row-right machine row room small judged = by (ltb maxRow (length row)) r
     by : (t : Bool) → ltb maxRow (length row) ≡ t → RelabelsRow row room (cond t (refuses room 1 maxRow) (mzIn machine row room (columnOf row)))
     by true e = refused (long (ltb-true maxRow (length row) e)) (λ z. absurd (omega arith))
     by false e = mz-right machine row room small (ltb-false maxRow (length row) e) judged
+
+-- by the machine, of bytes
+pub relabel-row-made : (row : List ℕ) (room : ℕ) (m : List ℕ) {r : Answer} → m ≡ machineBytes → room ≤ maxPlace
+    → ((i : ℕ) → i < length row → getD row i 0 < 256) → length row < 2 ^ 64 → r ≡ relabelledRowOf m row room → RelabelsRow row room r
+relabel-row-made row room m e small bytes h x =
+    subst (RelabelsRow row room) (sym (x ∙ ap (λ (m : List ℕ). relabelledRowOf m row room) e))
+    (relabel-row-right machineBytes row room small (λ n. by-machine (drop n row) (bytes-drop row n bytes) (omega (arith, length-drop n row))))

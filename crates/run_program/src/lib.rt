@@ -11,6 +11,12 @@ use libc::STDOUT_FILENO;
 use put_bytes::put_run;
 use slices::first_of;
 
+// What a program reads or writes: lines of annotations, or rows of a peak list.
+pub enum Input {
+    Lines,
+    Rows,
+}
+
 // Whether the program was given arguments, which are answered then: `--help` alone by what the program does and, where its answers have
 // such numbers, what the numbers of refusal mean; all others by a line on standard error.
 pub fn was_asked(name: &[u8], help: &[u8], numbered: bool) -> bool {
@@ -54,6 +60,7 @@ fn explain(help: &[u8], numbered: bool) -> bool {
 number  when                                                    place, in bytes from 0
 0       done                                                    0
 1       the line, read or to be written, has over 4,096 bytes   4096
+        a row has over 4,160 bytes                              4160
 2       stray byte: the line does not begin any shape           how many bytes do begin one
 3       the line begins a shape and is none                     its length
 4       a number or a decimal past its bound                    its first digit
@@ -61,7 +68,11 @@ number  when                                                    place, in bytes 
 6       a rule for one annotation is broken                     first byte of that annotation
 7       the confidences exceed 1                                first byte of the annotation that takes the sum past 1
 8       the output is too short                                 bytes needed
-9       the stored bytes are no table                           0
+9       the stored bytes are no table, or no stored row         0
+12      the m/z of a row is no decimal within its bounds        0
+13      the intensity of a row is none                          its first byte
+
+In a row that is read, places are counted from the row's start.
 ",
     )
 }

@@ -12,16 +12,17 @@ use Rattle.io_lines.specs.declared.Stream.{Stream}
 use Rattle.io_lines.specs.Streams.{waitingOf}
 use Rattle.io_answers.specs.Tells.{told}
 use Rattle.io_answers.specs.Asked.{roomIn}
+use Rattle.run_program.specs.declared.Input.{Input}
 use Rattle.run_reads.specs.Reads.{ReadInto}
 use Rattle.run_reads.specs.Answered.{Answered}
 
-pub read-into-one : {machine asked d e f : List ℕ} {sized : Bool} {r q : Answer}
-    → ReadInto machine asked sized d e r → ReadInto machine asked sized d f q → (e ≡ f) × (r ≡ q)
+pub read-into-one : {input : Input} {machine asked d e f : List ℕ} {sized : Bool} {r q : Answer}
+    → ReadInto input machine asked sized d e r → ReadInto input machine asked sized d f q → (e ≡ f) × (r ≡ q)
 read-into-one {asked = asked} {d = d} {sized = sized} a b = answered-in-one (roomIn sized asked (length d)) (a .read) (a .kept) (b .read) (b .kept)
 
 -- the table, the output, and the streams where the system did the same
-pub answered-one : {machine asked t u v d e f : List ℕ} {sized : Bool} {s r q : Stream} (a : Answered machine asked sized s t u d e r)
-    (b : Answered machine asked sized s t v d f q) → (u ≡ v) × ((e ≡ f) × (a .waits .room ≡ b .waits .room → r ≡ q))
+pub answered-one : {input : Input} {machine asked t u v d e f : List ℕ} {sized : Bool} {s r q : Stream} (a : Answered input machine asked sized s t u d e r)
+    (b : Answered input machine asked sized s t v d f q) → (u ≡ v) × ((e ≡ f) × (a .waits .room ≡ b .waits .room → r ≡ q))
 answered-one {s = s} a b =
     let x = read-into-one (a .reads) (b .reads) in
     let w = a .waits in

@@ -1,4 +1,4 @@
--- A line's answer stands behind what waited, with its line feed. Assumes nothing.
+-- The answer to a line, or to a row, stands behind what waited, with its line feed. Assumes nothing.
 use Prim.Native.Nat.{ℕ, _+_, _<_, _≤_, _^_}
 use mathlib.Core.Path.{_≡_, refl, sym, ap, ap₂, _∙_, subst, subst₂}
 use mathlib.Core.Bool.{Bool, true, false, cond}
@@ -8,7 +8,7 @@ use lib.Dec.{eqb}
 use lib.ListN.{length, take, drop, length-take, length-drop, length-append}
 use lib.Seq.{length-take-le, take-at, take-add, sets-eq}
 use borrow.Author.Tests.{eqb-true, eqb-false}
-use Rattle.rules.specs.Limits.{maxLine}
+use Rattle.rules.specs.RowAnswers.{maxRow}
 use Rattle.put_bytes.specs.Puts.{Put}
 use Rattle.put_bytes.proofs.Putting.{put-length, put-place}
 use Rattle.answers.specs.declared.Answer.{Answer}
@@ -16,6 +16,7 @@ use Rattle.answers.specs.Delivered.{refusedOf}
 use Rattle.io_lines.specs.declared.Stream.{Stream}
 use Rattle.io_lines.specs.Streams.{waitingOf, Roomed}
 use Rattle.io_lines.proofs.Rooms.{room-at}
+use Rattle.run_program.specs.declared.Input.{Input}
 use Rattle.run_relabel.specs.AnswerPut.{AnswerPut, refusalText}
 use Rattle.run_relabel.specs.Spelled.{Answers, Spelled}
 use Rattle.run_relabel.specs.Answered.{answerText, answerLine, Answered}
@@ -49,8 +50,8 @@ stands-then {d} {e} {f} {l} {m} {at} x y =
       same = y .same ∙ x .same;
     }
 
-module _ {line d e : List ℕ} {at : ℕ} {a : Answer} (s : Spelled line d at e a) (room : at + (maxLine + 1) ≤ length d) (same : length e ≡ length d) where
-  short : a .len ≤ maxLine
+module _ {input : Input} {line d e : List ℕ} {at : ℕ} {a : Answer} (s : Spelled input line d at e a) (room : at + (maxRow + 1) ≤ length d) (same : length e ≡ length d) where
+  short : a .len ≤ maxRow
   short = omega (arith, s .len, relabels-roomy (s .answers .relabels) .result)
 
   -- the result, or the refusal
@@ -87,10 +88,10 @@ module _ {line d e : List ℕ} {at : ℕ} {a : Answer} (s : Spelled line d at e 
             same = x .same ∙ same;
           }
 
-  text-short : a .number < 2 ^ 64 → a .place < 2 ^ 64 → length (answerText (s .answer)) ≤ maxLine
+  text-short : a .number < 2 ^ 64 → a .place < 2 ^ 64 → length (answerText (s .answer)) ≤ maxRow
   text-short h g = by (eqb (s .answer .number) 0)
     where
-      by : (b : Bool) → length (textBy b) ≤ maxLine
+      by : (b : Bool) → length (textBy b) ≤ maxRow
       by true = omega (arith, short, s .len, length-take (s .answer .size) (s .answer .out))
       by false =
           let x = refusedOf (s .answer .number) (s .answer .place) in
@@ -103,17 +104,17 @@ module _ {line d e : List ℕ} {at : ℕ} {a : Answer} (s : Spelled line d at e 
       let y = told-stands h g t in
       stands-then y (put-stands p (omega (arith, y .behind, y .same, text-short h g)))
 
-pub answered-by : {w line d e f x : List ℕ} {end n : ℕ} {a : Answer} {s t r : Stream} → Roomed (length d) (maxLine + 1) s t → maxLine + 1 ≤ length d
+pub answered-by : {input : Input} {w line d e f x : List ℕ} {end n : ℕ} {a : Answer} {s t r : Stream} → Roomed (length d) (maxRow + 1) s t → maxRow + 1 ≤ length d
     → w ≡ line → length e ≡ length d → a .number < 2 ^ 64 → a .place < 2 ^ 64
-    → Spelled w d (t .waiting) e a → AnswerPut e (t .waiting) a f end → Put f end (10 ∷ []) x n → r ≡ waitingOf t n → Answered line s d x r
-answered-by {d = d} {x = x} {s = s} {t = v} roomed room i same h g y t q e =
+    → Spelled input w d (t .waiting) e a → AnswerPut e (t .waiting) a f end → Put f end (10 ∷ []) x n → r ≡ waitingOf t n → Answered input line s d x r
+answered-by {input} {d = d} {x = x} {s = s} {t = v} roomed room i same h g y t q e =
     let p = room-at roomed in
-    let fits = room-fits (length d) (s .waiting) (maxLine + 1) room in
+    let fits = room-fits (length d) (s .waiting) (maxRow + 1) room in
     let z = line-stands y (omega (arith, p)) same h g t q in
     let l = answerLine (y .answer) in
     record {
       answer = y .answer;
-      answers = subst (λ (w : List ℕ). Answers w (y .answer)) i (y .answers);
+      answers = subst (λ (w : List ℕ). Answers input w (y .answer)) i (y .answers);
       room = v;
       roomed = roomed;
       waits = e ∙ ap (waitingOf v) (z .behind ∙ ap (λ (k : ℕ). k + length l) p);

@@ -1,15 +1,19 @@
 -- An answer other than 8 is the answer for every larger room, and a result is no longer than its room. Assumes nothing.
-use Prim.Native.Nat.{ℕ, _-_, _≤_}
+use Prim.Native.Nat.{ℕ, _+_, _-_, _≤_, min}
 use mathlib.Core.Path.{_≡_, refl, sym, _∙_}
 use mathlib.Core.List.{List}
 use native.Mathlib.Omega.{arith}
 use lib.ListN.{length, take, replicate, length-append, length-replicate}
 use lib.Seq.{take-append-seam}
-use Rattle.rules.specs.Limits.{maxLine}
+use Rattle.rules.specs.Limits.{maxLine, maxAnnotations}
 use Rattle.rules.specs.Answers.{Answer, refuses, gives, Delivers, no-room, done, Writes}
+use Rattle.rules.specs.RowAnswers.{maxRow, WritesRow}
 use Rattle.lines.specs.Relabels.{Relabels, refused, relabelled}
 use Rattle.lines.proofs.Back.{relabel-enough}
-use Rattle.run_relabel.specs.Spelled.{Answers}
+use Rattle.rows.specs.Relabels.{RelabelsRow}
+use Rattle.rows.proofs.RelabelBack.{relabel-row-enough}
+use Rattle.run_program.specs.declared.Input.{Input}
+use Rattle.run_relabel.specs.Spelled.{RelabelsAs, a-line, a-row, Answers}
 
 -- ---- the same but for the zeros behind the result
 
@@ -51,6 +55,11 @@ module _ {room room′ : ℕ} (larger : room ≤ room′) where
   writes-also (Writes.long t h l) n = refuses-also room room′ (Writes.long t h l)
   writes-also (Writes.fits t h l d) n = also-as (λ b y. Writes.fits t h l y) (delivers-also d n)
 
+  writes-row-also : {bytes : List ℕ} {a : Answer} → WritesRow bytes room a → (a .number ≡ 8 → ⊥) → Also (WritesRow bytes room′) a
+  writes-row-also (WritesRow.no-row h) n = refuses-also room room′ (WritesRow.no-row h)
+  writes-row-also (WritesRow.long r h l) n = refuses-also room room′ (WritesRow.long r h l)
+  writes-row-also (WritesRow.fits r h l d) n = also-as (λ b y. WritesRow.fits r h l y) (delivers-also d n)
+
 -- ---- within its room
 
 -- the output has room bytes, and the result no more
@@ -72,15 +81,31 @@ writes-roomy {room = room} (Writes.no-table h) = refuses-roomy room 9 0
 writes-roomy {room = room} (Writes.long t h l) = refuses-roomy room 1 maxLine
 writes-roomy (Writes.fits t h l d) = delivers-roomy d
 
-pub relabels-roomy : {line : List ℕ} {room : ℕ} {a : Answer} → Relabels line room a → Roomy room a
-relabels-roomy {room = room} (refused {a} r n) = refuses-roomy room (a .number) (a .place)
-relabels-roomy (relabelled r n w) = writes-roomy w
+writes-row-roomy : {bytes : List ℕ} {room : ℕ} {a : Answer} → WritesRow bytes room a → Roomy room a
+writes-row-roomy {room = room} (WritesRow.no-row h) = refuses-roomy room 9 0
+writes-row-roomy {room = room} (WritesRow.long r h l) = refuses-roomy room 1 maxLine
+writes-row-roomy (WritesRow.fits r h l d) = delivers-roomy d
+
+pub relabels-roomy : {input : Input} {line : List ℕ} {room : ℕ} {a : Answer} → RelabelsAs input line room a → Roomy room a
+relabels-roomy {room = room} (a-line (refused {a} r n)) = refuses-roomy room (a .number) (a .place)
+relabels-roomy (a-line (relabelled r n w)) = writes-roomy w
+relabels-roomy {room = room} (a-row (RelabelsRow.refused {a} r n)) = refuses-roomy room (a .number) (a .place)
+relabels-roomy (a-row (RelabelsRow.relabelled r n w)) = writes-row-roomy w
 
 -- ---- read and written
 
-answers-by : {line : List ℕ} {a : Answer} → Relabels line maxLine a → Answers line a
-answers-by {line} r = record { relabels = r; enough = relabel-enough line r (λ h. h) }
+-- a byte more for each annotation is enough, and so is what a row may have
+pub relabels-enough : {input : Input} (line : List ℕ) {room : ℕ} {a : Answer} → RelabelsAs input line room a
+    → min (length line + maxAnnotations) maxRow ≤ room → a .number ≡ 8 → ⊥
+relabels-enough line (a-line r) large = relabel-enough line r (λ h. omega arith)
+relabels-enough line (a-row r) large = relabel-row-enough r large
 
-pub relabels-also : {line : List ℕ} {room : ℕ} {a : Answer} → room ≤ maxLine → Relabels line room a → (a .number ≡ 8 → ⊥) → Also (Answers line) a
-relabels-also {room = room} large (refused r n) h = refuses-also room maxLine (answers-by (refused r n))
-relabels-also large (relabelled r n w) h = also-as (λ b y. answers-by (relabelled r n y)) (writes-also large w h)
+answers-by : {input : Input} {line : List ℕ} {a : Answer} → RelabelsAs input line maxRow a → Answers input line a
+answers-by {line = line} r = record { relabels = r; enough = relabels-enough line r (omega arith) }
+
+pub relabels-also : {input : Input} {line : List ℕ} {room : ℕ} {a : Answer} → room ≤ maxRow → RelabelsAs input line room a → (a .number ≡ 8 → ⊥)
+    → Also (Answers input line) a
+relabels-also {room = room} large (a-line (refused r n)) h = refuses-also room maxRow (answers-by (a-line (refused r n)))
+relabels-also large (a-line (relabelled r n w)) h = also-as (λ b y. answers-by (a-line (relabelled r n y))) (writes-also large w h)
+relabels-also {room = room} large (a-row (RelabelsRow.refused r n)) h = refuses-also room maxRow (answers-by (a-row (RelabelsRow.refused r n)))
+relabels-also large (a-row (RelabelsRow.relabelled r n w)) h = also-as (λ b y. answers-by (a-row (RelabelsRow.relabelled r n y))) (writes-row-also large w h)

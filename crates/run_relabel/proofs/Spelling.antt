@@ -1,38 +1,60 @@
--- What is spelled in a part of the output that is as long as the line is the answer to the line. Assumes nothing.
+-- What is spelled in a part of the output that is a byte longer than the line for each annotation is the answer to the line, and so for rows. Assumes nothing.
 use Prim.Native.Nat.{ℕ, _+_, _-_, _<_, _≤_, _^_, min}
-use mathlib.Core.Path.{_≡_, ap, _∙_}
+use mathlib.Core.Path.{_≡_, sym, ap, _∙_}
 use mathlib.Core.List.{List, _++_}
 use native.Mathlib.Omega.{arith}
 use lib.ListN.{length, getD, take, drop, length-take, length-drop}
 use lib.Seq.{length-take-le, take-at, drop-at, take-append-le}
-use Rattle.rules.specs.Limits.{maxLine}
+use Rattle.rules.specs.Limits.{maxAnnotations}
+use Rattle.rules.specs.RowAnswers.{maxRow}
+use Rattle.rules.specs.Answers as rules
 use Rattle.scan_line.specs.Steps.{machineBytes, scannedBy}
 use Rattle.answers.specs.declared.Answer.{Answer}
 use Rattle.answers.specs.Delivered.{answered}
-use Rattle.lines.specs.Relabels.{Relabels, relabelledOf}
+use Rattle.lines.specs.Relabels.{relabelledOf}
 use Rattle.lines.proofs.Right.{relabel-made}
-use Rattle.lines.proofs.Back.{relabel-enough}
-use Rattle.run_relabel.specs.Spelled.{Spelled}
-use Rattle.run_relabel.proofs.Rooms.{relabels-roomy, relabels-also}
+use Rattle.respell_row.specs.Relabelled.{relabelledRowOf}
+use Rattle.rows.proofs.RelabelRow.{relabel-row-made}
+use Rattle.run_program.specs.declared.Input.{Input}
+use Rattle.run_program.specs.declared.Input.the-variants.{Lines, Rows}
+use Rattle.run_relabel.specs.Spelled.{relabelAs, RelabelsAs, a-line, a-row, Spelled}
+use Rattle.run_relabel.proofs.Rooms.{relabels-roomy, relabels-enough, relabels-also}
+
+-- what the lines are was tested
+
+pub relabel-lines : {input : Input} (m line : List ℕ) (room : ℕ) {a : rules.Answer} → input ≡ Lines → a ≡ relabelledOf (scannedBy m line) line room
+    → a ≡ relabelAs input m line room
+unfolding relabelAs
+relabel-lines m line room h e = e ∙ ap (λ (i : Input). relabelAs i m line room) (sym h)
+
+pub relabel-rows : {input : Input} (m row : List ℕ) (room : ℕ) {a : rules.Answer} → input ≡ Rows → a ≡ relabelledRowOf m row room → a ≡ relabelAs input m row room
+unfolding relabelAs
+relabel-rows m row room h e = e ∙ ap (λ (i : Input). relabelAs i m row room) (sym h)
+
+-- by the machine it is what the rules say
+relabels-made : (input : Input) (line : List ℕ) (room : ℕ) (m : List ℕ) {a : rules.Answer} → m ≡ machineBytes → ((i : ℕ) → i < length line → getD line i 0 < 256)
+    → length line < 2 ^ 64 → room ≤ maxRow → a ≡ relabelAs input m line room → RelabelsAs input line room a
+unfolding relabelAs
+relabels-made Lines line room m made bytes short small e = a-line (relabel-made line room m made bytes short e)
+relabels-made Rows line room m made bytes short small e = a-row (relabel-row-made line room m made (omega arith) bytes short e)
 
 -- n bytes of output d are lent from a place on, and are p then; r is the answer
-module _ (m line d : List ℕ) {e p : List ℕ} (at n : ℕ) {r : Answer} (made : m ≡ machineBytes) (bytes : (i : ℕ) → i < length line → getD line i 0 < 256)
-    (short : length line < 2 ^ 64) (fits : at + maxLine ≤ length d) (lent : n ≡ min (length line - 0) maxLine)
-    (by : answered r p ≡ relabelledOf (scannedBy m line) line (length (take (at + n - at) (drop at d))))
+module _ (input : Input) (m line d : List ℕ) {e p : List ℕ} (at n : ℕ) {r : Answer} (made : m ≡ machineBytes) (bytes : (i : ℕ) → i < length line → getD line i 0 < 256)
+    (short : length line < 2 ^ 64) (fits : at + maxRow ≤ length d) (lent : n ≡ min (length line + maxAnnotations) maxRow)
+    (by : answered r p ≡ relabelAs input m line (length (take (at + n - at) (drop at d))))
     (is : e ≡ take at d ++ (p ++ drop (at + n - at) (drop at d))) where
   room : length (take (at + n - at) (drop at d)) ≡ n
   room = omega (arith, length-take (at + n - at) (drop at d), length-drop at d)
 
-  by-rules : Relabels line n (answered r p)
-  by-rules =
-      relabel-made line n m made bytes short (by ∙ ap (relabelledOf (scannedBy m line) line) room)
+  by-rules : RelabelsAs input line n (answered r p)
+  by-rules = relabels-made input line n m made bytes short (omega arith) (by ∙ ap (relabelAs input m line) room)
 
   head-length : length (take at d) ≡ at
   head-length = length-take-le at d (omega arith)
 
-  pub spelled-there : Spelled line d at e r
+  pub spelled-there : Spelled input line d at e r
   spelled-there =
-      let x = relabels-also (omega arith) by-rules (relabel-enough line by-rules (λ h. omega arith)) in
+      let x = relabels-also (omega arith) by-rules (relabels-enough line by-rules (omega arith)) in
       let y = relabels-roomy by-rules in
       let s = x .same in
       let rest = drop (at + n - at) (drop at d) in

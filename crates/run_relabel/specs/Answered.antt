@@ -1,15 +1,16 @@
--- What is printed for a line of the input, and where it waits to be written. Assumes nothing.
+-- What is printed for a line, or a row, of the input, and where it waits to be written. Assumes nothing.
 use Prim.Native.Nat.{ℕ, _+_}
 use mathlib.Core.Path.{_≡_}
 use mathlib.Core.Bool.{cond}
 use mathlib.Core.List.{List, [], _∷_, _++_}
 use lib.Dec.{eqb}
 use lib.ListN.{length, take}
-use Rattle.rules.specs.Limits.{maxLine}
+use Rattle.rules.specs.RowAnswers.{maxRow}
 use Rattle.rules.specs.Answers.{Answer}
 use Rattle.answers.specs.Delivered.{refusedOf}
 use Rattle.io_lines.specs.declared.Stream.{Stream}
 use Rattle.io_lines.specs.Streams.{waitingOf, roomOf, Roomed}
+use Rattle.run_program.specs.declared.Input.{Input}
 use Rattle.run_relabel.specs.AnswerPut.{refusalText}
 use Rattle.run_relabel.specs.Spelled.{Answers}
 
@@ -23,14 +24,14 @@ answerLine a = answerText a ++ (10 ∷ [])
 
 -- where the next answer goes, in an output of which some bytes wait
 abbrev pub placeIn : List ℕ → Stream → ℕ
-placeIn d s = roomOf (length d) (s .waiting) (maxLine + 1)
+placeIn d s = roomOf (length d) (s .waiting) (maxRow + 1)
 
 -- output d is e, and s is r: the answer to a line waits behind what waited, or alone where that was written; where it could not be
 -- written the stream is stopped
-pub record Answered (line : List ℕ) (s : Stream) (d e : List ℕ) (r : Stream) : Type 0 where
+pub record Answered (input : Input) (line : List ℕ) (s : Stream) (d e : List ℕ) (r : Stream) : Type 0 where
   pub answer : Answer
-  pub answers : Answers line answer
+  pub answers : Answers input line answer
   pub room : Stream
-  pub roomed : Roomed (length d) (maxLine + 1) s room
+  pub roomed : Roomed (length d) (maxRow + 1) s room
   pub waits : r ≡ waitingOf room (placeIn d s + length (answerLine answer))
   pub stands : take (r .waiting) e ≡ take (placeIn d s) d ++ answerLine answer

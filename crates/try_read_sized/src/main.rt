@@ -1,4 +1,5 @@
 // Each line of standard input has the form `N LINE`, and LINE is read into an output of N bytes.
+use run_program::Input;
 use run_program::was_asked;
 
 fn main() {
@@ -6,7 +7,7 @@ fn main() {
         b"try_read_sized",
         b"try_read_sized makes a table of each mzPAF line, with an output of the length that is asked for.
 
-Standard input has on each line a number of bytes (at most 21,340), a space and a line of annotations.
+Standard input has on each line a number of bytes (at most 21,360), a space and a line of annotations.
 Lines end at line feeds, and the last may lack its own.
 
 Standard output has one answer a line: the number of refusal, the place, how many bytes the table has, and the
@@ -16,5 +17,5 @@ table in hexadecimal digits, `-` where there is none.
     ) {
         return;
     }
-    run_reads::answer_lines(b"try_read_sized", true);
+    run_reads::answer_lines(b"try_read_sized", Input::Lines, true);
 }

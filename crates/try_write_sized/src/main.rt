@@ -1,4 +1,5 @@
 // Each line of standard input has the form `N TABLE`, and the table, in hexadecimal digits, is written into an output of N bytes.
+use run_program::Input;
 use run_program::was_asked;
 
 fn main() {
@@ -6,7 +7,7 @@ fn main() {
         b"try_write_sized",
         b"try_write_sized spells each stored table as an mzPAF line, with an output of the length that is asked for.
 
-Standard input has on each line a number of bytes (at most 4,096), a space and a stored table in hexadecimal
+Standard input has on each line a number of bytes (at most 4,160), a space and a stored table in hexadecimal
 digits. Lines end at line feeds, and the last may lack its own.
 
 Standard output has one answer a line: the number of refusal, the place, how many bytes the line has, and the
@@ -16,5 +17,5 @@ line in hexadecimal digits, `-` where there is none or it is empty.
     ) {
         return;
     }
-    run_writes::answer_tables(b"try_write_sized", true);
+    run_writes::answer_tables(b"try_write_sized", Input::Lines, true);
 }

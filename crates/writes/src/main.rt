@@ -1,4 +1,5 @@
 // Each line of standard input is a stored table in hexadecimal digits, written into an output that is as long as a line may be.
+use run_program::Input;
 use run_program::was_asked;
 
 fn main() {
@@ -15,5 +16,5 @@ line in hexadecimal digits, `-` where there is none or it is empty.
     ) {
         return;
     }
-    run_writes::answer_tables(b"writes", false);
+    run_writes::answer_tables(b"writes", Input::Lines, false);
 }

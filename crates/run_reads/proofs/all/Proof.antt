@@ -7,10 +7,10 @@ use Rattle.run_reads.proofs.all.Statement.{statement}
 use Rattle.run_reads.proofs.all.Tie as tie
 
 abbrev Inv-loop : tie.InvT-loop
-Inv-loop name machine buf₀ out₀ table₀ sized s₀ turns₀ buf out table s turns = (length buf ≡ length buf₀) × ((length out ≡ length out₀) × (length table ≡ length table₀))
+Inv-loop name input machine buf₀ out₀ table₀ sized s₀ turns₀ buf out table s turns = (length buf ≡ length buf₀) × ((length out ≡ length out₀) × (length table ≡ length table₀))
 
 abbrev μ-loop : tie.MeasureT-loop
-μ-loop name machine buf₀ out₀ table₀ sized s₀ turns₀ buf out table s turns = turns
+μ-loop name input machine buf₀ out₀ table₀ sized s₀ turns₀ buf out table s turns = turns
 
 begin-requires : tie.Need-begin-requires Inv-loop μ-loop
 begin-requires c κs = search needs

@@ -27,11 +27,11 @@ same-length-2 c = search needs
 
 returns : tie.Need-returns
 returns c =
-    let at-way = c .before .before .before .before .before .before .before .before in
-    let at-read-one = at-way in
+    let at-put-answer = c .before .before .before in
+    let at-read-one = at-put-answer .before .before .before .before .before in
     let at-part = at-read-one .before .before in
     let at-room = at-part .before in
-    answered-by (at-room .room .ensures) (at-part .part .ensures) (at-read-one .read-one .ensures) (c .before .before .before .put-answer .ensures) (c .answered .ensures)
+    answered-by (at-room .room .ensures) (at-part .part .ensures) (at-read-one .read-one .ensures) (at-put-answer .put-answer .ensures) (c .answered .ensures)
 
 pub one-line-spec : {M : Type 1} → statement M
 one-line-spec =

@@ -15,8 +15,8 @@ returns c =
     let at-if1 = c .before .before .before .before in
     read-tested (at-if1 .if1 .taken) (c .before .before .read-sized .ensures)
 
-read-by-requires : tie.Need-read-by-requires
-read-by-requires c κs = search needs
+read-as-requires : tie.Need-read-as-requires
+read-as-requires c κs = search needs
 
 same-length-2 : tie.Need-same-length-2
 same-length-2 c = search needs
@@ -24,7 +24,7 @@ same-length-2 c = search needs
 returns-2 : tie.Need-returns-2
 returns-2 c =
     let at-if1 = c .before .before .before .before in
-    read-tested (at-if1 .if1 .left) (read-whole _ _ _ (c .before .table2 .given) (c .before .before .read-by .ensures))
+    read-tested (at-if1 .if1 .left) (read-whole _ _ _ (c .before .table2 .given) (c .before .before .read-as .ensures))
 
 pub read-one-spec : {M : Type 1} → statement M
 read-one-spec =
@@ -33,6 +33,6 @@ read-one-spec =
     read-sized-requires
     same-length
     returns
-    read-by-requires
+    read-as-requires
     same-length-2
     returns-2)

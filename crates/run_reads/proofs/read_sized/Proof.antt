@@ -12,14 +12,14 @@ behind-size-requires c κs = search needs
 size-in-requires : tie.Need-size-in-requires
 size-in-requires c κs = search needs
 
-slice-relend-prefix-read-by : tie.Need-slice-relend-prefix-read-by
-slice-relend-prefix-read-by c = search needs
+slice-relend-prefix-read-as : tie.Need-slice-relend-prefix-read-as
+slice-relend-prefix-read-as c = search needs
 
-slice-aggregate-read-by : tie.Need-slice-aggregate-read-by
-slice-aggregate-read-by c = sym (length-take-le _ _ (search needs))
+slice-aggregate-read-as : tie.Need-slice-aggregate-read-as
+slice-aggregate-read-as c = sym (length-take-le _ _ (search needs))
 
-read-by-requires : tie.Need-read-by-requires
-read-by-requires c κs = search needs
+read-as-requires : tie.Need-read-as-requires
+read-as-requires c κs = search needs
 
 same-length : tie.Need-same-length
 same-length c = search needs
@@ -29,7 +29,7 @@ returns c =
     let at-size-in = c .before .before .before .before in
     let at-behind-size = at-size-in .before in
     let a = at-behind-size .before .before .before .before .args in
-    read-behind (a .asked .now) (a .table .now) _ (at-behind-size .behind-size .ensures) (at-size-in .size-in .ensures) (c .before .before .read-by .ensures) (c .before .table .given .0) refl
+    read-behind (a .asked .now) (a .table .now) _ (at-behind-size .behind-size .ensures) (at-size-in .size-in .ensures) (c .before .before .read-as .ensures) (c .before .table .given .0) refl
 
 pub read-sized-spec : {M : Type 1} → statement M
 read-sized-spec =
@@ -37,8 +37,8 @@ read-sized-spec =
     (tie.spec
     behind-size-requires
     size-in-requires
-    slice-relend-prefix-read-by
-    slice-aggregate-read-by
-    read-by-requires
+    slice-relend-prefix-read-as
+    slice-aggregate-read-as
+    read-as-requires
     same-length
     returns)

@@ -7,10 +7,10 @@ use Rattle.run_relabel.proofs.all.Statement.{statement}
 use Rattle.run_relabel.proofs.all.Tie as tie
 
 abbrev Inv-loop : tie.InvT-loop
-Inv-loop name machine buf₀ out₀ s₀ turns₀ buf out s turns = (length buf ≡ length buf₀) × (length out ≡ length out₀)
+Inv-loop name input machine buf₀ out₀ s₀ turns₀ buf out s turns = (length buf ≡ length buf₀) × (length out ≡ length out₀)
 
 abbrev μ-loop : tie.MeasureT-loop
-μ-loop name machine buf₀ out₀ s₀ turns₀ buf out s turns = turns
+μ-loop name input machine buf₀ out₀ s₀ turns₀ buf out s turns = turns
 
 begin-requires : tie.Need-begin-requires Inv-loop μ-loop
 begin-requires c κs = search needs
@@ -34,7 +34,11 @@ returns : tie.Need-returns Inv-loop μ-loop
 returns c = tt
 
 one-line-requires : tie.Need-one-line-requires Inv-loop μ-loop
-one-line-requires c κs = (c .before .before .before .before .before .before .before .before .before .before .before .before .before .before .before .before .pre .0, omega (arith, c .before .before .before .before .before .before .before .before .before .before .before .before .before .before .before .before .pre .1))
+one-line-requires c κs =
+    let at-else1 = c .before .before in
+    let at-begin = at-else1 .before .before .before .before .before .before .before in
+    let at-start = at-begin .before .before .before .before .before .before .before in
+    (at-start .pre .0, omega (arith, at-start .pre .1))
 
 next-line-requires-2 : tie.Need-next-line-requires-2 Inv-loop μ-loop
 next-line-requires-2 c κs = search needs

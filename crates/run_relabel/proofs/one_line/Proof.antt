@@ -18,7 +18,11 @@ part-requires : tie.Need-part-requires
 part-requires c κs = search needs
 
 spell-requires : tie.Need-spell-requires
-spell-requires c κs = let a = c .before .before .before .before .before .before .before .args in let p = c .before .before .before .before .before .before .before .pre in (p .0, omega (arith, room-at (c .before .before .room .ensures), room-fits (length (a .out .now)) (a .s .waiting) 4097 (p .1)))
+spell-requires c κs =
+    let at-room = c .before .before in
+    let at-start = at-room .before .before .before .before .before in
+    let a = at-start .args in
+    (at-start .pre .0, omega (arith, room-at (at-room .room .ensures), room-fits (length (a .out .now)) (a .s .waiting) 4161 (at-start .pre .1)))
 
 put-answer-requires : tie.Need-put-answer-requires
 put-answer-requires c κs = search needs
@@ -33,7 +37,16 @@ same-length : tie.Need-same-length
 same-length c = search needs
 
 returns : tie.Need-returns
-returns c = answered-by (c .before .before .before .before .before .before .before .before .before .before .before .before .before .before .room .ensures) (c .before .before .before .before .before .before .before .before .before .before .before .before .before .before .before .before .before .before .before .pre .1) (c .before .before .before .before .before .before .before .before .before .before .before .before .before .part .ensures) (c .before .before .before .before .before .before .before .before .before .before .out .given) (omega arith) (omega arith) (c .before .before .before .before .before .before .before .before .before .before .before .spell .ensures) (c .before .before .before .before .before .before .before .put-answer .ensures) (c .before .before .before .put8 .ensures) (c .answered .ensures)
+returns c =
+    let at-put8 = c .before .before .before in
+    let at-put-answer = at-put8 .before .before .before .before in
+    let at-out = at-put-answer .before .before .before in
+    let at-spell = at-out .before in
+    let at-part = at-spell .before .before in
+    let at-room = at-part .before in
+    let at-start = at-room .before .before .before .before .before in
+    answered-by (at-room .room .ensures) (at-start .pre .1) (at-part .part .ensures) (at-out .out .given) (omega (arith, at-spell .spell .ok)) (omega (arith, at-spell .spell .ok)) (at-spell .spell .ensures)
+    (at-put-answer .put-answer .ensures) (at-put8 .put8 .ensures) (c .answered .ensures)
 
 pub one-line-spec : {M : Type 1} → statement M
 one-line-spec =

@@ -1,4 +1,4 @@
--- `run_relabel::put_told` meets its contract: a refusal put, or the spelling as it stands. Assumes nothing.
+-- `run_relabel::put_answer` meets its contract: a refusal put, or the spelling as it stands. Assumes nothing.
 use mathlib.Core.Path.{refl}
 use Rattle.put_bytes.proofs.Putting.{put-then}
 use borrow.Author.Needs.{needs}

@@ -7,10 +7,10 @@ use Rattle.run_writes.proofs.all.Statement.{statement}
 use Rattle.run_writes.proofs.all.Tie as tie
 
 abbrev Inv-loop : tie.InvT-loop
-Inv-loop name machine buf₀ out₀ table₀ line₀ sized s₀ turns₀ buf out table line s turns = (length buf ≡ length buf₀) × ((length out ≡ length out₀) × ((length table ≡ length table₀) × (length line ≡ length line₀)))
+Inv-loop name input machine buf₀ out₀ table₀ line₀ sized s₀ turns₀ buf out table line s turns = (length buf ≡ length buf₀) × ((length out ≡ length out₀) × ((length table ≡ length table₀) × (length line ≡ length line₀)))
 
 abbrev μ-loop : tie.MeasureT-loop
-μ-loop name machine buf₀ out₀ table₀ line₀ sized s₀ turns₀ buf out table line s turns = turns
+μ-loop name input machine buf₀ out₀ table₀ line₀ sized s₀ turns₀ buf out table line s turns = turns
 
 begin-requires : tie.Need-begin-requires Inv-loop μ-loop
 begin-requires c κs = search needs
@@ -52,7 +52,16 @@ loop-less : tie.Need-loop-less Inv-loop μ-loop
 loop-less c = search needs
 
 loop-again : tie.Need-loop-again Inv-loop μ-loop
-loop-again c = let i = c .before .before .before .before .before .before .before .before .before .before .before .before .before .before .before .before .before .before .before .loop .inv .1 in (omega arith, (omega (arith, c .before .before .before .before .before .before .before .before .before .before .out .given, i .0), (omega (arith, c .before .before .before .before .before .before .before .before .table .given, i .1 .0), omega (arith, c .before .before .before .before .before .before .line .given, i .1 .1))))
+loop-again c =
+    let at-line = c .before .before .before .before .before .before in
+    let at-table = at-line .before .before in
+    let at-out = at-table .before .before in
+    let at-else1 = at-out .before .before .before .before .before .before in
+    let at-loop = at-else1 .before .before .before in
+    let i = at-loop .loop .inv in (
+      omega (arith, c .before .buf2 .given, i .0),
+      (omega (arith, at-out .out .given, i .1 .0), (omega (arith, at-table .table .given, i .1 .1 .0), omega (arith, at-line .line .given, i .1 .1 .1))),
+    )
 
 same-length-5 : tie.Need-same-length-5 Inv-loop μ-loop
 same-length-5 c = omega arith

@@ -31,12 +31,14 @@ same-length-3 c = search needs
 
 returns : tie.Need-returns
 returns c =
-    let at-way = c .before .before .before .before .before .before .before .before .before .before in
-    let at-write-one = at-way in
+    let at-put-answer = c .before .before .before in
+    let at-write-one = at-put-answer .before .before .before .before .before .before .before in
     let at-part = at-write-one .before .before .before in
     let at-room = at-part .before in
     let at-args = at-room .before .before .before .before .before .before .before in
-    let a = at-args .args in answered-by (a .machine .now) (a .sized) (take (a .s .len) (drop (a .s .from) (a .buf .now))) (length (a .table .now)) (length (a .line .now)) (at-room .room .ensures) (at-part .part .ensures) (at-write-one .write-one .ensures) (c .before .before .before .put-answer .ensures) (c .answered .ensures)
+    let a = at-args .args in
+    answered-by (a .input) (a .machine .now) (a .sized) (take (a .s .len) (drop (a .s .from) (a .buf .now))) (length (a .table .now)) (length (a .line .now))
+    (at-room .room .ensures) (at-part .part .ensures) (at-write-one .write-one .ensures) (at-put-answer .put-answer .ensures) (c .answered .ensures)
 
 pub one-table-spec : {M : Type 1} → statement M
 one-table-spec =

@@ -26,7 +26,7 @@ returns c =
     let at-is-hex = at-if1 .before in
     let at-args = at-is-hex .before .before .before .before .before in
     let a = at-args .args in
-    hex-refused (a .machine .now) (a .digits .now) (length (a .table .now)) (length (a .line .now)) (sym (at-is-hex .is-hex .ensures) ∙ not-true _ (at-if1 .if1 .taken))
+    hex-refused (a .input) (a .machine .now) (a .digits .now) (length (a .table .now)) (length (a .line .now)) (sym (at-is-hex .is-hex .ensures) ∙ not-true _ (at-if1 .if1 .taken))
     (c .before .before .before .clear .ensures) (c .refuse .ensures)
 
 put-unhexed-requires : tie.Need-put-unhexed-requires
@@ -35,8 +35,8 @@ put-unhexed-requires c κs = search needs
 first-of-requires : tie.Need-first-of-requires
 first-of-requires c κs = search needs
 
-write-by-requires : tie.Need-write-by-requires
-write-by-requires c κs = search needs
+write-as-requires : tie.Need-write-as-requires
+write-as-requires c κs = search needs
 
 same-length-2 : tie.Need-same-length-2
 same-length-2 c = search needs
@@ -52,8 +52,8 @@ returns-2 c =
     let at-is-hex = at-if1 .before in
     let at-args = at-is-hex .before .before .before .before .before in
     let a = at-args .args in
-    hex-written (a .machine .now) (a .digits .now) (length (a .table .now)) (length (a .line .now)) (sym (at-is-hex .is-hex .ensures) ∙ not-false _ (at-if1 .if1 .left))
-    (put-front (at-put-unhexed .put-unhexed .ensures) (at-first-of .first-of .ensures)) (c .before .before .write-by .ensures)
+    hex-written (a .input) (a .machine .now) (a .digits .now) (length (a .table .now)) (length (a .line .now)) (sym (at-is-hex .is-hex .ensures) ∙ not-false _ (at-if1 .if1 .left))
+    (put-front (at-put-unhexed .put-unhexed .ensures) (at-first-of .first-of .ensures)) (c .before .before .write-as .ensures)
 
 pub write-hex-spec : {M : Type 1} → statement M
 write-hex-spec =
@@ -66,7 +66,7 @@ write-hex-spec =
     returns
     put-unhexed-requires
     first-of-requires
-    write-by-requires
+    write-as-requires
     same-length-2
     same-length-3
     returns-2)

@@ -20,7 +20,7 @@ returns c =
     let at-if1 = at-write-sized .before .before .before in
     let at-args = at-if1 .before .before .before .before .before in
     let a = at-args .args in
-    one-sized (a .machine .now) (a .sized) (a .asked .now) (length (a .table .now)) (at-if1 .if1 .taken) (at-write-sized .write-sized .ensures)
+    one-sized (a .input) (a .machine .now) (a .sized) (a .asked .now) (length (a .table .now)) (at-if1 .if1 .taken) (at-write-sized .write-sized .ensures)
 
 write-hex-requires : tie.Need-write-hex-requires
 write-hex-requires c κs = search needs
@@ -37,7 +37,7 @@ returns-2 c =
     let at-if1 = at-write-hex .before .before .before in
     let at-args = at-if1 .before .before .before .before .before in
     let a = at-args .args in
-    one-plain (a .machine .now) (a .sized) (a .asked .now) (length (a .table .now)) (at-if1 .if1 .left) (c .before .line2 .given) (at-write-hex .write-hex .ensures)
+    one-plain (a .input) (a .machine .now) (a .sized) (a .asked .now) (length (a .table .now)) (at-if1 .if1 .left) (c .before .line2 .given) (at-write-hex .write-hex .ensures)
 
 pub write-one-spec : {M : Type 1} → statement M
 write-one-spec =

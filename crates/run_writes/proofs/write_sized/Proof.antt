@@ -34,7 +34,7 @@ returns c =
     let at-size-in = at-write-hex .before .before .before in
     let at-behind-size = at-size-in .before in
     let a = at-behind-size .before .before .before .before .before .args in
-    written-sized (a .machine .now) (a .asked .now) (length (a .table .now)) (at-behind-size .behind-size .ensures) (at-size-in .size-in .ensures) (search needs) (at-write-hex .write-hex .ensures) refl
+    written-sized (a .input) (a .machine .now) (a .asked .now) (length (a .table .now)) (at-behind-size .behind-size .ensures) (at-size-in .size-in .ensures) (search needs) (at-write-hex .write-hex .ensures) refl
 
 pub write-sized-spec : {M : Type 1} → statement M
 write-sized-spec =

@@ -1,0 +1,20 @@
+// Each line of standard input is a stored row in hexadecimal digits, written into an output that is as long as a row may be.
+use run_program::Input;
+use run_program::was_asked;
+
+fn main() {
+    if was_asked(
+        b"row_writes",
+        b"row_writes spells each stored row as a row of a peak list, with an output that is as long as a row may be.
+
+Standard input has one stored row a line, in hexadecimal digits. Lines end at line feeds, and the last may lack its own.
+
+Standard output has one answer a line: the number of refusal, the place, how many bytes the row has, and the
+row in hexadecimal digits, `-` where there is none.
+",
+        true,
+    ) {
+        return;
+    }
+    run_writes::answer_tables(b"row_writes", Input::Rows, false);
+}

@@ -1,0 +1,21 @@
+// Each line of standard input has the form `N ROW`, and ROW is read into an output of N bytes.
+use run_program::Input;
+use run_program::was_asked;
+
+fn main() {
+    if was_asked(
+        b"try_read_row_sized",
+        b"try_read_row_sized makes a stored row of each row of a peak list, with an output of the length that is asked for.
+
+Standard input has on each line a number of bytes (at most 21,360), a space and a row: m/z, a tab, intensity, and
+perhaps a tab and a line of annotations. Lines end at line feeds, and the last may lack its own.
+
+Standard output has one answer a line: the number of refusal, the place, how many bytes the stored row has, and the
+stored row in hexadecimal digits, `-` where there is none.
+",
+        true,
+    ) {
+        return;
+    }
+    run_reads::answer_lines(b"try_read_row_sized", Input::Rows, true);
+}
