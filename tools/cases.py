@@ -7,8 +7,8 @@
 
 PROGRAM reads lines from standard input and prints `NUMBER PLACE LENGTH HEX` for each, HEX being `-` where there is no table;
 with `--out N` it does so with an output of N bytes. It is a reader other than this repository's, so that two readers agree on the
-stored outputs. A line has any bytes but the line feed. Each case is a line with its answer, where document 01 or a reading in
-docs/DECISIONS.md states it (`no` a refusal, `yes` a table), or without one (`ask`).
+stored outputs. A line has any bytes but the line feed. Each case is a line with its answer, where document 01, a request of document
+02 that has landed, or a reading in docs/DECISIONS.md states it (`no` a refusal, `yes` a table), or without one (`ask`).
 """
 import itertools
 import os
@@ -357,6 +357,69 @@ def sums():
     no(joined(15, "y1*0.0625") + ",y1*0.062500001", 7, 150)
 
 
+def points():
+    """Confidences that begin with the point. Document 02, M-102."""
+    same("y1*0.5", "y1*.5")
+    same("y1*0.0", "y1*.0")
+    same("y1*0.000000000", "y1*.000000000")
+    same("y1*0.123456789", "y1*.123456789")
+    same("&1@y1-H2O-NH3+i[M+H+Na]^2/-0.5ppm*0.25", "&1@y1-NH3-H2O+1i[M+Na+1H]^2/-0.5ppm*.25")
+    same("f{C1H}*0.1,p*0.2", "f{CH1}*.1,p*0.2", "f{CH}*0.1,p*.2", "f{CH}*.1,p*.2")
+    same("_{*.5}*0.5", "_{*.5}*.5")
+    same("y1*0.5,b2*0.5", "y1*.5,b2*.5", "y1*0.5,b2*.5", "y1*.5,b2*0.5")
+    differ("y1*.5", "y1*.50")
+    differ("y1*.5", "y1*.05")
+    differ("y1*.0", "y1*0")
+    no("y1*.", 3, 4)
+    no("y1*.,p", 2, 4)
+    no("y1*..5", 2, 4)
+    no("y1*.5.5", 2, 5)
+    no("y1*.-5", 2, 4)
+    no("y1*-.5", 2, 3)
+    no("y1*.5ppm", 2, 5)
+    no("y1*.5/0.1", 2, 5)
+    no("y1*.5*.5", 2, 5)
+    no("y1*00.5", 2, 4)
+    no("y1*0.", 3, 5)
+    no("y1.5", 2, 2)
+    no("y1*1.", 3, 5)
+    no("y1/.5", 2, 3)
+    no("y1/-.5", 2, 4)
+    no("y1/.5ppm*.5", 2, 3)
+    no("y1/0.5*.", 3, 8)
+    no("y1*.1234567890", 4, 4)
+    no("y1*.0000000000", 4, 4)
+    no("y1*." + "1" * 60, 4, 4)
+    no("y65536*.1234567890", 4, 1)
+    no("y1*.1234567890,y65536", 4, 4)
+    no("y1*.5,b2*.501", 7, 6)
+    no("y1*.999999999,b2*.000000002", 7, 14)
+    yes("y1*.999999999,b2*.000000001")
+    no("y1*1,b2*.000000001", 7, 5)
+    no("m1:3*.5", 6, 0)
+    yes(joined(16, "y1*.0625"))
+    no(joined(17, "y1*.0"), 5, 96)
+    # the preferred spelling of the first has 4,096 bytes, that of the second one more, that of the third 16 more
+    for size, zeros in ((4095, 1), (4096, 1), (4096, 16)):
+        yes(filled(size, zeros))
+    no(filled(4097, 16), 1, 4096)
+
+
+def filled(size, zeros):
+    """A line of so many bytes that is read: 16 annotations, of which so many have a confidence without its 0, and the others none."""
+    parts = ["_{%s}" + ("*.0" if i < zeros else "") for i in range(16)]
+    left = size - sum(len(p) - 2 for p in parts) - 15
+    texts = []
+    for i in range(16):
+        n = left // (16 - i)
+        texts.append("x" * n)
+        left -= n
+    assert max(len(t) for t in texts) <= 255
+    line = ",".join(p % t for p, t in zip(parts, texts))
+    assert len(line) == size
+    return line
+
+
 def spellings():
     """Lines that spell one table, and their nearest neighbours that do not."""
     same("y1-H2O", "y1-H2O1")
@@ -617,7 +680,7 @@ def answers_by(program, given, *words):
 
 
 def main(words):
-    for part in (examples, readings, specification, lengths, counted, numbered, together, sums, spellings, orders, kinds, unfinished, strays):
+    for part in (examples, readings, specification, lengths, counted, numbered, together, sums, points, spellings, orders, kinds, unfinished, strays):
         part()
     made = rooms()
     if words[:1] == ["--check"]:

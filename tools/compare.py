@@ -34,6 +34,10 @@ class Maker:
         self.random = random.Random(seed)
         self.good = good
 
+    def pointed(self, decimal):
+        """A confidence, at times without the 0 before its point."""
+        return decimal[1:] if decimal.startswith("0.") and self.random.random() < 0.3 else decimal
+
     def number(self, low=1, high=30):
         if self.random.random() < 0.01:
             return str(self.random.choice(EDGES[low:] if low < 3 else EDGES))
@@ -98,7 +102,7 @@ class Maker:
         if chance() < 0.3:
             parts.append("/" + ("-" if chance() < 0.3 else "") + self.random.choice(DECIMALS) + ("ppm" if chance() < 0.5 else ""))
         if chance() < 0.2:
-            parts.append("*" + self.random.choice(DECIMALS))
+            parts.append("*" + self.pointed(self.random.choice(DECIMALS)))
         return "".join(parts)
 
     def fresh(self):
@@ -115,7 +119,7 @@ class Maker:
         last = parts[-1] * 10 ** (9 - places) + self.random.choice([0, 0, -1, 1, 2])
         texts = ["%d.%0*d" % (part // 10**places, places, part % 10**places) for part in parts[:-1]]
         texts.append("%d.%09d" % (max(last, 0) // 10**9, max(last, 0) % 10**9))
-        return ",".join(self.ion().replace("s{", "_{") + "*" + text for text in texts).encode()
+        return ",".join(self.ion().replace("s{", "_{") + "*" + self.pointed(text) for text in texts).encode()
 
     def piece(self, line):
         """A stretch of a line, from one byte to all of it, often cut where parts begin."""

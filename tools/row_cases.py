@@ -29,8 +29,8 @@ import table_cases
 from cases import ROOT, raw, store, stored
 from table_cases import C, H2O, annotation, changed, decimal, framed, is_pairs, largest, little, number, other, record, rich, spelled, table, texts
 
-# The flags of the other implementation for the requests that have landed here and change answers: ("--m102",) once M-102 has.
-LANDED = ()
+# The flags of the other implementation for the requests that have landed here and change answers.
+LANDED = ("--m102",)
 
 MAX_LINE, MAX_ROW, FRONT = 4096, 4160, 20
 ROOM = FRONT + 21340
@@ -333,8 +333,8 @@ def of_bytes():
 
 
 def of_points():
-    """Confidences that begin with the point (M-102), which columns and deviations may not; a stray byte before that request has landed."""
-    landed, one = "--m102" in LANDED, (1, 0)
+    """Confidences that begin with the point (M-102), which columns and deviations may not."""
+    one = (1, 0)
     no("1\t1\ty1/.5", 2, 7)
     no(".5\t1\ty1*.5", 12, 0)
     no("1\t.5\ty1*.5", 13, 2)
@@ -342,11 +342,6 @@ def of_points():
     texts_of = [b"x" * 249] * 15 + [b"x" * 250]
     line = b",".join(b"_{" + text + b"}*.0" for text in texts_of)
     assert len(line) == MAX_LINE
-    if not landed:
-        for end in (".5", ".", ".1234567890", ".5,b2*.501"):
-            no("1\t1\ty1*" + end, 2, 7)
-        no(b"1\t1\t" + line, 2, 4 + 253)
-        return
     yes("1\t1\ty1*.5", one, one, annotation(sure=1, sure_decimals=1, confidence=5))
     no("1\t1\ty1*.", 3, 8)
     no("1\t1\ty1*.1234567890", 4, 8)

@@ -15,6 +15,11 @@ abbrev pub optText : {A : Type 0} → (A → List ℕ) → Opt A → List ℕ
 optText f silent = []
 optText f (written a) = f a
 
+-- what is there, changed
+abbrev pub optMap : {A B : Type 0} → (A → B) → Opt A → Opt B
+optMap f silent = silent
+optMap f (written a) = written (f a)
+
 -- one or more
 pub record Some (A : Type 0) : Type 0 where
   pub first : A

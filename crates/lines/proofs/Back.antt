@@ -1,22 +1,23 @@
 -- Back again: what was written reads to the very table; what was read is written in the preferred spelling of the line; and reading and
 -- writing one after the other has one answer. Assumes nothing.
-use Prim.Native.Nat.{ℕ, _≤_}
+use Prim.Native.Nat.{ℕ, _+_, _<_, _≤_, min}
 use mathlib.Core.Path.{_≡_, refl, sym, ap, _∙_, subst}
 use mathlib.Core.List.{List}
 use native.Mathlib.Omega.{arith}
 use lib.ListN.{length, take}
 use Rattle.rules.specs.Fields.{Table, Spells}
-use Rattle.rules.specs.Limits.{maxLine}
+use Rattle.rules.specs.Limits.{maxLine, maxAnnotations}
 use Rattle.rules.specs.Preferred.{preferred, preferredSpelling}
 use Rattle.rules.specs.Stored.{stored}
 use Rattle.rules.specs.Answers.{Answer, refuses, gives, Delivers, no-room, done, Sound, Holds, Reads, ReadsSpelling, ReadsRules, ReadsSum, Writes, no-table, long, fits}
 use Rattle.rules.specs.Largest.{maxTable}
 use Rattle.rules.specs.Editions.{current}
+use Rattle.rules.proofs.Bounds.{each-length, table-few}
 use Rattle.rules.proofs.PreferredSpells.{said-in-order, preferred-says}
 use Rattle.rules.proofs.WritesOne.{holds-one, writes-one}
 use Rattle.shape.proofs.Unambiguous.{reads-one}
 use Rattle.write_table.proofs.Prefers.{preferred-kept, preferred-rules, preferred-sum}
-use Rattle.write_table.proofs.Shorter.{preferred-shorter}
+use Rattle.write_table.proofs.Longer.{preferred-longer}
 use Rattle.write_table.proofs.Holds.{take-given}
 use Rattle.lines.specs.Relabels.{Relabels, refused, relabelled}
 use Rattle.lines.proofs.Enough.{delivers-enough, read-enough}
@@ -51,29 +52,34 @@ read-back-one {room′ = room′} w e g r = reads-one r (read-back w e room′ g
 
 -- ---- writing what was read
 
--- the bytes are this table's, whose preferred line is within its bound: every answer of writing delivers that line
-writes-delivers : {bytes : List ℕ} (t : Table) → Holds current bytes t → length (preferred t) ≤ maxLine → {room : ℕ} {b : Answer} → Writes bytes room b → Delivers room (preferred t) b
-writes-delivers t h l (no-table n) = absurd (n t h)
-writes-delivers t h l (long u g k) = absurd (omega (arith, ap (λ (x : Table). length (preferred x)) (holds-one h g)))
-writes-delivers t h l {room} {b} (fits u g k d) = subst (λ (x : Table). Delivers room (preferred x) b) (holds-one g h) d
+-- a line that is to be written: 1 where it is past its bound, else 8, or done
+pub data HandsOver (room : ℕ) (line : List ℕ) : Answer → Type 0 where
+  past : maxLine < length line → HandsOver room line (refuses room 1 maxLine)
+  within : length line ≤ maxLine → {b : Answer} → Delivers room line b → HandsOver room line b
+
+-- the bytes are this table's: every answer of writing hands over its preferred line
+hands-over : {bytes : List ℕ} (t : Table) → Holds current bytes t → {room : ℕ} {b : Answer} → Writes bytes room b → HandsOver room (preferred t) b
+hands-over t h (no-table n) = absurd (n t h)
+hands-over t h {room} (long u g k) = subst (λ (x : Table). HandsOver room (preferred x) (refuses room 1 maxLine)) (holds-one g h) (past k)
+hands-over t h {room} {b} (fits u g k d) = subst (λ (x : Table). HandsOver room (preferred x) b) (holds-one g h) (within k d)
 
 -- what was read, and what it is written as
 pub record Written (line bytes : List ℕ) : Type 0 where
   pub table : Table
   pub spells : Spells table line
   pub is : stored current table ≡ bytes
-  pub shorter : length (preferred table) ≤ length line
-  pub writes : (room : ℕ) (b : Answer) → Writes bytes room b → Delivers room (preferred table) b
+  pub longer : length (preferred table) ≤ length line + maxAnnotations
+  pub writes : (room : ℕ) (b : Answer) → Writes bytes room b → HandsOver room (preferred table) b
 
 pub write-back : (line : List ℕ) {room : ℕ} {a : Answer} → Reads line room a → a .number ≡ 0 → Written line (take (a .size) (a .out))
 write-back line {room} {a} r e =
     let x = reads-table line room r e in
     let t = x .table in
     let q = bytes-read line room x in
-    let k : length (preferred t) ≤ length line = omega (arith, preferred-shorter (x .says), ap length (x .text)) in
-    let l : length (preferred t) ≤ maxLine = omega (arith, x .short) in
+    let k : length (preferred t) ≤ length line + maxAnnotations =
+    omega (arith, preferred-longer (x .says), ap length (x .text), each-length (x .says), table-few t (x .sound)) in
     let h : Holds current (take (a .size) (a .out)) t = record { sound = x .sound; is = sym q } in
-    record { table = t; spells = record { spelling = x .spelling; text = x .text; says = x .says }; is = sym q; shorter = k; writes = λ room b w. writes-delivers t h l w }
+    record { table = t; spells = record { spelling = x .spelling; text = x .text; says = x .says }; is = sym q; longer = k; writes = λ room b w. hands-over t h w }
 
 -- ---- both
 
@@ -83,9 +89,10 @@ pub record Relabelled (line : List ℕ) (room : ℕ) (b : Answer) : Type 0 where
   pub spells : Spells table line
   pub is : b ≡ gives room (preferred table)
 
-given : (t : Table) (room : ℕ) {b : Answer} → Delivers room (preferred t) b → b .number ≡ 0 → b ≡ gives room (preferred t)
-given t room (no-room h) e = absurd (omega arith)
-given t room (done h) e = refl
+given : (t : Table) (room : ℕ) {b : Answer} → HandsOver room (preferred t) b → b .number ≡ 0 → b ≡ gives room (preferred t)
+given t room (past l) e = absurd (omega arith)
+given t room (within l (no-room h)) e = absurd (omega arith)
+given t room (within l (done h)) e = refl
 
 pub relabels-preferred : (line : List ℕ) {room : ℕ} {b : Answer} → Relabels line room b → b .number ≡ 0 → Relabelled line room b
 relabels-preferred line (refused r h) e = absurd (h e)
@@ -93,14 +100,22 @@ relabels-preferred line {room} {b} (relabelled r n w) e =
     let x = write-back line r n in
     record { table = x .table; spells = x .spells; is = given (x .table) room (x .writes room b w) e }
 
--- an output as long as the line is never too short
-pub relabel-enough : (line : List ℕ) {room : ℕ} {b : Answer} → Relabels line room b → (length line ≤ maxLine → length line ≤ room) → b .number ≡ 8 → ⊥
+handed-enough : {room : ℕ} {w : List ℕ} {b : Answer} → HandsOver room w b → min (length w) maxLine ≤ room → b .number ≡ 8 → ⊥
+handed-enough (past l) g e = omega arith
+handed-enough (within l d) g e = delivers-enough d (omega arith) e
+
+-- how many bytes the preferred spelling of a line has at most: one more than the line for each annotation, and no more than a line may have
+abbrev pub enoughFor : ℕ → ℕ
+enoughFor n = min (n + maxAnnotations) maxLine
+
+-- an output of so many is never too short
+pub relabel-enough : (line : List ℕ) {room : ℕ} {b : Answer} → Relabels line room b → (length line ≤ maxLine → enoughFor (length line) ≤ room) → b .number ≡ 8 → ⊥
 relabel-enough line (refused r h) large e = read-enough line r (omega arith) e
 relabel-enough line {room} {b} (relabelled r n w) large e =
     let x = reads-table line maxTable r n in
     let y = write-back line r n in
     let k = large (x .short) in
-    delivers-enough (y .writes room b w) (omega (arith, y .shorter)) e
+    handed-enough (y .writes room b w) (omega (arith, y .longer)) e
 
 -- two answers are equal
 pub relabels-one : (line : List ℕ) {room : ℕ} {a b : Answer} → Relabels line room a → Relabels line room b → a ≡ b

@@ -15,7 +15,8 @@ use Rattle.rules.specs.Ions.{Ion, ionText}
 use Rattle.rules.specs.Losses.{Loss, lossText}
 use Rattle.rules.specs.Isotopes.{isotopesText}
 use Rattle.rules.specs.Adducts.{adductText}
-use Rattle.rules.specs.Annotations.{TableAnnotation, SpelledAnnotation, flagText, analyteText, chargeText, deviationText, confidenceText, annotationText}
+use Rattle.rules.specs.Confidences.{confidenceText}
+use Rattle.rules.specs.Annotations.{TableAnnotation, SpelledAnnotation, flagText, analyteText, chargeText, deviationText, annotationText}
 use Rattle.rules.specs.Lines.{Spelling, lineText, nextText}
 use Rattle.rules.specs.Fields.{Table, Says}
 use Rattle.rules.specs.Limits.{maxLine, maxUnits}

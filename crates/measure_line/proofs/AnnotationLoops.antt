@@ -33,7 +33,7 @@ measured-fits s p e =
 pub first-added : (line : List ℕ) (p : Parts) {m : Measured} {breach excess : Fault} {at : ℕ} → m ≡ measuredOf line p
     → m .share ≤ largest
     → breach ≡ noted (fault 0 0) 6 0 (m .kept) → excess ≡ noted (fault 0 0) 7 0 (leb (m .share) one) → at ≡ min (0 + m .len) (length line)
-    → record { counts = m .counts; sum = m .share; limit = m .fault; breach = breach; excess = excess; at = at } ≡ addedBy line nothing 0 p
+    → record { counts = m .counts; free = m .free; sum = m .share; limit = m .fault; breach = breach; excess = excess; at = at } ≡ addedBy line nothing 0 p
 first-added line p {m} pm hs pb pe pa =
     let z : length line - length line ≡ 0 = omega arith in
     let c : plus noCounts (m .counts) ≡ m .counts = measured-fits line p pm in

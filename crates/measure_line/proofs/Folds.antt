@@ -11,7 +11,7 @@ use borrow.Author.Tests.{leb-true, leb-false, lt-leb}
 use Rattle.lang.specs.Parts.{Opt, silent, written}
 use Rattle.rules.specs.Annotations.{SpelledAnnotation, annotationText}
 use Rattle.rules.specs.Lines.{Spelling}
-use Rattle.rules.specs.House.{annotationRules, confidenceOf, one, firstBreach, firstExcess}
+use Rattle.rules.specs.House.{annotationRules, share, one, firstBreach, firstExcess}
 use Rattle.numbers.specs.Shares.{largest}
 use Rattle.faults.specs.declared.Fault.{Fault}
 use Rattle.faults.specs.Faults.{fault}
@@ -28,7 +28,7 @@ foldBreach f at (a ∷ more) = foldBreach (noted f 6 at (annotationRules a)) (be
 
 -- a confidence as it is told
 abbrev pub shareIn : SpelledAnnotation → ℕ
-shareIn a = min (confidenceOf (a .confidence)) largest
+shareIn a = min (share a) largest
 
 abbrev pub foldExcess : Fault → ℕ → ℕ → Spelling → Fault
 foldExcess f sum at [] = f
@@ -85,7 +85,7 @@ sum-past sum c h = omega arith
 pub excess-seen : (sum at : ℕ) (s : Spelling) → foldExcess (fault 0 0) sum at s ≡ told 7 (firstExcess sum at s)
 excess-seen sum at [] = refl
 excess-seen sum at (a ∷ more) =
-    let c = confidenceOf (a .confidence) in
+    let c = share a in
     by c (summed sum (shareIn a)) (excess-seen (sum + c) (behind at a) more) (leb (sum + c) one) refl (sum-within sum c) (sum-past sum c)
   where
     by : (c next : ℕ) → foldExcess (fault 0 0) (sum + c) (behind at a) more ≡ told 7 (firstExcess (sum + c) (behind at a) more)

@@ -1,6 +1,7 @@
 -- What is counted of the annotations of a spelled line. Assumes nothing.
 use Prim.Native.Nat.{ℕ, suc, _+_, _-_, _≤_}
 use mathlib.Core.Path.{_≡_, refl, sym, ap, ap₂, _∙_, subst}
+use mathlib.Core.Bool.{Bool, true, false, _||_}
 use mathlib.Core.List.{List, [], _∷_, _++_}
 use native.Mathlib.Omega.{arith}
 use lib.Dec.{leb}
@@ -14,6 +15,7 @@ use Rattle.rules.specs.Lines.{Spelling, nextText, lineText}
 use Rattle.rules.specs.Fields.{filledAnnotation}
 use Rattle.rules.specs.Limits.{annotationMarks, nextMarks, rowMarks, lineMarks}
 use Rattle.rules.specs.House.{one}
+use Rattle.rules.proofs.Confidences.{zeroLeftOut}
 use Rattle.rules.proofs.Keeps.{kept-left, kept-right}
 use Rattle.rules.proofs.RisesParts.{ion-some}
 use Rattle.put_bytes.specs.Puts.{maxPlace}
@@ -42,11 +44,30 @@ abbrev pub spelledCounts : Spelling → Counts
 spelledCounts [] = noCounts
 spelledCounts (a ∷ s) = plus (countsIn a) (spelledCounts s)
 
+-- whether an annotation of a spelling leaves out the 0 of its confidence
+abbrev pub anyFree : Spelling → Bool
+anyFree [] = false
+anyFree (a ∷ s) = zeroLeftOut (a .confidence) || anyFree s
+
 -- faults, where the limits ms are those of the annotations s, the first of which begins at a place
 pub record Finds (ms : List Mark) (s : Spelling) (from : ℕ) (t u : Totals) : Type 0 where
   pub limit : u .limit ≡ after (t .limit) ms
   pub breach : Kept ms → u .breach ≡ foldBreach (t .breach) from s
   pub excess : Kept ms → u .excess ≡ foldExcess (t .excess) (t .sum) from s
+
+-- what is counted of a spelled line
+pub record TotalsRead (s : Spelling) (u : Totals) : Type 0 where
+  pub counts : u .counts ≡ plus noCounts (spelledCounts s)
+  pub free : u .free ≡ anyFree s
+  pub finds : Finds (lineMarks s) s 0 nothing u
+
+or-none : (b : Bool) → (b || false) ≡ b
+or-none true = refl
+or-none false = refl
+
+or-assoc : (a b c : Bool) → ((a || b) || c) ≡ (a || (b || c))
+or-assoc true b c = refl
+or-assoc false b c = refl
 
 -- ---- no annotation is empty
 
@@ -66,6 +87,9 @@ module _ (line : List ℕ) (small : length line ≤ maxPlace) where
       (h : Measures (t .counts .annotations) a from (t .limit) m) where
     one-counts : addedWith line t from m .counts ≡ plus (t .counts) (countsIn a)
     one-counts = ap (plus (t .counts)) (h .counts) ∙ plus-capped (t .counts) (countsIn a)
+
+    one-free : addedWith line t from m .free ≡ (t .free || zeroLeftOut (a .confidence))
+    one-free = ap (λ (b : Bool). t .free || b) (h .free)
 
     one-annotation : m .counts .annotations ≡ 1
     one-annotation = ap (λ (n : Counts). n .annotations) (h .counts)
@@ -113,6 +137,7 @@ module _ (line : List ℕ) (small : length line ≤ maxPlace) where
   -- what was counted from t to u, where the annotations `more` stand behind t, each behind its comma
   record Through (more : Spelling) (t u : Totals) : Type 0 where
     counts : u .counts ≡ plus (t .counts) (spelledCounts more)
+    free : u .free ≡ (t .free || anyFree more)
     finds : Finds (rowMarks nextText nextMarks (t .counts .annotations) more (t .at)) more (t .at + 1) t u
 
   -- the first of them begins at `from`
@@ -153,12 +178,17 @@ module _ (line : List ℕ) (small : length line ≤ maxPlace) where
         r .counts ∙ ap (λ (n : Counts). plus n (spelledCounts more)) (one-counts a t from m g h)
         ∙ plus-assoc (t .counts) (countsIn a) (spelledCounts more)
 
+    free-more : {u : Totals} → Through more next u → u .free ≡ (t .free || anyFree (a ∷ more))
+    free-more r =
+        r .free ∙ ap (λ (b : Bool). b || anyFree more) (one-free a t from m g h)
+        ∙ or-assoc (t .free) (zeroLeftOut (a .confidence)) (anyFree more)
+
   -- t is a sum already
   through : (more : Spelling) (n : ℕ) (t : Totals) → t .counts ≡ plus (t .counts) noCounts → length line - t .at ≤ n → t .at ≤ length line → drop (t .at) line ≡ flat nextText more
       → t .counts .annotations + length (flat nextText more) ≤ maxPlace → Through more t (totalsFrom line n t)
   through [] n t s l i e r =
       let q = loop-ends (λ (t : Totals). goesOn line (t .at)) (addNext line) n t (rw e) in
-      subst (λ (u : Totals). Through [] t u) (sym q) (record { counts = s; finds = record { limit = refl; breach = λ k. refl; excess = λ k. refl } })
+      subst (λ (u : Totals). Through [] t u) (sym q) (record { counts = s; free = sym (or-none (t .free)); finds = record { limit = refl; breach = λ k. refl; excess = λ k. refl } })
   through (a ∷ more) n t s l i e r =
       let w = annotationText a ++ flat nextText more in
       let d : length line - t .at ≡ suc (length w) = sym (length-drop (t .at) line) ∙ ap length e in
@@ -179,6 +209,7 @@ module _ (line : List ℕ) (small : length line ≤ maxPlace) where
       subst (λ (v : Totals). Through (a ∷ more) t v) (sym (on ∙ ap (totalsFrom line n) is))
       (record {
         counts = counted-more a more t (t .at + 1) m (omega arith) (x .inside) (x .measures) y;
+        free = free-more a more t (t .at + 1) m (omega arith) (x .inside) (x .measures) y;
         finds =
             subst (λ (at : ℕ). Finds (nextMarks (t .counts .annotations) a (t .at) ++ rowMarks nextText nextMarks (t .counts .annotations + 1) more at) (a ∷ more) (t .at + 1) t (totalsFrom line n u))
             (omega arith) (finds-more a more t (t .at + 1) m (omega arith) (x .inside) (x .measures) y);
@@ -188,8 +219,7 @@ module _ (line : List ℕ) (small : length line ≤ maxPlace) where
 
   -- an empty line has no annotations; of another, the first begins at 0
   first-through : (a : SpelledAnnotation) (more : Spelling) → line ≡ lineText (a ∷ more)
-      → (totalsFrom line (length line) (addOf line nothing 0) .counts ≡ plus noCounts (spelledCounts (a ∷ more)))
-      × Finds (lineMarks (a ∷ more)) (a ∷ more) 0 nothing (totalsFrom line (length line) (addOf line nothing 0))
+      → TotalsRead (a ∷ more) (totalsFrom line (length line) (addOf line nothing 0))
   first-through a more e =
       let c : length line ≡ length (annotationText a) + length (flat nextText more) = ap length e ∙ length-append (annotationText a) (flat nextText more) in
       let b = annotation-some a in
@@ -202,28 +232,25 @@ module _ (line : List ℕ) (small : length line ≤ maxPlace) where
       ap (λ (n : ℕ). drop n line) o ∙ ap (drop (length (annotationText a))) e ∙ drop-append-seam (annotationText a) (flat nextText more) in
       let b₁ = one-annotation a nothing 0 m (x .inside) (x .measures) in
       let y = through more (length line) u (sym (plus-none noCounts (m .counts))) (omega arith) (omega arith) p (omega arith) in
-      subst (λ (v : Totals). (v .counts ≡ plus noCounts (spelledCounts (a ∷ more))) × Finds (lineMarks (a ∷ more)) (a ∷ more) 0 nothing v)
-      (sym (ap (totalsFrom line (length line)) (x .is))) (
-        counted-more a more nothing 0 m (omega arith) (x .inside) (x .measures) y,
-        subst (λ (at : ℕ). Finds (annotationMarks 0 a 0 ++ rowMarks nextText nextMarks 1 more at) (a ∷ more) 0 nothing (totalsFrom line (length line) u))
-            z (finds-more a more nothing 0 m (omega arith) (x .inside) (x .measures) y),
-      )
+      subst (TotalsRead (a ∷ more)) (sym (ap (totalsFrom line (length line)) (x .is)))
+      (record {
+        counts = counted-more a more nothing 0 m (omega arith) (x .inside) (x .measures) y;
+        free = free-more a more nothing 0 m (omega arith) (x .inside) (x .measures) y;
+        finds =
+            subst (λ (at : ℕ). Finds (annotationMarks 0 a 0 ++ rowMarks nextText nextMarks 1 more at) (a ∷ more) 0 nothing (totalsFrom line (length line) u))
+            z (finds-more a more nothing 0 m (omega arith) (x .inside) (x .measures) y);
+      })
 
 -- ---- for callers
-
--- what is counted of a spelled line
-pub record TotalsRead (s : Spelling) (u : Totals) : Type 0 where
-  pub counts : u .counts ≡ plus noCounts (spelledCounts s)
-  pub finds : Finds (lineMarks s) s 0 nothing u
 
 pub totals-read : (s : Spelling) → length (lineText s) ≤ maxPlace → TotalsRead s (totalsOf (lineText s))
 unfolding totalsBy addOf
 totals-read [] h =
-    record { counts = refl; finds = record { limit = refl; breach = λ k. refl; excess = λ k. refl } }
+    record { counts = refl; free = refl; finds = record { limit = refl; breach = λ k. refl; excess = λ k. refl } }
 totals-read (a ∷ more) h =
     let line = lineText (a ∷ more) in
     let b = annotation-some a in
     let l = length-append (annotationText a) (flat nextText more) in
     let n : (length line ≡ 0 → ⊥) = λ e. omega arith in
     let x = first-through line h a more refl in
-    rw (ne-eqb (length line) 0 n) (record { counts = x .0; finds = x .1 })
+    rw (ne-eqb (length line) 0 n) x

@@ -1,6 +1,6 @@
 -- What is counted of the annotations of a line, one after the other. Assumes nothing.
 use Prim.Native.Nat.{ℕ, _+_, _-_, min}
-use mathlib.Core.Bool.{Bool, cond, not}
+use mathlib.Core.Bool.{Bool, false, cond, not, _||_}
 use mathlib.Core.List.{List}
 use lib.Dec.{eqb, leb}
 use lib.ListN.{length, drop}
@@ -21,6 +21,7 @@ abbrev pub nothing : Totals
 nothing =
     record {
       counts = noCounts;
+      free = false;
       sum = 0;
       limit = fault 0 0;
       breach = fault 0 0;
@@ -43,6 +44,7 @@ addedWith line t from m =
     let sum = summed (t .sum) (m .share) in
     record {
       counts = plus (t .counts) (m .counts);
+      free = t .free || m .free;
       sum = sum;
       limit = m .fault;
       breach = noted (t .breach) 6 place (m .kept);

@@ -1,6 +1,7 @@
 // The annotations of a line, measured one after the other: what is counted of them, and the first refusal by 4 to 7 that they give.
 // Document 01, "Numbers of refusal": 4 and 5, the lowest place winning; then 6; 7.
 ghost use mathlib.Core.Path.{_≡_};
+ghost use mathlib.Core.Bool.{_||_};
 ghost use Rattle.measure_line.specs.Totals.{nothing, noted, summed, partsAt, addedBy, addNext, totalsBy};
 ghost use Rattle.measure_line.specs.Refusals.{firstOf};
 use counts::Counts;
@@ -15,10 +16,11 @@ use slices::begins_with;
 use slices::minus_or_zero;
 use slices::rest;
 
-// What was counted of the annotations up to `at`: how many of each kind, the sum of confidences in billionths, the first broken limit,
-// the first annotation that breaks a rule, the first that takes the sum past 1.
+// What was counted of the annotations up to `at`: how many of each kind, whether one has a free spelling that no count tells of, the sum of
+// confidences in billionths, the first broken limit, the first annotation that breaks a rule, the first that takes the sum past 1.
 pub struct Totals {
     pub counts: Counts,
+    pub free: bool,
     pub sum: u64,
     pub limit: Fault,
     pub breach: Fault,
@@ -35,6 +37,7 @@ fn before_all() -> Totals
     };
     Totals {
         counts: counts::none(),
+        free: false,
         sum: 0,
         limit: none,
         breach: none,
@@ -66,6 +69,16 @@ fn sum_of(sum: u64, share: u64) -> u64
     sum + share
 }
 
+// Whether one of two is so.
+fn either(a: bool, b: bool) -> bool
+    ensures { λ r. ⌜ r ≡ (a || b) ⌝ }
+{
+    if a {
+        return true;
+    }
+    b
+}
+
 // The annotation that begins at a place, read as the first of its line: no limit was broken before it.
 pub fn read_at(line: &[u8], from: usize) -> Parts
     ensures { λ r. ⌜ r ≡ partsAt (now (line .entry)) from ⌝ }
@@ -92,6 +105,7 @@ fn add(t: Totals, line: &[u8], from: usize, p: Parts) -> Totals
     let sum = sum_of(t.sum, m.share);
     Totals {
         counts: plus(so_far, own),
+        free: either(t.free, m.free),
         sum,
         limit: fault,
         breach: note(breach, 6, place, m.kept),
@@ -124,6 +138,7 @@ fn add_first(line: &[u8], p: Parts) -> Totals
     let fault = m.fault;
     Totals {
         counts: own,
+        free: m.free,
         sum: m.share,
         limit: fault,
         breach: note(none, 6, 0, m.kept),

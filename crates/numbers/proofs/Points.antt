@@ -12,13 +12,20 @@ use Rattle.lang.specs.Re.{inC}
 use Rattle.lang.specs.Digits.{valueFrom}
 use Rattle.lang.proofs.Lits.{one-eq}
 use Rattle.lang.proofs.Tests.{is-t}
+use Rattle.lang.specs.Parts.{firstIn}
+use Rattle.rules.specs.Bytes.{digit}
 use Rattle.rules.specs.Decimals.{whole}
 use Rattle.rules.specs.Limits.{maxPlaces, maxDigits}
 use Rattle.numbers.specs.declared.Digits.{Digits}
+use Rattle.numbers.specs.declared.Decimal.{Decimal}
+use Rattle.numbers.specs.declared.DecimalRead.{DecimalRead}
+use Rattle.numbers.specs.declared.FirstByte.{FirstByte}
+use Rattle.numbers.specs.declared.FirstByte.the-variants.{Digit}
 use Rattle.numbers.specs.declared.MadeDecimal.{MadeDecimal}
+use Rattle.numbers.specs.declared.MadeDecimal.the-variants.{Fits}
 use Rattle.numbers.specs.Leading.{leading, leadingOf}
-use Rattle.numbers.specs.Making.{madeOf}
-use Rattle.numbers.specs.Points.{point, fraction, fractionOf, pointed, decimalOf}
+use Rattle.numbers.specs.Making.{zeroDecimal, madeOf}
+use Rattle.numbers.specs.Points.{point, fraction, fractionOf, pointed, decimalFrom, mayBegin, decimalOf}
 use Rattle.numbers.proofs.Walks.{capped}
 use Rattle.numbers.proofs.Leads.{leading-within}
 use Rattle.numbers.proofs.Bounds.{made-long, made-large}
@@ -132,8 +139,8 @@ module _ {s : List ℕ} {whole all : Digits} (w : Walked s whole all) where
       ap (λ (d : Digits). d .value) all-is ∙ capped (10 ^ maxDigits) (whole .value) (valueFrom 0 (leading s)) tail (omega arith)
 
   found : {made : MadeDecimal} {p n : ℕ} → p ≡ min (all .len) (maxPlaces + 1) → made ≡ madeOf (all .value) p → n ≡ length (leading s) + pointed tail
-      → record { made = made; len = n } ≡ decimalOf s
-  unfolding decimalOf tail
+      → record { made = made; len = n } ≡ decimalFrom s
+  unfolding decimalFrom tail
   found {made} {p} {n} e m l =
       ap₂ (λ (x : MadeDecimal) (y : ℕ). record { made = x; len = y })
       (m ∙ ap₂ madeOf value (e ∙ ap (λ (x : ℕ). min x (maxPlaces + 1)) places)
@@ -141,11 +148,11 @@ module _ {s : List ℕ} {whole all : Digits} (w : Walked s whole all) where
       l
 
   pub found-whole : {made : MadeDecimal} {p : ℕ} → p ≡ min (all .len) (maxPlaces + 1) → made ≡ madeOf (all .value) p → all .len ≡ 0
-      → record { made = made; len = whole .len } ≡ decimalOf s
+      → record { made = made; len = whole .len } ≡ decimalFrom s
   found-whole e m z = found e m (omega (arith, at, pointed-none tail (sym places ∙ z)))
 
   pub found-point : {made : MadeDecimal} {p : ℕ} → p ≡ min (all .len) (maxPlaces + 1) → made ≡ madeOf (all .value) p → (all .len ≡ 0 → ⊥)
-      → record { made = made; len = whole .len + 1 + all .len } ≡ decimalOf s
+      → record { made = made; len = whole .len + 1 + all .len } ≡ decimalFrom s
   found-point e m z = found e m (omega (arith, at, places, pointed-some tail (λ q. z (places ∙ q))))
 
   -- the point and what follows it stand inside
@@ -154,3 +161,17 @@ module _ {s : List ℕ} {whole all : Digits} (w : Walked s whole all) where
   room z =
       let n = length (leading s) in
       omega (arith, at, places, pointed-some tail (λ q. z (places ∙ q)), fraction-within (drop n s), length-drop n s, leading-within s)
+
+-- ---- what a decimal may begin with
+
+pub begins-by : {first : FirstByte} {b : Bool} (s : List ℕ) → first ≡ Digit → b ≡ firstIn digit s → b ≡ mayBegin first s
+begins-by s h e = e ∙ ap (λ (f : FirstByte). mayBegin f s) (sym h)
+
+module _ (first : FirstByte) {b : Bool} (s : List ℕ) (told : b ≡ mayBegin first s) where
+  pub none-read : {z : Decimal} → b ≡ false → z ≡ zeroDecimal → record { made = Fits z; len = 0 } ≡ decimalOf first s
+  unfolding decimalOf
+  none-read {z} h e = rw (sym told ∙ h, e)
+
+  pub some-read : {r : DecimalRead} → b ≡ true → r ≡ decimalFrom s → r ≡ decimalOf first s
+  unfolding decimalOf
+  some-read h e = rw (sym told ∙ h) e

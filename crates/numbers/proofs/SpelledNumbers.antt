@@ -1,7 +1,7 @@
 -- What is read and told, for callers. Assumes nothing.
 use Prim.Native.Nat.{ℕ, zero, suc, _+_, _≤_, _<_, min}
 use mathlib.Core.Path.{_≡_, refl, sym, ap, _∙_}
-use mathlib.Core.Bool.{Bool, true, false}
+use mathlib.Core.Bool.{Bool, true, false, cond}
 use mathlib.Core.List.{List, [], _∷_, _++_, append-assoc}
 use native.Mathlib.Omega.{arith}
 use lib.Dec.{leb, ltb}
@@ -16,15 +16,19 @@ use Rattle.rules.specs.Bytes.{digit}
 use Rattle.rules.specs.Numbers.{digits}
 use Rattle.rules.specs.Texts.{firstIn}
 use Rattle.rules.specs.Decimals.{whole, lastDigits, pointText, decimalText}
+use Rattle.rules.specs.Confidences.{ZeroPoint}
 use Rattle.rules.specs.House.{billionths}
 use Rattle.rules.specs.Decimals as rules
 use Rattle.rules.proofs.Digits.{digits-value, digits-small}
 use Rattle.rules.proofs.Digits as D
 use Rattle.rules.proofs.Fractions.{value-back, last-length, last-digits}
+use Rattle.rules.proofs.Confidences.{whole-zero}
 use Rattle.numbers.specs.declared.Decimal.{Decimal}
 use Rattle.numbers.specs.Leading.{leading, numberOf}
 use Rattle.numbers.specs.Making.{madeOf, ruled}
-use Rattle.numbers.specs.Points.{point, fraction, pointed, decimalOf}
+use Rattle.numbers.specs.declared.FirstByte.{FirstByte}
+use Rattle.numbers.specs.declared.FirstByte.the-variants.{Digit, DigitOrPoint}
+use Rattle.numbers.specs.Points.{point, fraction, pointed, decimalFrom, nothingRead, decimalOf}
 use Rattle.numbers.specs.Shares.{largest, billionthsOf}
 use Rattle.numbers.proofs.Leads.{leading-silent, leading-read, leading-within, all-digits}
 use Rattle.numbers.proofs.Points.{fraction-within}
@@ -65,11 +69,20 @@ number-past n bound h = go (ltb bound n) refl
 
 -- ---- decimals
 
-pub decimal-within : (s : List ℕ) → decimalOf s .len ≤ length s
-unfolding decimalOf
-decimal-within s =
+from-within : (s : List ℕ) → decimalFrom s .len ≤ length s
+unfolding decimalFrom
+from-within s =
     let n = length (leading s) in
     omega (arith, leading-within s, fraction-within (drop n s), length-drop n s)
+
+pub decimal-within : (first : FirstByte) (s : List ℕ) → decimalOf first s .len ≤ length s
+unfolding decimalOf
+decimal-within Digit s = by (firstIn digit s)
+  where
+    by : (b : Bool) → cond b (decimalFrom s) nothingRead .len ≤ length s
+    by true = from-within s
+    by false = omega arith
+decimal-within DigitOrPoint s = from-within s
 
 -- the text behind the whole number begins with no digit
 no-digit : (n v : ℕ) (k : List ℕ) → firstIn digit k ≡ false → firstIn digit (pointText n v ++ k) ≡ false
@@ -95,10 +108,10 @@ pointed-length (suc n) v = refl
 value-read : (n v : ℕ) → valueFrom (valueFrom 0 (digits (whole n v))) (lastDigits n v) ≡ v
 value-read n v = rw (digits-value (whole n v)) (value-back n v)
 
-pub decimal-read : (d : rules.Decimal) (k : List ℕ) → firstIn digit k ≡ false → firstIn point k ≡ false
-    → decimalOf (decimalText d ++ k) ≡ record { made = madeOf (d .value) (d .places); len = length (decimalText d) }
-unfolding decimalOf
-decimal-read d k e p =
+from-read : (d : rules.Decimal) (k : List ℕ) → firstIn digit k ≡ false → firstIn point k ≡ false
+    → decimalFrom (decimalText d ++ k) ≡ record { made = madeOf (d .value) (d .places); len = length (decimalText d) }
+unfolding decimalFrom
+from-read d k e p =
     let v = d .value in
     let n = d .places in
     let w = digits (whole n v) in
@@ -106,6 +119,32 @@ decimal-read d k e p =
     let l : leading (w ++ (t ++ k)) ≡ w = leading-read w (t ++ k) (all-digits (whole n v)) (no-digit n v k e) in
     rw (append-assoc w t k, l, drop-append-seam w (t ++ k), fraction-read n v k e p, value-read n v, last-length n v, pointed-length n v)
     (ap (λ (z : ℕ). record { made = madeOf v n; len = z }) (sym (length-append w t)))
+
+-- a decimal begins with a digit
+pub decimal-begins : (d : rules.Decimal) (k : List ℕ) → firstIn digit (decimalText d ++ k) ≡ true
+decimal-begins d k =
+    let w = whole (d .places) (d .value) in
+    let t = pointText (d .places) (d .value) in
+    ap (firstIn digit) (append-assoc (digits w) t k) ∙ number-begins w (t ++ k)
+
+-- whatever its user takes
+pub decimal-read : (first : FirstByte) (d : rules.Decimal) (k : List ℕ) → firstIn digit k ≡ false → firstIn point k ≡ false
+    → decimalOf first (decimalText d ++ k) ≡ record { made = madeOf (d .value) (d .places); len = length (decimalText d) }
+unfolding decimalOf
+decimal-read Digit d k e p = rw (decimal-begins d k) (from-read d k e p)
+decimal-read DigitOrPoint d k e p = from-read d k e p
+
+-- without the 0 before its point, where a point will do
+pub point-read : (z : ZeroPoint) (k : List ℕ) → firstIn digit k ≡ false → firstIn point k ≡ false
+    → decimalOf DigitOrPoint (pointText (z .decimal .places) (z .decimal .value) ++ k)
+    ≡ record { made = madeOf (z .decimal .value) (z .decimal .places); len = length (pointText (z .decimal .places) (z .decimal .value)) }
+unfolding decimalOf decimalFrom valueFrom
+point-read z k e p =
+    let v = z .decimal .value in
+    let n = z .decimal .places in
+    let w : valueFrom 0 (lastDigits n v) ≡ v = ap (λ (x : ℕ). valueFrom x (lastDigits n v)) (sym (whole-zero z)) ∙ value-back n v in
+    rw (leading-silent (pointText n v ++ k) (no-digit n v k e), fraction-read n v k e p, w, last-length n v, pointed-length n v)
+    (ap (λ (x : ℕ). record { made = madeOf v n; len = x }) (omega arith))
 
 -- ---- billionths
 

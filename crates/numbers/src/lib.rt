@@ -9,9 +9,10 @@ ghost use Rattle.rules.specs.Decimals.{whole, lastDigits, decimalText};
 ghost use Rattle.put_bytes.specs.Puts.{Put};
 ghost use Rattle.numbers.specs.Leading.{leadingOf, numberOf};
 ghost use Rattle.numbers.specs.Making.{zeroDecimal, ruled, madeOf, madeNumber, madeDecimal};
-ghost use Rattle.numbers.specs.Points.{fractionOf, decimalOf};
+ghost use Rattle.numbers.specs.Points.{fractionOf, decimalFrom, mayBegin, decimalOf};
 ghost use Rattle.numbers.specs.Shares.{largest, billionthsOf};
 use put_bytes::put8;
+use slices::begins_in;
 
 // Ten to the Decimal::MAX_DIGITS: the first value that is too long, and what all longer ones are told as.
 const TOO_LONG: u64 = 1000000000000;
@@ -204,9 +205,25 @@ fn places_of(len: usize) -> u8
     }
 }
 
-// The decimal that s begins with: digits, then a point and digits where a digit stands behind the point.
-pub fn read_decimal(s: &[u8]) -> DecimalRead
-    ensures { λ r. ⌜ r ≡ decimalOf (now (s .entry)) ⌝ }
+// What a decimal may begin with, as its user takes it: a digit, or, where the 0 before a point may be left out, that point.
+pub enum FirstByte {
+    Digit,
+    DigitOrPoint,
+}
+
+// Whether s may be a decimal by its first byte.
+fn may_begin(s: &[u8], first: FirstByte) -> bool
+    ensures { λ r. ⌜ r ≡ mayBegin first (now (s .entry)) ⌝ }
+{
+    match first {
+        FirstByte::Digit => begins_in(s, b'0', b'9'),
+        FirstByte::DigitOrPoint => true,
+    }
+}
+
+// The digits that s begins with, then a point and digits where a digit stands behind the point.
+fn decimal_from(s: &[u8]) -> DecimalRead
+    ensures { λ r. ⌜ r ≡ decimalFrom (now (s .entry)) ⌝ }
 {
     let whole = digits_from(s, 0, TOO_LONG);
     let at = whole.len;
@@ -220,6 +237,19 @@ pub fn read_decimal(s: &[u8]) -> DecimalRead
         made,
         len: at + 1 + places,
     }
+}
+
+// The decimal that s begins with, as its user takes it; 0 in no bytes where it begins with none.
+pub fn read_decimal(s: &[u8], first: FirstByte) -> DecimalRead
+    ensures { λ r. ⌜ r ≡ decimalOf first (now (s .entry)) ⌝ }
+{
+    if !may_begin(s, first) {
+        return DecimalRead {
+            made: MadeDecimal::Fits(Decimal::zero()),
+            len: 0,
+        };
+    }
+    decimal_from(s)
 }
 
 // Ten times a value, or the largest there is.

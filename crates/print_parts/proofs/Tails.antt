@@ -7,10 +7,11 @@ use native.Mathlib.Omega.{arith}
 use lib.Dec.{T, leb, ltb, eqb, leb→le}
 use lib.ListN.{getD, drop}
 use borrow.Author.Tests.{lt-leb, lt-ltb, le-ltb}
-use Rattle.lang.specs.Parts.{Opt, silent, written, optText}
+use Rattle.lang.specs.Parts.{Opt, silent, written, optText, optMap}
 use Rattle.rules.specs.Bytes.{bytes}
 use Rattle.rules.specs.Numbers.{From}
 use Rattle.rules.specs.Decimals.{Decimal, decimalText}
+use Rattle.rules.specs.Confidences.{in-full, confidenceText}
 use Rattle.rules.specs.Annotations.{TableAnnotation, Deviation, flagText}
 use Rattle.rules.specs.Annotations as rules
 use Rattle.rules.specs.House.{deviationRule}
@@ -70,7 +71,7 @@ deviation-told s (written d) k p v h g =
     ∙ ap (λ (w : List ℕ). bytes "/" ++ w) (append-assoc minus size (flagText (bytes "ppm") (d .ppm))))
 
 confidence-told : (s : List ℕ) (x : Opt Decimal) → getD s confidencePresentAt 0 ≡ present x → getD s confidencePlacesAt 0 ≡ valueOr0 (λ d. d .places) x
-    → u32At (drop confidenceAt s) ≡ valueOr0 (λ d. d .value) x → confidencePrinted s ≡ optText rules.confidenceText x
+    → u32At (drop confidenceAt s) ≡ valueOr0 (λ d. d .value) x → confidencePrinted s ≡ optText confidenceText (optMap in-full x)
 unfolding confidencePrinted
 confidence-told s silent k p v = rw k
 confidence-told s (written d) k p v = rw (k, p, v)
@@ -102,7 +103,7 @@ byte-kept n h = omega arith
 
 pub tail-printed : (a : TableAnnotation) (k : List ℕ) → TailOk a
     → tailPrinted (stores (annotationRecord a) ++ k)
-    ≡ optText rules.chargeText (a .charge) ++ (optText rules.deviationText (a .deviation) ++ optText rules.confidenceText (a .confidence))
+    ≡ optText rules.chargeText (a .charge) ++ (optText rules.deviationText (a .deviation) ++ optText confidenceText (optMap in-full (a .confidence)))
 tail-printed a k ok =
     let s = stores (annotationRecord a) ++ k in
     let d = a .deviation in

@@ -4,7 +4,7 @@ use mathlib.Core.Bool.{Bool, true, false}
 use mathlib.Core.List.{List, [], _∷_, _++_, map}
 use native.Mathlib.Omega.{arith}
 use lib.ListN.{length, length-append}
-use Rattle.lang.specs.Parts.{Opt, silent, written, optText, flat}
+use Rattle.lang.specs.Parts.{Opt, silent, written, optText, optMap, flat}
 use Rattle.lang.specs.Mark.{In, here, later}
 use Rattle.rules.specs.Bytes.{bytes}
 use Rattle.rules.specs.Numbers.{digits, From}
@@ -13,7 +13,8 @@ use Rattle.rules.specs.Ions.{ionText}
 use Rattle.rules.specs.Losses.{lossText}
 use Rattle.rules.specs.Isotopes.{isotopesText}
 use Rattle.rules.specs.Adducts.{adductText}
-use Rattle.rules.specs.Annotations.{TableAnnotation, Deviation, flagText, analyteText, chargeText, deviationText, confidenceText, annotationText}
+use Rattle.rules.specs.Confidences.{in-full, confidenceText}
+use Rattle.rules.specs.Annotations.{TableAnnotation, Deviation, flagText, analyteText, chargeText, deviationText, annotationText}
 use Rattle.rules.specs.Lines.{nextText}
 use Rattle.rules.specs.Fields.{Table}
 use Rattle.rules.specs.Preferred.{shortenedAnnotation, countOr1, preferred}
@@ -53,7 +54,7 @@ deviation-short (written d) h =
       decimal-short (d .size) (h .places) (h .size),
     )
 
-confidence-short : (x : Opt Decimal) → ConfidenceFits x → length (optText confidenceText x) ≤ 23
+confidence-short : (x : Opt Decimal) → ConfidenceFits x → length (optText confidenceText (optMap in-full x)) ≤ 23
 confidence-short silent h = omega arith
 confidence-short (written d) h = let v = h .value in omega (arith, decimal-short d (h .places) (omega arith))
 

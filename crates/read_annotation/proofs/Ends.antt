@@ -5,12 +5,12 @@ use mathlib.Core.List.{List, [], _∷_, _++_, append-assoc}
 use Rattle.lang.specs.Parts.{Opt, silent, written, optText, flat, wordOf}
 use Rattle.rules.specs.Bytes.{bytes}
 use Rattle.rules.specs.Numbers.{From, numberText}
-use Rattle.rules.specs.Decimals.{Decimal}
 use Rattle.rules.specs.Formulas.{Written, writtenText}
 use Rattle.rules.specs.Losses.{Sign, signText, Loss, lostText, lossText}
 use Rattle.rules.specs.Isotopes.{Shift, shiftText, specificText, Isotopes, no-isotope, plain-isotope, average-isotope, specific-isotopes, isotopesText}
 use Rattle.rules.specs.Adducts.{Item, addedText, itemText, adductText}
-use Rattle.rules.specs.Annotations.{Deviation, chargeText, deviationText, confidenceText}
+use Rattle.rules.specs.Confidences.{Confidence, in-full, from-point, confidenceText}
+use Rattle.rules.specs.Annotations.{Deviation, chargeText, deviationText}
 
 -- an annotation ends at the end of the line, or at a comma
 pub data EndsAnnotation : List ℕ → Type 0 where
@@ -58,7 +58,7 @@ module _ (P : List ℕ → Type 0) where
 
 -- ---- behind the adduct
 
-module _ (g : Opt (From 2)) (d : Opt Deviation) (c : Opt Decimal) (k : List ℕ) where
+module _ (g : Opt (From 2)) (d : Opt Deviation) (c : Opt Confidence) (k : List ℕ) where
   abbrev pub behindDeviation : List ℕ
   behindDeviation = optText confidenceText c ++ k
 
@@ -78,7 +78,11 @@ module _ (g : Opt (From 2)) (d : Opt Deviation) (c : Opt Decimal) (k : List ℕ)
 
     module _ (star : (s : List ℕ) → P (42 ∷ s)) where
       pub confidence-keep : P behindDeviation
-      confidence-keep = opt-keep P confidenceText (λ x s. star _) c k ends-keep
+      confidence-keep = opt-keep P confidenceText by c k ends-keep
+        where
+          by : (x : Confidence) (s : List ℕ) → P (confidenceText x ++ s)
+          by (in-full d) s = star _
+          by (from-point z) s = star _
 
       module _ (slash : (s : List ℕ) → P (47 ∷ s)) where
         pub deviation-keep : P behindCharge

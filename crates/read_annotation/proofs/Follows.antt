@@ -7,11 +7,11 @@ use Rattle.lang.specs.Parts.{Opt}
 use Rattle.rules.specs.Bytes.{bytes, digit}
 use Rattle.rules.specs.Texts.{firstIn, startsWith}
 use Rattle.rules.specs.Numbers.{From}
-use Rattle.rules.specs.Decimals.{Decimal}
 use Rattle.rules.specs.Formulas.{Written}
 use Rattle.rules.specs.Losses.{Sign, minus, plus, signText, Loss}
 use Rattle.rules.specs.Isotopes.{Isotopes}
 use Rattle.rules.specs.Adducts.{Item}
+use Rattle.rules.specs.Confidences.{Confidence}
 use Rattle.rules.specs.Annotations.{Deviation}
 use Rattle.read_formula.proofs.Ends.{EndsFormula, ends-apart}
 use Rattle.read_isotopes.proofs.Ends.{EndsIsotopes}
@@ -20,7 +20,7 @@ use Rattle.read_ion.proofs.SpelledIon.{EndsIon}
 use Rattle.read_annotation.proofs.Ends.{EndsAnnotation, behindAdduct, charge-keep, losses-keep, isotopes-keep, adduct-keep}
 use Rattle.read_annotation.proofs.Middles.{EndsMiddle, behindIon, behindLosses, behindIsotopes}
 
-module _ (g : Opt (From 2)) (d : Opt Deviation) (c : Opt Decimal) {k : List ℕ} (e : EndsAnnotation k) where
+module _ (g : Opt (From 2)) (d : Opt Deviation) (c : Opt Confidence) {k : List ℕ} (e : EndsAnnotation k) where
   pub ends-middle : EndsMiddle (behindAdduct g d c k)
   ends-middle =
       record {

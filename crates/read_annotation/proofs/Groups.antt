@@ -84,6 +84,6 @@ module _ (end : ℕ) (s : List ℕ) (f : Fault) {t u : List ℕ} where
 pub measure-is : (s : List ℕ) (p : Parts) {t u v : List ℕ} {o n : Counts} {share q : ℕ} {kept : Bool} → share ≡ shareOf (p .tail .confidence)
     → t ≡ drop (p .front .len) s → u ≡ drop (p .middle .len) t → o ≡ ownCounts (p .front .ion) → n ≡ plus o (p .middle .counts)
     → kept ≡ rulesOf (p .front .ion) (p .middle .counts .items) (p .tail .deviation) share → v ≡ drop (p .tail .len) u → q ≡ length s - length v
-    → record { counts = n; share = share; kept = kept; len = q; fault = p .tail .confidence .fault } ≡ measuredOf s p
+    → record { counts = n; free = p .tail .confidence .bare; share = share; kept = kept; len = q; fault = p .tail .confidence .fault } ≡ measuredOf s p
 unfolding measuredOf
 measure-is s p ps pt pu po pn pk pv pq = rw (pn, po, ← ps, ← pt, ← pu, ← pk, ← pv, ← pq)

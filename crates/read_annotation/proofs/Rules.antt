@@ -7,10 +7,11 @@ use native.Mathlib.Nat.{zero-mul}
 use native.Mathlib.Omega.{arith}
 use lib.Dec.{T, leb}
 use borrow.Author.Tests.{leb-true, leb-false, le-leb, lt-leb}
-use Rattle.lang.specs.Parts.{Opt, silent, written}
+use Rattle.lang.specs.Parts.{Opt, silent, written, optMap}
 use Rattle.lang.specs.Mark.{Kept, here, later}
 use Rattle.rules.specs.Bytes.{bytes}
 use Rattle.rules.specs.Decimals.{Decimal}
+use Rattle.rules.specs.Confidences.{Confidence, in-full, from-point, meantDecimal}
 use Rattle.rules.specs.Annotations.{Deviation, flagText}
 use Rattle.rules.specs.House.{deviationRule, confidenceOf, one}
 use Rattle.rules.specs.Limits.{maxPlaces, fits, bare, decimalMark, decimalPart, optPart, deviationPart, confidencePart}
@@ -28,6 +29,10 @@ fits-kept d at k = by (fits d) (λ t. k _ here t)
     by true h = refl
     by false h = absurd (h tt)
 
+pub confidence-fits-kept : (c : Confidence) (at : ℕ) → Kept (confidencePart c .marks at) → fits (meantDecimal c) ≡ true
+confidence-fits-kept (in-full d) at k = fits-kept d _ k
+confidence-fits-kept (from-point z) at k = fits-kept (z .decimal) _ k
+
 pub deviation-rule : (d : Opt Deviation) (at : ℕ) (g : Fault) → Kept (optPart deviationPart d .marks at) → deviationRuleOf (deviationRead d g) ≡ deviationRule d
 unfolding deviationRuleOf
 deviation-rule silent at g k = refl
@@ -40,10 +45,11 @@ pub share-zero : (c : DecimalPart) → c .size .value ≡ 0 → 0 ≡ shareOf c
 unfolding shareOf billionthsOf
 share-zero c e = rw (e, zero-mul (10 ^ (maxPlaces - c .size .places)))
 
-pub share-told : (c : Opt Decimal) (at : ℕ) (g : Fault) → Kept (optPart confidencePart c .marks at) → shareOf (confidenceRead c g) ≡ min (confidenceOf c) largest
+pub share-told : (c : Opt Confidence) (at : ℕ) (g : Fault) → Kept (optPart confidencePart c .marks at)
+    → shareOf (confidenceRead c g) ≡ min (confidenceOf (optMap meantDecimal c)) largest
 unfolding shareOf billionthsOf
 share-told silent at g k = omega arith
-share-told (written d) at g k = ap (λ (t : Bool). billionthsOf (sizeRead d t)) (fits-kept d _ k)
+share-told (written c) at g k = ap (λ (t : Bool). billionthsOf (sizeRead (meantDecimal c) t)) (confidence-fits-kept c at k)
 
 -- as much as a u64 holds is past 1 where the confidence is
 pub share-test : (n : ℕ) → leb (min n largest) one ≡ leb n one

@@ -3,12 +3,14 @@ use mathlib.Core.Path.{refl}
 use mathlib.Core.Bool.{Bool, true, false, _&&_}
 use mathlib.Core.List.{List, map}
 use lib.Dec.{T}
+use Rattle.lang.specs.Parts.{optMap}
 use Rattle.lang.specs.Order.{Perm, rising}
 use Rattle.rules.specs.Numbers.{Number}
 use Rattle.rules.specs.Ions.{ionMap}
 use Rattle.rules.specs.Losses.{Loss, lossMap}
 use Rattle.rules.specs.Isotopes.{isotopesMap}
 use Rattle.rules.specs.Adducts.{Item, itemMap}
+use Rattle.rules.specs.Confidences.{meantDecimal}
 use Rattle.rules.specs.Annotations.{TableAnnotation, SpelledAnnotation}
 use Rattle.rules.specs.Fields.{filled, Says}
 use Rattle.rules.specs.Preferred.{lossLe, itemLe}
@@ -25,7 +27,7 @@ tableOf a ls xs =
       adduct = xs;
       charge = a .charge;
       deviation = a .deviation;
-      confidence = a .confidence;
+      confidence = optMap meantDecimal (a .confidence);
     }
 
 both : (x y : Bool) → T x → T y → T (x && y)

@@ -10,7 +10,8 @@ use Rattle.rules.specs.Ions.{ionText}
 use Rattle.rules.specs.Losses.{lossText}
 use Rattle.rules.specs.Isotopes.{isotopesText}
 use Rattle.rules.specs.Adducts.{adductText}
-use Rattle.rules.specs.Annotations.{SpelledAnnotation, flagText, analyteText, chargeText, deviationText, confidenceText, annotationText}
+use Rattle.rules.specs.Confidences.{confidenceText}
+use Rattle.rules.specs.Annotations.{SpelledAnnotation, flagText, analyteText, chargeText, deviationText, annotationText}
 use Rattle.faults.specs.declared.Fault.{Fault}
 use Rattle.read_annotation.specs.Measured.{behindIon, partsOf, annotationSize}
 use Rattle.read_annotation.proofs.Chains.{drop-three}

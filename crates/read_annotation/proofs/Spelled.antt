@@ -13,9 +13,11 @@ use Rattle.rules.specs.Ions.{ionText, ionMap}
 use Rattle.rules.specs.Losses.{lossText, lossMap}
 use Rattle.rules.specs.Isotopes.{isotopesText, isotopesMap}
 use Rattle.rules.specs.Adducts.{adductText, itemMap}
-use Rattle.rules.specs.Annotations.{SpelledAnnotation, flagText, analyteText, chargeText, deviationText, confidenceText, annotationText}
+use Rattle.rules.specs.Confidences.{confidenceText}
+use Rattle.rules.specs.Annotations.{SpelledAnnotation, flagText, analyteText, chargeText, deviationText, annotationText}
 use Rattle.rules.specs.Fields.{filledAnnotation, filled}
-use Rattle.rules.specs.House.{confidenceOf, one, annotationRules}
+use Rattle.rules.specs.House.{share, one, annotationRules}
+use Rattle.rules.proofs.Confidences.{zeroLeftOut}
 use Rattle.rules.specs.Limits.{part, optPart, ionParts, deviationPart, confidencePart, annotationParts, annotationMarks}
 use Rattle.rules.specs.Stored.{ionFields, lostUnits, lostName, addedUnits, isotopeRecords}
 use Rattle.rules.proofs.Keeps.{kept-tail, kept-part}
@@ -34,7 +36,7 @@ use Rattle.read_annotation.proofs.Groups.{measure-is}
 use Rattle.read_annotation.proofs.Chains.{drop-three}
 use Rattle.read_annotation.proofs.Ends.{EndsAnnotation}
 use Rattle.read_annotation.proofs.Ions.{ion-told, ion-rule}
-use Rattle.read_annotation.proofs.Tails.{deviationFault, confidence-fault}
+use Rattle.read_annotation.proofs.Tails.{deviationFault, confidence-fault, confidence-bare}
 use Rattle.read_annotation.proofs.Rules.{deviation-rule, share-told, share-test}
 use Rattle.read_annotation.proofs.Wholes.{third, second, first, text-is, fault1, fault2, fault3, marks-are}
 use Rattle.read_annotation.proofs.Readings.{fault0, partsRead, parts-read}
@@ -44,8 +46,9 @@ pub record Measures (i : ℕ) (a : SpelledAnnotation) (at : ℕ) (f : Fault) (m 
   pub fault : m .fault ≡ after f (annotationMarks i a at)
   pub len : m .len ≡ length (annotationText a)
   pub counts : m .counts ≡ plus noCounts (annotationCounts (filledAnnotation a))
+  pub free : m .free ≡ zeroLeftOut (a .confidence)
   pub kept : Kept (annotationMarks i a at) → m .kept ≡ annotationRules a
-  pub share : Kept (annotationMarks i a at) → m .share ≡ min (confidenceOf (a .confidence)) largest
+  pub share : Kept (annotationMarks i a at) → m .share ≡ min (share a) largest
 
 module _ (a : SpelledAnnotation) (k : List ℕ) (i end : ℕ) (f : Fault) where
   abbrev shareRead : ℕ
@@ -58,6 +61,7 @@ module _ (a : SpelledAnnotation) (k : List ℕ) (i end : ℕ) (f : Fault) where
   measured =
       record {
         counts = plus (ownCounts measuredIon) (partsRead a k i end f .middle .counts);
+        free = confidenceRead (a .confidence) (fault3 a k end (fault0 a k i end f)) .bare;
         share = shareRead;
         kept = rulesOf measuredIon (length (a .adduct)) (deviationRead (a .deviation) (deviationFault (a .charge) (a .deviation) (a .confidence) k end (fault2 a k end (fault0 a k i end f)))) shareRead;
         len = length (annotationText a);
@@ -106,7 +110,7 @@ module _ (a : SpelledAnnotation) (k : List ℕ) (i end : ℕ) (f : Fault) where
     -- ---- within the limits
 
     module _ (kept : Kept (annotationMarks i a (end - length (first a k)))) where
-      share-is : measured .share ≡ min (confidenceOf (a .confidence)) largest
+      share-is : measured .share ≡ min (share a) largest
       share-is =
           let p = kept-part (end - length (first a k)) (annotationParts a) (kept-tail kept) (optPart confidencePart (a .confidence)) (later (later (later (later (later (later (later (later here)))))))) in
           share-told (a .confidence) (p .0) (fault3 a k end (fault0 a k i end f)) (p .1)
@@ -120,7 +124,7 @@ module _ (a : SpelledAnnotation) (k : List ℕ) (i end : ℕ) (f : Fault) where
           ap₂ (λ (x y : Bool). x && y) (ion-rule (a .ion) (fault1 a k end (fault0 a k i end f)) (p .0) (a .adduct) (p .1))
           (ap₂ (λ (x y : Bool). x && y)
           (deviation-rule (a .deviation) (q .0) (deviationFault (a .charge) (a .deviation) (a .confidence) k end (fault2 a k end (fault0 a k i end f))) (q .1))
-          (ap (λ (n : ℕ). leb n one) share-is ∙ share-test (confidenceOf (a .confidence))))
+          (ap (λ (n : ℕ). leb n one) share-is ∙ share-test (share a)))
 
     measured-read : Measures i a (end - length (first a k)) f measured
     measured-read =
@@ -128,6 +132,7 @@ module _ (a : SpelledAnnotation) (k : List ℕ) (i end : ℕ) (f : Fault) where
           fault = confidence-fault (a .confidence) (fault3 a k end (fault0 a k i end f)) ∙ sym (marks-are a k end (fault0 a k i end f) h);
           len = refl;
           counts = counts-are;
+          free = confidence-bare (a .confidence) (fault3 a k end (fault0 a k i end f));
           kept = rules-are;
           share = share-is;
         }

@@ -9,8 +9,9 @@ use Rattle.lang.specs.Parts.{Opt, silent, written, optText}
 use Rattle.rules.specs.Bytes.{bytes, digit}
 use Rattle.rules.specs.Texts.{firstIn, startsWith}
 use Rattle.rules.specs.Numbers.{From}
-use Rattle.rules.specs.Decimals.{Decimal}
-use Rattle.rules.specs.Annotations.{Deviation, chargeText, deviationText, confidenceText}
+use Rattle.rules.specs.Confidences.{Confidence, confidenceText}
+use Rattle.rules.proofs.Confidences.{zeroLeftOut}
+use Rattle.rules.specs.Annotations.{Deviation, chargeText, deviationText}
 use Rattle.rules.specs.Limits.{optPart, chargePart, deviationPart, confidencePart}
 use Rattle.numbers.specs.Points.{point}
 use Rattle.faults.specs.declared.Fault.{Fault}
@@ -27,7 +28,7 @@ pub deviation-long : (d : Opt Deviation) (g : Fault) → deviationRead d g .len 
 deviation-long silent g = refl
 deviation-long (written d) g = refl
 
-pub confidence-long : (c : Opt Decimal) (g : Fault) → confidenceRead c g .len ≡ length (optText confidenceText c)
+pub confidence-long : (c : Opt Confidence) (g : Fault) → confidenceRead c g .len ≡ length (optText confidenceText c)
 confidence-long silent g = refl
 confidence-long (written c) g = refl
 
@@ -35,11 +36,15 @@ pub deviation-fault : (d : Opt Deviation) (g : Fault) → deviationRead d g .fau
 deviation-fault silent g = refl
 deviation-fault (written d) g = refl
 
-pub confidence-fault : (c : Opt Decimal) (g : Fault) → confidenceRead c g .fault ≡ g
+pub confidence-fault : (c : Opt Confidence) (g : Fault) → confidenceRead c g .fault ≡ g
 confidence-fault silent g = refl
 confidence-fault (written c) g = refl
 
-module _ (g : Opt (From 2)) (d : Opt Deviation) (c : Opt Decimal) (k : List ℕ) (end : ℕ) (f : Fault) where
+pub confidence-bare : (c : Opt Confidence) (g : Fault) → confidenceRead c g .bare ≡ zeroLeftOut c
+confidence-bare silent g = refl
+confidence-bare (written c) g = refl
+
+module _ (g : Opt (From 2)) (d : Opt Deviation) (c : Opt Confidence) (k : List ℕ) (end : ℕ) (f : Fault) where
   -- the first broken limit behind each
   abbrev pub chargeFault : Fault
   chargeFault = after f (optPart chargePart g .marks (end - length (behindAdduct g d c k)))

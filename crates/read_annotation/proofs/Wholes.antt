@@ -10,7 +10,8 @@ use Rattle.rules.specs.Ions.{ionText}
 use Rattle.rules.specs.Losses.{lossText}
 use Rattle.rules.specs.Isotopes.{isotopesText}
 use Rattle.rules.specs.Adducts.{adductText}
-use Rattle.rules.specs.Annotations.{SpelledAnnotation, flagText, analyteText, chargeText, deviationText, confidenceText, annotationText}
+use Rattle.rules.specs.Confidences.{confidenceText}
+use Rattle.rules.specs.Annotations.{SpelledAnnotation, flagText, analyteText, chargeText, deviationText, annotationText}
 use Rattle.rules.specs.Limits.{bare, part, optPart, rowPart, analytePart, ionParts, lossMarks, isotopesMarks, adductMarks, chargePart, deviationPart, confidencePart, annotationParts}
 use Rattle.faults.specs.declared.Fault.{Fault}
 use Rattle.faults.specs.Faults.{after}

@@ -39,6 +39,7 @@ abbrev pub measuredWith : List ℕ → List ℕ → Front → Middle → Tail �
 measuredWith s u a m b =
     record {
       counts = plus (ownCounts (a .ion)) (m .counts);
+      free = b .confidence .bare;
       share = shareOf (b .confidence);
       kept = rulesOf (a .ion) (m .counts .items) (b .deviation) (shareOf (b .confidence));
       len = before s (drop (b .len) u);

@@ -76,10 +76,11 @@ pub struct Parts {
     pub tail: Tail,
 }
 
-// One annotation: what it has of each kind; its confidence in billionths; whether the rules for one annotation are kept; how many bytes;
-// and the first broken limit.
+// One annotation: what it has of each kind; whether it has a free spelling that no count tells of, a confidence without its 0; that confidence
+// in billionths; whether the rules for one annotation are kept; how many bytes; and the first broken limit.
 pub struct Measured {
     pub counts: Counts,
+    pub free: bool,
     pub share: u64,
     pub kept: bool,
     pub len: usize,
@@ -347,6 +348,7 @@ pub fn measure(s: &[u8], p: Parts) -> Measured
     let u = rest(rest(s, a.len), m.len);
     Measured {
         counts: plus(own_counts(x), n),
+        free: c.bare,
         share,
         kept: keeps_rules(x, n.items, d, share),
         len: minus_or_zero(s.len(), rest(u, b.len).len()),

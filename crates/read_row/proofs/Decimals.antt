@@ -14,23 +14,26 @@ use Rattle.lang.specs.Digits.{valueFrom}
 use Rattle.lang.specs.Parts.{all}
 use Rattle.lang.proofs.Deriv.{and-0, and-1, and-i}
 use Rattle.lang.proofs.Lits.{in→, →in}
+use Rattle.lang.proofs.Ranges.{in-range}
 use Rattle.lang.proofs.Tests.{is-t, t-is}
-use Rattle.rules.specs.Bytes.{_to_, digit}
+use Rattle.rules.specs.Bytes.{bytes, _to_, digit}
 use Rattle.rules.specs.Numbers.{digits}
 use Rattle.rules.specs.Decimals as rules
 use Rattle.rules.specs.Decimals.{whole, lastDigits, pointText, decimalText, digitCount}
 use Rattle.rules.specs.Limits.{fits}
-use Rattle.rules.specs.Texts.{firstIn}
+use Rattle.rules.specs.Texts.{firstIn, startsWith}
 use Rattle.rules.specs.RowAnswers.{lacks, Cut, at-tab, no-tab, GoodColumn, BadColumn}
 use Rattle.rules.proofs.Digits as D
 use Rattle.rules.proofs.Digits.{digits-small, digits-all, read-back}
 use Rattle.rules.proofs.Fractions.{whole-from, last-from, last-digits, last-length}
 use Rattle.numbers.specs.declared.Decimal.{Decimal}
+use Rattle.numbers.specs.declared.DecimalRead.{DecimalRead}
+use Rattle.numbers.specs.declared.FirstByte.the-variants.{Digit}
 use Rattle.numbers.specs.declared.MadeDecimal.{MadeDecimal}
 use Rattle.numbers.specs.declared.MadeDecimal.the-variants.{Fits, Past}
 use Rattle.numbers.specs.Leading.{leading}
 use Rattle.numbers.specs.Making.{ruled, madeOf, madeNumber, madeDecimal}
-use Rattle.numbers.specs.Points.{point, fraction, pointed, decimalOf}
+use Rattle.numbers.specs.Points.{point, fraction, pointed, decimalFrom, decimalOf}
 use Rattle.numbers.proofs.Leads.{leading-silent}
 use Rattle.numbers.proofs.SpelledNumbers.{decimal-read}
 use Rattle.read_row.specs.declared.Column.{Column}
@@ -87,8 +90,8 @@ module _ (d : rules.Decimal) (f : T (fits d)) (k : List ℕ) (n : firstIn digit 
   abbrev w : List ℕ
   w = decimalText d
 
-  read : decimalOf (w ++ k) ≡ record { made = Fits (kept d); len = length w }
-  read = decimal-read d k n p ∙ ap (λ (m : MadeDecimal). record { made = m; len = length w }) (fits-made d f)
+  read : decimalOf Digit (w ++ k) ≡ record { made = Fits (kept d); len = length w }
+  read = decimal-read Digit d k n p ∙ ap (λ (m : MadeDecimal). record { made = m; len = length w }) (fits-made d f)
 
   pub column-read : columnOf (w ++ k) ≡ record { good = true; decimal = kept d; len = length w; next = min (length w + 1) (length (w ++ k)) }
   unfolding columnOf isColumn
@@ -206,12 +209,12 @@ module _ (s : List ℕ) where
   dotted-length [] = refl
   dotted-length (b ∷ w) = refl
 
-  found-length : beginsDecimal s ≡ true → length (decimalText found) ≡ decimalOf s .len
-  unfolding decimalOf
+  found-length : beginsDecimal s ≡ true → length (decimalText found) ≡ decimalFrom s .len
+  unfolding decimalFrom
   found-length e = ap length (found-text e) ∙ length-append front (dotted behind) ∙ ap (λ (n : ℕ). length front + n) (dotted-length behind)
 
-  found-front : beginsDecimal s ≡ true → decimalText found ++ drop (decimalOf s .len) s ≡ s
-  unfolding decimalOf
+  found-front : beginsDecimal s ≡ true → decimalText found ++ drop (decimalFrom s .len) s ≡ s
+  unfolding decimalFrom
   found-front e =
       let r = drop (length front) s in
       ap₂ (λ (x y : List ℕ). x ++ y) (found-text e) (sym (drop-drop (pointed behind) (length front) s))
@@ -260,25 +263,47 @@ cut-here s w k e l (inr (more, q)) =
     let m : length w + 1 ≡ min (length w + 1) (length s) = omega (arith, length-append w (9 ∷ more), ap length z) in
     (more, cut-as m (at-tab w more l z))
 
-found-made : (s : List ℕ) → eqb (madeNumber (decimalOf s .made)) 0 ≡ true → T (fits (found s)) × (madeDecimal (decimalOf s .made) ≡ kept (found s))
-unfolding decimalOf
+found-made : (s : List ℕ) → eqb (madeNumber (decimalFrom s .made)) 0 ≡ true → T (fits (found s)) × (madeDecimal (decimalFrom s .made) ≡ kept (found s))
+unfolding decimalFrom
 found-made s e = made-zero (found s .value) (found s .places) e
+
+-- what begins as decimals do begins with the digit that is needed
+begins-digit : (s : List ℕ) → beginsDecimal s ≡ true → firstIn digit s ≡ true
+unfolding beginsDecimal
+begins-digit [] e = absurd (subst T (sym e) tt)
+begins-digit (b ∷ s) e = by (inC ("1" to "9" ∷ []) b) refl e
+  where
+    by : (t : Bool) → inC ("1" to "9" ∷ []) b ≡ t → cond t true (cond (startsWith (bytes "0") (b ∷ s)) (not (firstIn digit s)) false) ≡ true → inC digit b ≡ true
+    by true q h = let r = in-range 49 57 b q in t-is (inC digit b) (→in 48 57 b (omega arith) (omega arith))
+    by false q h =
+        let z = both (eqb 48 b && true) (not (firstIn digit s)) h .0 in
+        ap (inC digit) (sym (eqb-true 48 b (t-is (eqb 48 b) (and-0 (eqb 48 b) true (is-t z)))))
+
+digit-first : (s : List ℕ) → firstIn digit s ≡ true → decimalOf Digit s ≡ decimalFrom s
+unfolding decimalOf
+digit-first s e = rw e
 
 pub read-good : (s : List ℕ) → columnOf s .good ≡ true → ColumnRead s (columnOf s)
 unfolding columnOf isColumn
 read-good s e =
-    let a = both (beginsDecimal s) (cond (eqb (madeNumber (decimalOf s .made)) 0) (endsColumn (drop (decimalOf s .len) s)) false) e in
-    let b = both (eqb (madeNumber (decimalOf s .made)) 0) (endsColumn (drop (decimalOf s .len) s)) (a .1) in
+    let x = decimalOf Digit s in
+    let a = both (beginsDecimal s) (cond (eqb (madeNumber (x .made)) 0) (endsColumn (drop (x .len) s)) false) e in
+    let b = both (eqb (madeNumber (x .made)) 0) (endsColumn (drop (x .len) s)) (a .1) in
+    let q = digit-first s (begins-digit s (a .0)) in
     let d = found s in
-    let m = found-made s (b .0) in
+    let made = subst (λ (y : DecimalRead). eqb (madeNumber (y .made)) 0 ≡ true) q (b .0) in
+    let m = found-made s made in
+    let size = ap (λ (y : DecimalRead). madeDecimal (y .made)) q ∙ m .1 in
+    let len : length (decimalText d) ≡ x .len = found-length s (a .0) ∙ ap (λ (y : DecimalRead). y .len) (sym q) in
     let w = decimalText d in
-    let c = cut-here s w (drop (decimalOf s .len) s) (found-front s (a .0)) (decimal-lacks d) (ends-either (drop (decimalOf s .len) s) (b .1)) in
+    let front = subst (λ (y : DecimalRead). w ++ drop (y .len) s ≡ s) (sym q) (found-front s (a .0)) in
+    let c = cut-here s w (drop (x .len) s) front (decimal-lacks d) (ends-either (drop (x .len) s) (b .1)) in
     record {
       column = w;
       more = c .0;
-      cut = cut-as (ap (λ (n : ℕ). min (n + 1) (length s)) (found-length s (a .0))) (c .1);
-      size = found-length s (a .0);
-      text = record { text = ap (λ (x : Decimal). decimalText (ruled x)) (m .1); bounds = subst (λ (x : Decimal). T (fits (ruled x))) (sym (m .1)) (m .0) };
+      cut = cut-as (ap (λ (n : ℕ). min (n + 1) (length s)) len) (c .1);
+      size = len;
+      text = record { text = ap (λ (x : Decimal). decimalText (ruled x)) size; bounds = subst (λ (x : Decimal). T (fits (ruled x))) (sym size) (m .0) };
     }
 
 -- no other column is good

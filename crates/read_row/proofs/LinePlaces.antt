@@ -12,7 +12,7 @@ use Rattle.rules.specs.Annotations.{annotationText}
 use Rattle.rules.specs.Lines.{Spelling, nextText, lineText, stray, short}
 use Rattle.rules.specs.Fields.{Table}
 use Rattle.rules.specs.Limits.{lineMarks}
-use Rattle.rules.specs.House.{annotationRules, confidenceOf, one, firstBreach, firstExcess}
+use Rattle.rules.specs.House.{annotationRules, share, one, firstBreach, firstExcess}
 use Rattle.rules.specs.Stored.{stored, header, stores, body}
 use Rattle.rules.specs.Answers.{Answer, Delivers, no-room, done, Sound, ReadsSum, excess, ReadsRules, breach, ReadsSpelling, limit, Reads, long, misshapen, spelled}
 use Rattle.rules.specs.Editions.{current}
@@ -39,11 +39,11 @@ breach-within at (a ∷ more) p e = by (λ q. breach-within (at + length (annota
 excess-within : (sum at : ℕ) (s : Spelling) (p : ℕ) → firstExcess sum at s ≡ written p → p < at + length (flat nextText s)
 excess-within sum at [] p e = absurd (written-not-silent silent e refl)
 excess-within sum at (a ∷ more) p e =
-    by (λ q. excess-within (sum + confidenceOf (a .confidence)) (at + length (annotationText a) + 1) more p q) (leb (sum + confidenceOf (a .confidence)) one) e
+    by (λ q. excess-within (sum + share a) (at + length (annotationText a) + 1) more p q) (leb (sum + share a) one) e
   where
-    by : (firstExcess (sum + confidenceOf (a .confidence)) (at + length (annotationText a) + 1) more ≡ written p → p < at + length (annotationText a) + 1 + length (flat nextText more))
+    by : (firstExcess (sum + share a) (at + length (annotationText a) + 1) more ≡ written p → p < at + length (annotationText a) + 1 + length (flat nextText more))
         → (t : Bool)
-        → elim t [ true ↦ firstExcess (sum + confidenceOf (a .confidence)) (at + length (annotationText a) + 1) more | false ↦ written at ] ≡ written p
+        → elim t [ true ↦ firstExcess (sum + share a) (at + length (annotationText a) + 1) more | false ↦ written at ] ≡ written p
         → p < at + length (nextText a ++ flat nextText more)
     by ih true q = omega (arith, ih q, length-append (nextText a) (flat nextText more))
     by ih false q = omega (arith, ap placeOr0 q, length-append (nextText a) (flat nextText more))

@@ -8,6 +8,7 @@ use Rattle.rules.specs.Bytes.{bytes, _to_, digit}
 use Rattle.rules.specs.Texts.{firstIn, startsWith}
 use Rattle.numbers.specs.declared.DecimalRead.{DecimalRead}
 use Rattle.numbers.specs.Making.{madeNumber, madeDecimal}
+use Rattle.numbers.specs.declared.FirstByte.the-variants.{Digit}
 use Rattle.numbers.specs.Points.{decimalOf}
 use Rattle.read_row.specs.declared.Column.{Column}
 
@@ -28,8 +29,8 @@ isColumn s d = cond (beginsDecimal s) (cond (eqb (madeNumber (d .made)) 0) (ends
 unfoldable pub columnOf : List ℕ → Column
 columnOf s =
     record {
-      good = isColumn s (decimalOf s);
-      decimal = madeDecimal (decimalOf s .made);
-      len = decimalOf s .len;
-      next = min (decimalOf s .len + 1) (length s);
+      good = isColumn s (decimalOf Digit s);
+      decimal = madeDecimal (decimalOf Digit s .made);
+      len = decimalOf Digit s .len;
+      next = min (decimalOf Digit s .len + 1) (length s);
     }

@@ -17,6 +17,7 @@ use layout::ROW_HEAD_SIZE;
 use limits::MAX_ROW;
 use numbers::Decimal;
 use numbers::DecimalRead;
+use numbers::FirstByte;
 use numbers::read_decimal;
 use put_bytes::clear;
 use put_bytes::put_le;
@@ -78,7 +79,7 @@ fn is_column(s: &[u8], d: DecimalRead) -> bool
 pub fn read_column(s: &[u8]) -> Column
     ensures { λ r. ⌜ r ≡ columnOf (now (s .entry)) ⌝ }
 {
-    let d = read_decimal(s);
+    let d = read_decimal(s, FirstByte::Digit);
     let made = d.made;
     Column {
         good: is_column(s, d),

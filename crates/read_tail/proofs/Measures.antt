@@ -12,10 +12,11 @@ use Rattle.rules.specs.Bytes.{bytes}
 use Rattle.rules.specs.Texts.{startsWith}
 use Rattle.numbers.specs.declared.Number.{Number}
 use Rattle.numbers.specs.declared.DecimalRead.{DecimalRead}
+use Rattle.numbers.specs.declared.FirstByte.{FirstByte}
 use Rattle.numbers.specs.Leading.{numberOf}
 use Rattle.numbers.specs.Points.{decimalOf}
 use Rattle.numbers.proofs.SpelledNumbers.{number-within, decimal-within}
-use Rattle.read_tail.specs.Decimals.{sizeAt}
+use Rattle.read_tail.specs.Decimals.{digitAt}
 
 -- behind the first bytes stands a number or a decimal
 module _ (s : List ℕ) (i : ℕ) {r : List ℕ} (pr : r ≡ drop i s) where
@@ -24,12 +25,12 @@ module _ (s : List ℕ) (i : ℕ) {r : List ℕ} (pr : r ≡ drop i s) where
       let a : n .len ≤ length (drop i s) = rw (pn, pr) (number-within (drop i s)) in
       omega (arith, length-drop i s)
 
-  pub decimal-fits : {d : DecimalRead} → d ≡ decimalOf r → i + d .len ≤ max i (length s)
-  decimal-fits {d} pd =
-      let a : d .len ≤ length (drop i s) = rw (pd, pr) (decimal-within (drop i s)) in
+  pub decimal-fits : (first : FirstByte) {d : DecimalRead} → d ≡ decimalOf first r → i + d .len ≤ max i (length s)
+  decimal-fits first {d} pd =
+      let a : d .len ≤ length (drop i s) = rw (pd, pr) (decimal-within first (drop i s)) in
       omega (arith, length-drop i s)
 
-pub size-small : (m : Bool) → sizeAt m ≤ 2
+pub size-small : (m : Bool) → digitAt m ≤ 2
 size-small true = omega arith
 size-small false = omega arith
 

@@ -3,12 +3,13 @@ ghost use mathlib.Core.Path.{_≡_};
 ghost use Rattle.rules.specs.Bytes.{bytes};
 ghost use Rattle.rules.specs.Texts.{startsWith};
 ghost use Rattle.read_tail.specs.Charges.{chargeOf};
-ghost use Rattle.read_tail.specs.Decimals.{noPart, partOf, sizeAt, confidenceOf, deviationOf};
+ghost use Rattle.read_tail.specs.Decimals.{noPart, partOf, digitAt, confidenceOf, deviationOf};
 use faults::Fault;
 use faults::check_number;
 use faults::check_refusal;
 use limits::MAX_CHARGE;
 use numbers::Decimal;
+use numbers::FirstByte;
 use numbers::MadeDecimal;
 use numbers::read_decimal;
 use numbers::read_number;
@@ -23,10 +24,12 @@ pub struct ChargeRead {
     pub fault: Fault,
 }
 
-// A deviation or a confidence. Kind 0: there is none; 1: there is one; 2: a deviation in ppm. A decimal past its bounds is told as 0.
+// A deviation or a confidence. Kind 0: there is none; 1: there is one; 2: a deviation in ppm. A bare one lacks the 0 before its point.
+// A decimal past its bounds is told as 0.
 pub struct DecimalPart {
     pub kind: u8,
     pub minus: bool,
+    pub bare: bool,
     pub size: Decimal,
     pub len: usize,
     pub fault: Fault,
@@ -64,6 +67,7 @@ fn no_part(f: Fault) -> DecimalPart
     DecimalPart {
         kind: 0,
         minus: false,
+        bare: false,
         size: Decimal::zero(),
         len: 0,
         fault: f,
@@ -75,15 +79,17 @@ fn made_part(
     made: MadeDecimal,
     kind: u8,
     minus: bool,
+    bare: bool,
     len: usize,
     place: usize,
     f: Fault,
 ) -> DecimalPart
-    ensures { λ r. ⌜ r ≡ partOf made kind minus len place f ⌝ }
+    ensures { λ r. ⌜ r ≡ partOf made kind minus bare len place f ⌝ }
 {
     DecimalPart {
         kind,
         minus,
+        bare,
         size: made.decimal(),
         len,
         fault: check_refusal(f, made.number(), place),
@@ -97,16 +103,13 @@ pub fn read_confidence(s: &[u8], end: usize, f: Fault) -> DecimalPart
     if !begins_with(s, b'*') {
         return no_part(f);
     }
-    let d = read_decimal(rest(s, 1));
+    let t = rest(s, 1);
+    let bare = begins_with(t, b'.');
+    let at = digit_at(bare);
+    let d = read_decimal(t, FirstByte::DigitOrPoint);
     let made = d.made;
-    made_part(
-        made,
-        1,
-        false,
-        1 + d.len,
-        minus_or_zero(end, minus_or_zero(s.len(), 1)),
-        f,
-    )
+    let place = minus_or_zero(end, minus_or_zero(s.len(), at));
+    made_part(made, 1, false, bare, 1 + d.len, place, f)
 }
 
 // Whether a part begins with `ppm`.
@@ -125,11 +128,11 @@ fn begins_ppm(s: &[u8]) -> bool
     b'm' == s[2]
 }
 
-// Where the decimal of a deviation begins.
-fn size_at(minus: bool) -> usize
-    ensures { λ r. ⌜ r ≡ sizeAt minus ⌝ }
+// Where the first digit stands: behind `/` or `*`, or behind one byte more, `-` or the point.
+fn digit_at(second: bool) -> usize
+    ensures { λ r. ⌜ r ≡ digitAt second ⌝ }
 {
-    if minus {
+    if second {
         return 2;
     }
     1
@@ -143,13 +146,13 @@ pub fn read_deviation(s: &[u8], end: usize, f: Fault) -> DecimalPart
         return no_part(f);
     }
     let minus = begins_with(rest(s, 1), b'-');
-    let at = size_at(minus);
-    let d = read_decimal(rest(s, at));
+    let at = digit_at(minus);
+    let d = read_decimal(rest(s, at), FirstByte::Digit);
     let made = d.made;
     let len = at + d.len;
     let place = minus_or_zero(end, minus_or_zero(s.len(), at));
     if begins_ppm(rest(s, len)) {
-        return made_part(made, 2, minus, len + 3, place, f);
+        return made_part(made, 2, minus, false, len + 3, place, f);
     }
-    made_part(made, 1, minus, len, place, f)
+    made_part(made, 1, minus, false, len, place, f)
 }

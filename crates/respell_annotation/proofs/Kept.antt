@@ -23,6 +23,7 @@ use Rattle.rules.specs.Preferred.{shortened, lossLe, itemLe}
 use Rattle.rules.specs.Fields.{filled}
 use Rattle.rules.specs.Stored.{ionFields}
 use Rattle.rules.proofs.Digits.{digits-small}
+use Rattle.rules.proofs.Confidences.{zeroLeftOut, in-full-kept}
 use Rattle.read_annotation.proofs.SaysWhat.{tableOf, says-so}
 use Rattle.read_annotation.proofs.Respelling.{firstPreferred, Respelling}
 use Rattle.respell_annotation.specs.Kept.{hasOne}
@@ -157,9 +158,9 @@ one-rises before (x ∷ y ∷ l) h = absurd (omega arith)
 -- ---- the annotation
 
 pub kept-respelled : (a : SpelledAnnotation) → length (ionFields (ionMap filled (a .ion)) .units) ≡ 0 → length (a .losses) ≤ 1 → length (a .adduct) ≤ 1
-    → hasOne (flat lossText (a .losses) ++ (isotopesText (a .isotopes) ++ adductText (a .adduct))) ≡ false
+    → zeroLeftOut (a .confidence) ≡ false → hasOne (flat lossText (a .losses) ++ (isotopesText (a .isotopes) ++ adductText (a .adduct))) ≡ false
     → Respelling firstPreferred a (annotationText a)
-kept-respelled a u l d h =
+kept-respelled a u l d z h =
     let ls = flat lossText (a .losses) in
     let y = isotopesText (a .isotopes) in
     let x = adductText (a .adduct) in
@@ -170,6 +171,7 @@ kept-respelled a u l d h =
     let ion-is = ion-filled (a .ion) u in
     let losses-are = all-kept lossText (lossMap filled) (lossMap shortened) loss-kept (a .losses) (front ls (y ++ x) h) in
     let isotopes-are = isotopes-kept (a .isotopes) (front y x (back ls (y ++ x) h)) in
+    let confidence-is = in-full-kept (a .confidence) z in
     let adduct-is = adduct-kept (a .adduct) (back y x (back ls (y ++ x) h)) in
     record {
       table = tableOf a losses adduct;
@@ -184,6 +186,6 @@ kept-respelled a u l d h =
             adduct = adduct-is i;
             charge = a .charge;
             deviation = a .deviation;
-            confidence = a .confidence;
+            confidence = confidence-is i;
           });
     }

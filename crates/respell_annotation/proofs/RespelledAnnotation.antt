@@ -29,6 +29,7 @@ use Rattle.sort_changes.specs.Events.{behindChanges}
 use Rattle.read_annotation.specs.declared.Parts.{Parts}
 use Rattle.read_annotation.specs.Measured.{behindIon, partsOf, annotationSize}
 use Rattle.read_annotation.proofs.Ions.{ion-told}
+use Rattle.read_annotation.proofs.Tails.{confidence-bare}
 use Rattle.read_annotation.proofs.SaysWhat.{tableOf, says-so}
 use Rattle.read_annotation.proofs.Respelling.{firstPreferred, Respelling}
 use Rattle.read_annotation.proofs.SpelledAnnotation.{EndsAnnotation, first, second, isotopesOn, adductOn, text-is, fault0, fault1, partsRead, parts-read, behind-ion, size-read}
@@ -40,42 +41,46 @@ use Rattle.respell_annotation.proofs.Rests.{take-is, prefix-is, middle-
 -- ---- as it stands
 
 -- what is known of an annotation that stays as it is
-record Glance (x : IonRead) (n : Counts) (s : List ℕ) : Type 0 where
+record Glance (x : IonRead) (n : Counts) (bare : Bool) (s : List ℕ) : Type 0 where
   units : x .units ≡ 0
   losses : n .losses ≤ 1
   items : n .items ≤ 1
+  full : bare ≡ false
   no-one : hasOne s ≡ false
 
-glance : (x : IonRead) (n : Counts) (s : List ℕ) → isKept x n s ≡ true → Glance x n s
+glance : (x : IonRead) (n : Counts) (bare : Bool) (s : List ℕ) → isKept x n bare s ≡ true → Glance x n bare s
 unfolding isKept
-glance x n s e =
+glance x n bare s e =
     let u = eqb (x .units) 0 in
     let l = leb (n .losses) 1 in
     let d = leb (n .items) 1 in
+    let b = not bare in
     let o = not (hasOne s) in
-    let h : T (u && (l && (d && o))) = is-t e in
-    let g = and-1 u (l && (d && o)) h in
-    let f = and-1 l (d && o) g in
+    let h : T (u && (l && (d && (b && o)))) = is-t e in
+    let g = and-1 u (l && (d && (b && o))) h in
+    let f = and-1 l (d && (b && o)) g in
+    let c = and-1 d (b && o) f in
     record {
-      units = eqb-true (x .units) 0 (t-is u (and-0 u (l && (d && o)) h));
-      losses = leb→le (n .losses) 1 (and-0 l (d && o) g);
-      items = leb→le (n .items) 1 (and-0 d o f);
-      no-one = not-true (hasOne s) (t-is o (and-1 d o f));
+      units = eqb-true (x .units) 0 (t-is u (and-0 u (l && (d && (b && o))) h));
+      losses = leb→le (n .losses) 1 (and-0 l (d && (b && o)) g);
+      items = leb→le (n .items) 1 (and-0 d (b && o) f);
+      full = not-true bare (t-is b (and-0 b o c));
+      no-one = not-true (hasOne s) (t-is o (and-1 b o c));
     }
 
 module _ (a : SpelledAnnotation) (k : List ℕ) (nth end : ℕ) (f : Fault) where
   abbrev read : Parts
   read = partsRead a k nth end f
 
-  stands : isKept (read .front .ion) (read .middle .counts) (take (read .middle .len) (behindIon (first a k) read)) ≡ true
+  stands : isKept (read .front .ion) (read .middle .counts) (read .tail .confidence .bare) (take (read .middle .len) (behindIon (first a k) read)) ≡ true
       → Respelling firstPreferred a (take (annotationSize (first a k) read) (first a k))
   stands h =
-      let g = glance (read .front .ion) (read .middle .counts) (take (read .middle .len) (behindIon (first a k) read)) h in
+      let g = glance (read .front .ion) (read .middle .counts) (read .tail .confidence .bare) (take (read .middle .len) (behindIon (first a k) read)) h in
       let t = ap (take (read .middle .len)) (behind-ion a k nth end f) ∙ middle-is a k nth end f in
       let w = ap (take (annotationSize (first a k) read)) (sym (text-is a k)) ∙ take-is (annotationText a) k (size-read a k nth end f) in
       subst (λ (s : List ℕ). Respelling firstPreferred a s) (sym w)
       (kept-respelled a (sym (ion-told (a .ion) (fault1 a k end (fault0 a k nth end f)) .units) ∙ g .units) (g .losses) (g .items)
-      (sym (ap hasOne t) ∙ g .no-one))
+      (sym (confidence-bare (a .confidence) _) ∙ g .full) (sym (ap hasOne t) ∙ g .no-one))
 
   -- ---- part by part
 
@@ -116,9 +121,9 @@ module _ (a : SpelledAnnotation) (k : List ℕ) (nth end : ℕ) (f : Fault) wher
 
     first-respelled : Respelling firstPreferred a (annotationSpelled (first a k) read)
     unfolding annotationSpelled
-    first-respelled = by (isKept (read .front .ion) (read .middle .counts) (take (read .middle .len) (behindIon (first a k) read))) refl
+    first-respelled = by (isKept (read .front .ion) (read .middle .counts) (read .tail .confidence .bare) (take (read .middle .len) (behindIon (first a k) read))) refl
       where
-        by : (t : Bool) → isKept (read .front .ion) (read .middle .counts) (take (read .middle .len) (behindIon (first a k) read)) ≡ t
+        by : (t : Bool) → isKept (read .front .ion) (read .middle .counts) (read .tail .confidence .bare) (take (read .middle .len) (behindIon (first a k) read)) ≡ t
             → Respelling firstPreferred a (cond t (take (annotationSize (first a k) read) (first a k)) (partsSpelled (first a k) read))
         by true h = stands h
         by false h = record { table = table; says = table-says; is = anew }

@@ -1,11 +1,11 @@
 -- What is spelled anew of each part of an annotation that is spelled, and what is left behind it. Assumes nothing.
 use Prim.Native.Nat.{ℕ, _+_, _-_}
-use mathlib.Core.Path.{_≡_, sym, ap, _∙_}
+use mathlib.Core.Path.{_≡_, refl, sym, ap, ap₂, _∙_}
 use mathlib.Core.List.{List, _++_, map, append-assoc}
 use native.Mathlib.Omega.{arith}
 use lib.ListN.{length, take, drop, length-append}
-use lib.Seq.{take-append-seam}
-use Rattle.lang.specs.Parts.{optText, flat}
+use lib.Seq.{take-append-seam, drop-append-seam}
+use Rattle.lang.specs.Parts.{Opt, silent, written, optText, optMap, flat}
 use Rattle.lang.specs.Mark.{Kept, here, later, marksOf}
 use Rattle.lang.specs.Walk.{Walked, walked}
 use Rattle.rules.specs.Bytes.{bytes}
@@ -13,13 +13,17 @@ use Rattle.rules.specs.Ions.{ionText, ionMap}
 use Rattle.rules.specs.Losses.{lossText, lossMap}
 use Rattle.rules.specs.Isotopes.{isotopesText, isotopesMap}
 use Rattle.rules.specs.Adducts.{adductText}
-use Rattle.rules.specs.Annotations.{SpelledAnnotation, flagText, analyteText, chargeText, deviationText, confidenceText}
+use Rattle.rules.specs.Decimals.{pointText}
+use Rattle.rules.specs.Confidences.{Confidence, in-full, from-point, confidenceText, meantDecimal}
+use Rattle.rules.specs.Annotations.{SpelledAnnotation, flagText, analyteText, chargeText, deviationText}
 use Rattle.rules.specs.Fields.{filled}
 use Rattle.rules.specs.Preferred.{shortened, lossLe}
 use Rattle.rules.specs.Limits.{part, rowPart, ionParts, lossMarks, isotopesMarks, adductMarks, annotationParts, annotationMarks}
+use Rattle.rules.proofs.Confidences.{zero-before}
 use Rattle.rules.proofs.Keeps.{kept-tail, kept-part}
 use Rattle.faults.specs.declared.Fault.{Fault}
 use Rattle.read_ion.proofs.SpelledIon.{ionRead}
+use Rattle.read_tail.proofs.SpelledTail.{confidenceRead}
 use Rattle.read_isotopes.specs.Spelled.{spelledIsotopes}
 use Rattle.read_isotopes.proofs.Stores.{kept-told}
 use Rattle.read_isotopes.proofs.Respelled.{isotopes-spelled}
@@ -29,7 +33,7 @@ use Rattle.sort_changes.proofs.Fits.{losses-fit}
 use Rattle.read_annotation.specs.declared.Parts.{Parts}
 use Rattle.read_annotation.proofs.Chains.{drop-is, drop-three}
 use Rattle.read_annotation.proofs.SpelledAnnotation.{EndsAnnotation, prefixLength, first, second, third, isotopesOn, adductOn, ends-middle, losses-ends, adduct-ends, behind-prefix, fault0, fault1, partsRead}
-use Rattle.respell_annotation.specs.Annotations.{ionSpelled, behindSpelledIsotopes}
+use Rattle.respell_annotation.specs.Annotations.{ionSpelled, tailSpelled, behindSpelledIsotopes}
 use Rattle.respell_annotation.proofs.Ions.{ion-spelled}
 use Rattle.respell_annotation.proofs.Adducts.{AdductSpelled, adduct-spelled}
 
@@ -48,6 +52,29 @@ take-three u v w k =
     ap (take (length u + length v + length w)) (sym (append-assoc u (v ++ w) k ∙ ap (λ (l : List ℕ). u ++ l) (append-assoc v w k)))
     ∙ take-is (u ++ (v ++ w)) k n
 
+-- ---- charge, deviation, confidence
+
+-- two texts, `*`, a point and its digits: the 0 stands behind `*`
+zero-put : (u v w : List ℕ) (n : ℕ) → n ≡ length w
+    → let s = u ++ (v ++ (bytes "*" ++ w)) in take (length s - n) s ++ (bytes "0" ++ drop (length s - n) s) ≡ u ++ (v ++ (bytes "*" ++ (bytes "0" ++ w)))
+zero-put u v w n e =
+    let front = u ++ (v ++ bytes "*") in
+    let s = u ++ (v ++ (bytes "*" ++ w)) in
+    let t : s ≡ front ++ w = sym (append-assoc u (v ++ bytes "*") w ∙ ap (λ (l : List ℕ). u ++ l) (append-assoc v (bytes "*") w)) in
+    let at : length s - n ≡ length front = omega (arith, ap length t, length-append front w) in
+    ap₂ (λ (i : ℕ) (l : List ℕ). take i l ++ (bytes "0" ++ drop i l)) at t
+    ∙ ap₂ (λ (x y : List ℕ). x ++ (bytes "0" ++ y)) (take-append-seam front w) (drop-append-seam front w)
+    ∙ append-assoc u (v ++ bytes "*") (bytes "0" ++ w) ∙ ap (λ (l : List ℕ). u ++ l) (append-assoc v (bytes "*") (bytes "0" ++ w))
+
+tail-spelled : (u v : List ℕ) (c : Opt Confidence) (g : Fault)
+    → tailSpelled (u ++ (v ++ optText confidenceText c)) (confidenceRead c g) ≡ u ++ (v ++ optText confidenceText (optMap in-full (optMap meantDecimal c)))
+unfolding tailSpelled
+tail-spelled u v silent g = refl
+tail-spelled u v (written (in-full d)) g = refl
+tail-spelled u v (written (from-point z)) g =
+    let w = pointText (z .decimal .places) (z .decimal .value) in
+    zero-put u v w (length (confidenceText (from-point z)) - 1) (omega arith) ∙ ap (λ (l : List ℕ). u ++ (v ++ (bytes "*" ++ l))) (sym (zero-before z))
+
 -- ---- part by part
 
 module _ (a : SpelledAnnotation) (k : List ℕ) where
@@ -61,11 +88,13 @@ module _ (a : SpelledAnnotation) (k : List ℕ) where
     pub middle-is : take (read .middle .len) (second a k) ≡ flat lossText (a .losses) ++ (isotopesText (a .isotopes) ++ adductText (a .adduct))
     middle-is = take-three (flat lossText (a .losses)) (isotopesText (a .isotopes)) (adductText (a .adduct)) (third a k)
 
-    pub tail-is : take (read .tail .len) (drop (read .middle .len) (second a k))
-        ≡ optText chargeText (a .charge) ++ (optText deviationText (a .deviation) ++ optText confidenceText (a .confidence))
+    pub tail-is : tailSpelled (take (read .tail .len) (drop (read .middle .len) (second a k))) (read .tail .confidence)
+        ≡ optText chargeText (a .charge) ++ (optText deviationText (a .deviation) ++ optText confidenceText (optMap in-full (optMap meantDecimal (a .confidence))))
     tail-is =
-        ap (take (read .tail .len)) (drop-three (flat lossText (a .losses)) (isotopesText (a .isotopes)) (adductText (a .adduct)) (third a k))
-        ∙ take-three (optText chargeText (a .charge)) (optText deviationText (a .deviation)) (optText confidenceText (a .confidence)) k
+        ap (λ (s : List ℕ). tailSpelled s (read .tail .confidence))
+        (ap (take (read .tail .len)) (drop-three (flat lossText (a .losses)) (isotopesText (a .isotopes)) (adductText (a .adduct)) (third a k))
+        ∙ take-three (optText chargeText (a .charge)) (optText deviationText (a .deviation)) (optText confidenceText (a .confidence)) k)
+        ∙ tail-spelled (optText chargeText (a .charge)) (optText deviationText (a .deviation)) (a .confidence) _
 
     pub ion-is : (i at : ℕ) → Kept (annotationMarks i a at)
         → ionSpelled (drop (read .front .at) (first a k)) (read .front .ion) ≡ ionText (ionMap shortened (ionMap filled (a .ion)))

@@ -15,13 +15,14 @@ use Rattle.print_count.specs.declared.Respelled.{Respelled}
 use Rattle.put_formula.specs.Preferred.{preferredUnits}
 use Rattle.read_ion.specs.declared.IonRead.{IonRead}
 use Rattle.read_isotopes.specs.Spelled.{spelledIsotopes, SpellsIsotopes}
+use Rattle.read_tail.specs.declared.DecimalPart.{DecimalPart}
 use Rattle.sort_changes.specs.Gathered.{gathered}
 use Rattle.sort_changes.specs.Events.{noKeys, behindChanges}
 use Rattle.sort_changes.specs.Spelled.{changesSpelled, SpellsChanges}
 use Rattle.read_annotation.specs.declared.Parts.{Parts}
 use Rattle.read_annotation.specs.Measured.{behindIon, annotationSize}
 use Rattle.respell_annotation.specs.Kept.{hasOne, isKept}
-use Rattle.respell_annotation.specs.Annotations.{ionSpelled, adductSpelled, partsSpelled, annotationSpelled, SpellsAnnotation}
+use Rattle.respell_annotation.specs.Annotations.{ionSpelled, adductSpelled, tailSpelled, partsSpelled, annotationSpelled, SpellsAnnotation}
 
 -- ---- a `1` in a part: what is left to look at decides
 
@@ -40,24 +41,28 @@ module _ (s : List ℕ) (i : ℕ) (w : hasOne s ≡ hasOne (drop i s)) where
 
 -- ---- what is kept
 
-module _ (x : IonRead) (n : Counts) (s : List ℕ) where
-  pub with-formula : (x .units ≡ 0 → ⊥) → false ≡ isKept x n s
+module _ (x : IonRead) (n : Counts) (bare : Bool) (s : List ℕ) where
+  pub with-formula : (x .units ≡ 0 → ⊥) → false ≡ isKept x n bare s
   unfolding isKept
   with-formula u = rw (ne-eqb (x .units) 0 u)
 
   module _ (u : x .units ≡ 0) where
-    pub with-losses : 1 < n .losses → false ≡ isKept x n s
+    pub with-losses : 1 < n .losses → false ≡ isKept x n bare s
     unfolding isKept
     with-losses l = rw (eq-eqb (x .units) 0 u, lt-leb (n .losses) 1 l)
 
     module _ (l : n .losses ≤ 1) where
-      pub with-items : 1 < n .items → false ≡ isKept x n s
+      pub with-items : 1 < n .items → false ≡ isKept x n bare s
       unfolding isKept
       with-items d = rw (eq-eqb (x .units) 0 u, le-leb (n .losses) 1 l, lt-leb (n .items) 1 d)
 
-      pub by-bytes : {t : Bool} → n .items ≤ 1 → t ≡ hasOne s → not t ≡ isKept x n s
+      pub with-point : n .items ≤ 1 → bare ≡ true → false ≡ isKept x n bare s
       unfolding isKept
-      by-bytes d e = rw (eq-eqb (x .units) 0 u, le-leb (n .losses) 1 l, le-leb (n .items) 1 d) (ap not e)
+      with-point d b = rw (eq-eqb (x .units) 0 u, le-leb (n .losses) 1 l, le-leb (n .items) 1 d, b)
+
+      pub by-bytes : {t : Bool} → n .items ≤ 1 → bare ≡ false → t ≡ hasOne s → not t ≡ isKept x n bare s
+      unfolding isKept
+      by-bytes d b e = rw (eq-eqb (x .units) 0 u, le-leb (n .losses) 1 l, le-leb (n .items) 1 d, b) (ap not e)
 
 -- ---- the ion
 
@@ -84,13 +89,27 @@ module _ (s : List ℕ) {d : List ℕ} {to : ℕ} where
   unfolding adductSpelled
   adduct-some f q p v items end = rw f (put-as (put-then p (put-then (items .put) end)) (λ i. q i ++ (changesSpelled (v i) ++ (93 ∷ []))))
 
+-- ---- charge, deviation, confidence
+
+module _ (s : List ℕ) (c : DecimalPart) {d e : List ℕ} {to r : ℕ} where
+  pub tail-kept : c .bare ≡ false → Put d to s e r → Put d to (tailSpelled s c) e r
+  unfolding tailSpelled
+  tail-kept b p = rw b p
+
+  pub tail-filled : {t w d1 d2 : List ℕ} {n at a b : ℕ} → c .bare ≡ true → n ≡ c .len - 1 → at ≡ length s - n → t ≡ take at s → Put d to t d1 a
+      → Put d1 a (48 ∷ []) d2 b → w ≡ drop at s → Put d2 b w e r → Put d to (tailSpelled s c) e r
+  unfolding tailSpelled
+  tail-filled h pn pa pt p zero pw q =
+      let i = pa ∙ ap (λ (m : ℕ). length s - m) pn in
+      rw h (put-as (put-then p (put-then zero q)) (λ j. (pt ∙ ap (λ (m : ℕ). take m s) i) j ++ ((48 ∷ []) ++ (pw ∙ ap (λ (m : ℕ). drop m s) i) j)))
+
 -- ---- the annotation
 
 module _ (s : List ℕ) (p : Parts) where
   pub parts-put : {d t0 ta t1 t2 t3 u v d1 d2 d3 d4 d5 e : List ℕ} {l y : Respelled} {to a0 a1 a2 r : ℕ} → t0 ≡ take (p .front .at) s → Put d to t0 d1 a0
       → ta ≡ drop (p .front .at) s → Put d1 a0 (ionSpelled ta (p .front .ion)) d2 a1 → t1 ≡ drop (p .front .len) s → SpellsChanges t1 d2 a1 d3 l
       → t2 ≡ drop (l .len) t1 → SpellsIsotopes t2 d3 (l .to) d4 y → t3 ≡ drop (y .len) t2 → Put d4 (y .to) (adductSpelled t3) d5 a2
-      → u ≡ drop (p .middle .len) t1 → v ≡ take (p .tail .len) u → Put d5 a2 v e r → Put d to (partsSpelled s p) e r
+      → u ≡ drop (p .middle .len) t1 → v ≡ take (p .tail .len) u → Put d5 a2 (tailSpelled v (p .tail .confidence)) e r → Put d to (partsSpelled s p) e r
   unfolding partsSpelled
   parts-put {l = l} {y = y} q0 prefix qa ion q1 losses e2 isotopes e3 adduct eu ev tail =
       let z2 : l .len ≡ gathered noKeys (behindIon s p) .at = losses .len ∙ (λ j. gathered noKeys (q1 j) .at) in
@@ -100,16 +119,16 @@ module _ (s : List ℕ) (p : Parts) where
       let q3 = e3 ∙ (λ j. drop (z3 j) (q2 j)) in
       let qv = ev ∙ ap (take (p .tail .len)) (eu ∙ ap (drop (p .middle .len)) q1) in
       put-as (put-then prefix (put-then ion (put-then (losses .put) (put-then (isotopes .put) (put-then adduct tail)))))
-      (λ j. q0 j ++ (ionSpelled (qa j) (p .front .ion) ++ (changesSpelled (q1 j) ++ (spelledIsotopes (q2 j) .known ++ (adductSpelled (q3 j) ++ qv j)))))
+      (λ j. q0 j ++ (ionSpelled (qa j) (p .front .ion) ++ (changesSpelled (q1 j) ++ (spelledIsotopes (q2 j) .known ++ (adductSpelled (q3 j) ++ tailSpelled (qv j) (p .tail .confidence))))))
 
   module _ {t1 u v w : List ℕ} {b : Bool} {len : ℕ} (q1 : t1 ≡ drop (p .front .len) s) (qu : u ≡ drop (p .middle .len) t1) (qv : v ≡ drop (p .tail .len) u)
-      (ql : len ≡ length s - length v) (qw : w ≡ take (p .middle .len) t1) (qb : b ≡ isKept (p .front .ion) (p .middle .counts) w) where
+      (ql : len ≡ length s - length v) (qw : w ≡ take (p .middle .len) t1) (qb : b ≡ isKept (p .front .ion) (p .middle .counts) (p .tail .confidence .bare) w) where
     size-is : len ≡ annotationSize s p
     unfolding annotationSize
     size-is = ql ∙ ap (λ (r : List ℕ). length s - length r) (qv ∙ ap (drop (p .tail .len)) (qu ∙ ap (drop (p .middle .len)) q1))
 
-    kept-is : isKept (p .front .ion) (p .middle .counts) (take (p .middle .len) (behindIon s p)) ≡ b
-    kept-is = sym (qb ∙ ap (isKept (p .front .ion) (p .middle .counts)) (qw ∙ ap (take (p .middle .len)) q1))
+    kept-is : isKept (p .front .ion) (p .middle .counts) (p .tail .confidence .bare) (take (p .middle .len) (behindIon s p)) ≡ b
+    kept-is = sym (qb ∙ ap (isKept (p .front .ion) (p .middle .counts) (p .tail .confidence .bare)) (qw ∙ ap (take (p .middle .len)) q1))
 
     pub put-kept : {d t e : List ℕ} {to r : ℕ} → b ≡ true → t ≡ take len s → Put d to t e r → SpellsAnnotation s p d to e (record { to = r; len = len })
     unfolding annotationSpelled

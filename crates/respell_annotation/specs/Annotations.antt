@@ -12,6 +12,7 @@ use Rattle.print_count.specs.declared.Respelled.{Respelled}
 use Rattle.put_formula.specs.Preferred.{preferredUnits}
 use Rattle.read_ion.specs.declared.IonRead.{IonRead}
 use Rattle.read_isotopes.specs.Spelled.{spelledIsotopes}
+use Rattle.read_tail.specs.declared.DecimalPart.{DecimalPart}
 use Rattle.sort_changes.specs.Events.{behindChanges}
 use Rattle.sort_changes.specs.Spelled.{changesSpelled}
 use Rattle.read_annotation.specs.declared.Parts.{Parts}
@@ -26,6 +27,10 @@ ionSpelled s x =
 unfoldable pub adductSpelled : List ℕ → List ℕ
 adductSpelled s = cond (startsWith (bytes "[M") s) (take 2 s ++ (changesSpelled (drop 2 s) ++ bytes "]")) []
 
+-- charge, deviation and confidence: a 0 stands before the point that a confidence begins with. The point and its digits are the last bytes.
+unfoldable pub tailSpelled : List ℕ → DecimalPart → List ℕ
+tailSpelled s c = let at = length s - (c .len - 1) in cond (c .bare) (take at s ++ (bytes "0" ++ drop at s)) s
+
 -- ---- the annotation, by what is left behind each of its parts
 
 abbrev pub behindSpelledIsotopes : List ℕ → List ℕ
@@ -35,7 +40,8 @@ behindSpelledIsotopes s = drop (length s - length (spelledIsotopes s .rest)) s
 abbrev pub spelledWith : List ℕ → List ℕ → List ℕ → List ℕ → Parts → List ℕ
 spelledWith s s1 s2 s3 p =
     take (p .front .at) s ++ (ionSpelled (drop (p .front .at) s) (p .front .ion)
-    ++ (changesSpelled s1 ++ (spelledIsotopes s2 .known ++ (adductSpelled s3 ++ take (p .tail .len) (drop (p .middle .len) s1)))))
+    ++ (changesSpelled s1 ++ (spelledIsotopes s2 .known ++ (adductSpelled s3
+    ++ tailSpelled (take (p .tail .len) (drop (p .middle .len) s1)) (p .tail .confidence)))))
 
 unfoldable pub partsSpelled : List ℕ → Parts → List ℕ
 partsSpelled s p = spelledWith s (behindIon s p) (behindChanges (behindIon s p)) (behindSpelledIsotopes (behindChanges (behindIon s p))) p
@@ -43,7 +49,8 @@ partsSpelled s p = spelledWith s (behindIon s p) (behindChanges (behindIon s p))
 -- as it stands, or part by part
 unfoldable pub annotationSpelled : List ℕ → Parts → List ℕ
 annotationSpelled s p =
-    cond (isKept (p .front .ion) (p .middle .counts) (take (p .middle .len) (behindIon s p))) (take (annotationSize s p) s) (partsSpelled s p)
+    cond (isKept (p .front .ion) (p .middle .counts) (p .tail .confidence .bare) (take (p .middle .len) (behindIon s p)))
+    (take (annotationSize s p) s) (partsSpelled s p)
 
 pub record SpellsAnnotation (s : List ℕ) (p : Parts) (d : List ℕ) (to : ℕ) (e : List ℕ) (r : Respelled) : Type 0 where
   pub len : r .len ≡ annotationSize s p

@@ -1,9 +1,9 @@
 // An annotation in preferred spelling, from the bytes of a line and what was read of them: losses and adduct items are put in order, a 1
-// that may be left out is, and all else stays as it is. Document 01, "One table, several spellings".
+// that may be left out is, a confidence gets the 0 before its point, and all else stays as it is. Document 01, "One table, several spellings".
 ghost use mathlib.Core.Path.{_≡_};
 ghost use Rattle.put_bytes.specs.Puts.{Put};
 ghost use Rattle.respell_annotation.specs.Kept.{hasOne, isKept};
-ghost use Rattle.respell_annotation.specs.Annotations.{ionSpelled, adductSpelled, partsSpelled, SpellsAnnotation};
+ghost use Rattle.respell_annotation.specs.Annotations.{ionSpelled, adductSpelled, tailSpelled, partsSpelled, SpellsAnnotation};
 use counts::Counts;
 use print_count::Respelled;
 use put_bytes::put_run;
@@ -13,6 +13,7 @@ use read_annotation::Parts;
 use read_annotation::begins_adduct;
 use read_ion::IonRead;
 use read_isotopes::spell_isotopes;
+use read_tail::DecimalPart;
 use slices::first_of;
 use slices::minus_or_zero;
 use slices::rest;
@@ -35,9 +36,9 @@ fn has_one(s: &[u8]) -> bool
 }
 
 // Whether an annotation is spelled as it is preferred, as can be told at a glance: it has no formula, one loss and one adduct item at most,
-// and no `1` in what stands between ion and charge. Most annotations are such.
-fn is_kept(x: IonRead, n: Counts, s: &[u8]) -> bool
-    ensures { λ r. ⌜ r ≡ isKept x n (now (s .entry)) ⌝ }
+// its confidence has the 0 before its point, and no `1` stands between ion and charge. Most annotations are such.
+fn is_kept(x: IonRead, n: Counts, bare: bool, s: &[u8]) -> bool
+    ensures { λ r. ⌜ r ≡ isKept x n bare (now (s .entry)) ⌝ }
 {
     if x.units != 0 {
         return false;
@@ -46,6 +47,9 @@ fn is_kept(x: IonRead, n: Counts, s: &[u8]) -> bool
         return false;
     }
     if 1 < n.items {
+        return false;
+    }
+    if bare {
         return false;
     }
     !has_one(s)
@@ -77,6 +81,19 @@ fn spell_adduct(out: &mut [u8], to: usize, s: &[u8]) -> usize
     put8(out, x.to, b']')
 }
 
+// Charge, deviation and confidence, where c was read of the last: a 0 is put before a point that it begins with.
+fn spell_tail(out: &mut [u8], to: usize, s: &[u8], c: DecimalPart) -> usize
+    ensures { λ r. ⌜ Put (now (out .entry)) to (tailSpelled (now (s .entry)) c) (now (out .exit)) r ⌝ }
+{
+    if !c.bare {
+        return put_run(out, to, s);
+    }
+    let at = minus_or_zero(s.len(), minus_or_zero(c.len, 1));
+    let a = put_run(out, to, first_of(s, at));
+    let b = put8(out, a, b'0');
+    put_run(out, b, rest(s, at))
+}
+
 // The parts of the annotation that a part begins with, one after the other.
 fn spell_parts(out: &mut [u8], to: usize, s: &[u8], p: Parts) -> usize
     ensures { λ r. ⌜ Put (now (out .entry)) to (partsSpelled (now (s .entry)) p) (now (out .exit)) r ⌝ }
@@ -92,7 +109,7 @@ fn spell_parts(out: &mut [u8], to: usize, s: &[u8], p: Parts) -> usize
     let s2 = rest(s1, l.len);
     let y = spell_isotopes(out, l.to, s2);
     let a2 = spell_adduct(out, y.to, rest(s2, y.len));
-    put_run(out, a2, first_of(rest(s1, m.len), b.len))
+    spell_tail(out, a2, first_of(rest(s1, m.len), b.len), b.confidence)
 }
 
 // The annotation that a part begins with, of which p was read.
@@ -104,9 +121,10 @@ pub fn spell_annotation(out: &mut [u8], to: usize, s: &[u8], p: Parts) -> Respel
     let m = p.middle;
     let n = m.counts;
     let b = p.tail;
+    let c = b.confidence;
     let s1 = rest(s, f.len);
     let len = minus_or_zero(s.len(), rest(rest(s1, m.len), b.len).len());
-    if is_kept(x, n, first_of(s1, m.len)) {
+    if is_kept(x, n, c.bare, first_of(s1, m.len)) {
         let end = put_run(out, to, first_of(s, len));
         return Respelled { to: end, len };
     }

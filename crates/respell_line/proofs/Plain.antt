@@ -1,15 +1,16 @@
--- A line without losses, isotopes, adduct items and units is the preferred one of what it spells. Assumes nothing.
+-- A line without losses, isotopes, adduct items and units, in which no confidence lacks its 0, is the preferred one of what it spells.
+-- Assumes nothing.
 use Prim.Native.Nat.{ℕ, _≤_}
-use mathlib.Core.Path.{_≡_, refl, ap, ap₂, _∙_, subst}
-use mathlib.Core.Bool.{true}
+use mathlib.Core.Path.{_≡_, refl, sym, ap, ap₂, _∙_, subst}
+use mathlib.Core.Bool.{Bool, true, false, not, _&&_, _||_}
 use mathlib.Core.List.{List, [], _∷_, _++_, map}
 use native.Mathlib.Omega.{arith}
 use lib.Dec.{eqb}
 use lib.ListN.{length, length-append}
-use borrow.Author.Tests.{eqb-true}
-use Rattle.lang.specs.Parts.{flat}
+use borrow.Author.Tests.{eqb-true, not-true}
+use Rattle.lang.specs.Parts.{optMap, flat}
 use Rattle.lang.specs.Order.{Perm, Each, none, next}
-use Rattle.lang.proofs.Tests.{is-t, t-is}
+use Rattle.lang.proofs.Tests.{is-t, t-is, not-t}
 use Rattle.lang.proofs.Deriv.{and-0, and-1}
 use Rattle.rules.specs.Numbers.{Number}
 use Rattle.rules.specs.Formulas.{Written}
@@ -17,18 +18,20 @@ use Rattle.rules.specs.Ions.{Ion, ionMap}
 use Rattle.rules.specs.Losses.{lossMap}
 use Rattle.rules.specs.Isotopes.{Isotopes, no-isotope, plain-isotope, average-isotope, specific-isotopes, isotopesMap}
 use Rattle.rules.specs.Adducts.{itemMap}
+use Rattle.rules.specs.Confidences.{in-full}
 use Rattle.rules.specs.Annotations.{TableAnnotation, SpelledAnnotation}
 use Rattle.rules.specs.Lines.{Spelling, lineText}
 use Rattle.rules.specs.Fields.{filledAnnotation, Table, filled, Says}
 use Rattle.rules.specs.Preferred.{shortenedAnnotation, shortened, preferredSpelling, preferred}
 use Rattle.rules.specs.Stored.{ionFields, lostUnits, addedUnits, isotopeRecords}
+use Rattle.rules.proofs.Confidences.{zeroLeftOut, in-full-kept}
 use Rattle.rules.proofs.Totals.{perm-length}
 use Rattle.put_bytes.specs.Puts.{maxPlace}
 use Rattle.counts.specs.declared.Counts.{Counts}
 use Rattle.counts.specs.Sums.{sum, noCounts, plus}
 use Rattle.respell_annotation.proofs.Kept.{ion-filled}
 use Rattle.measure_line.specs.Totals.{totalsOf}
-use Rattle.measure_line.proofs.Through.{countsIn, spelledCounts, totals-read}
+use Rattle.measure_line.proofs.Through.{countsIn, spelledCounts, anyFree, totals-read}
 use Rattle.respell_line.specs.Plain.{isPlain}
 
 -- ---- the parts of an annotation, as a table has them
@@ -77,13 +80,14 @@ ion-plain a e =
     let others = flat (λ l. lostUnits (l .what)) (b .losses) ++ flat (λ x. addedUnits (x .what)) (b .adduct) in
     omega (arith, e, length-append (ionFields (b .ion) .units) others)
 
-first-said : (a : SpelledAnnotation) (b : TableAnnotation) → Says a b → Plain (countsIn a) → a ≡ shortenedAnnotation b
-first-said a b s p =
+first-said : (a : SpelledAnnotation) (b : TableAnnotation) → Says a b → Plain (countsIn a) → zeroLeftOut (a .confidence) ≡ false → a ≡ shortenedAnnotation b
+first-said a b s p z =
     let e = s .fields in
     let ion = ion-said (a .ion) (b .ion) (e .ion) (ion-plain a (p .units)) in
     let losses = none-said (lossMap filled) (lossMap shortened) (a .losses) (b .losses) (e .losses) (p .losses) in
     let isotopes = isotopes-filled (a .isotopes) (p .isotopes) ∙ ap (isotopesMap shortened) (e .isotopes) in
     let adduct = none-said (itemMap filled) (itemMap shortened) (a .adduct) (b .adduct) (e .adduct) (p .items) in
+    let confidence = in-full-kept (a .confidence) z ∙ ap (optMap in-full) (e .confidence) in
     λ i. record {
       marked = e .marked i;
       analyte = e .analyte i;
@@ -93,34 +97,46 @@ first-said a b s p =
       adduct = adduct i;
       charge = e .charge i;
       deviation = e .deviation i;
-      confidence = e .confidence i;
+      confidence = confidence i;
     }
 
+-- none of two
+none-free : (x y : Bool) → (x || y) ≡ false → (x ≡ false) × (y ≡ false)
+none-free true y e = absurd (not-t {x = true} e tt)
+none-free false y e = (refl, e)
+
 -- a plain spelling is the preferred one
-plain-one : {s : Spelling} {t : Table} → Each Says s t → Plain (spelledCounts s) → s ≡ preferredSpelling t
-plain-one none p = refl
-plain-one (next {a = a} {b = b} {l = more} x e) p =
-    let q = plain-parts (countsIn a) (spelledCounts more) p in ap₂ _∷_ (first-said a b x (q .0)) (plain-one e (q .1))
+plain-one : {s : Spelling} {t : Table} → Each Says s t → Plain (spelledCounts s) → anyFree s ≡ false → s ≡ preferredSpelling t
+plain-one none p f = refl
+plain-one (next {a = a} {b = b} {l = more} x e) p f =
+    let q = plain-parts (countsIn a) (spelledCounts more) p in
+    let z = none-free (zeroLeftOut (a .confidence)) (anyFree more) f in
+    ap₂ _∷_ (first-said a b x (q .0) (z .0)) (plain-one e (q .1) (z .1))
 
 -- ---- by what was counted
 
-tested-plain : (n : Counts) → isPlain n ≡ true → Plain n
+tested-plain : (n : Counts) (free : Bool) → isPlain n free ≡ true → Plain n × (free ≡ false)
 unfolding isPlain
-tested-plain n e =
+tested-plain n free e =
     let losses = eqb (n .losses) 0 in
     let isotopes = eqb (n .isotopes) 0 in
     let items = eqb (n .items) 0 in
     let units = eqb (n .units) 0 in
-    let h = is-t e in
-    record {
-      losses = eqb-true (n .losses) 0 (t-is losses (and-0 losses _ h));
-      isotopes = eqb-true (n .isotopes) 0 (t-is isotopes (and-0 isotopes _ (and-1 losses _ h)));
-      items = eqb-true (n .items) 0 (t-is items (and-0 items units (and-1 isotopes _ (and-1 losses _ h))));
-      units = eqb-true (n .units) 0 (t-is units (and-1 items units (and-1 isotopes _ (and-1 losses _ h))));
-    }
+    let all = is-t e in
+    let h = and-1 (not free) (losses && (isotopes && (items && units))) all in (
+      record {
+        losses = eqb-true (n .losses) 0 (t-is losses (and-0 losses _ h));
+        isotopes = eqb-true (n .isotopes) 0 (t-is isotopes (and-0 isotopes _ (and-1 losses _ h)));
+        items = eqb-true (n .items) 0 (t-is items (and-0 items units (and-1 isotopes _ (and-1 losses _ h))));
+        units = eqb-true (n .units) 0 (t-is units (and-1 items units (and-1 isotopes _ (and-1 losses _ h))));
+      },
+      not-true free (t-is (not free) (and-0 (not free) (losses && (isotopes && (items && units))) all)),
+    )
 
-pub plain-preferred : (s : Spelling) {t : Table} → length (lineText s) ≤ maxPlace → Each Says s t → isPlain (totalsOf (lineText s) .counts) ≡ true
+pub plain-preferred : (s : Spelling) {t : Table} → length (lineText s) ≤ maxPlace → Each Says s t → isPlain (totalsOf (lineText s) .counts) (totalsOf (lineText s) .free) ≡ true
     → lineText s ≡ preferred t
 plain-preferred s h says e =
-    let p = subst Plain (totals-read s h .counts) (tested-plain (totalsOf (lineText s) .counts) e) in
-    ap lineText (plain-one says (plain-parts noCounts (spelledCounts s) p .1))
+    let x = totals-read s h in
+    let t = tested-plain (totalsOf (lineText s) .counts) (totalsOf (lineText s) .free) e in
+    let p = subst Plain (x .counts) (t .0) in
+    ap lineText (plain-one says (plain-parts noCounts (spelledCounts s) p .1) (sym (x .free) ∙ t .1))

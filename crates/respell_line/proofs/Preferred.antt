@@ -41,8 +41,8 @@ anew-preferred s t small says kept =
 pub spelling-preferred : (s : Spelling) (t : Table) → length (lineText s) ≤ maxPlace → Each Says s t → Kept (lineMarks s)
     → spellingOf (lineText s) (totalsOf (lineText s)) (partsAt (lineText s) 0) ≡ preferred t
 unfolding spellingOf
-spelling-preferred s t small says kept = by (isPlain (totalsOf (lineText s) .counts)) refl
+spelling-preferred s t small says kept = by (isPlain (totalsOf (lineText s) .counts) (totalsOf (lineText s) .free)) refl
   where
-    by : (b : Bool) → isPlain (totalsOf (lineText s) .counts) ≡ b → cond b (lineText s) (lineSpelled (lineText s) (partsAt (lineText s) 0)) ≡ preferred t
+    by : (b : Bool) → isPlain (totalsOf (lineText s) .counts) (totalsOf (lineText s) .free) ≡ b → cond b (lineText s) (lineSpelled (lineText s) (partsAt (lineText s) 0)) ≡ preferred t
     by true e = plain-preferred s small says e
     by false e = anew-preferred s t small says kept

@@ -11,28 +11,33 @@ use Rattle.read_annotation.specs.declared.Parts.{Parts}
 use Rattle.measure_line.specs.declared.Totals.{Totals}
 use Rattle.respell_line.specs.Plain.{isPlain, lineSpelled, spellingOf}
 
--- ---- the four tests, one after the other
+-- ---- the five tests, one after the other
 
-module _ (n : Counts) where
-  pub with-losses : (n .losses ≡ 0 → ⊥) → false ≡ isPlain n
+module _ (n : Counts) (free : Bool) where
+  pub with-free : free ≡ true → false ≡ isPlain n free
   unfolding isPlain
-  with-losses l = rw (ne-eqb (n .losses) 0 l)
+  with-free f = rw f
 
-  pub with-isotopes : n .losses ≡ 0 → (n .isotopes ≡ 0 → ⊥) → false ≡ isPlain n
-  unfolding isPlain
-  with-isotopes l i = rw (eq-eqb (n .losses) 0 l, ne-eqb (n .isotopes) 0 i)
+  module _ (f : free ≡ false) where
+    pub with-losses : (n .losses ≡ 0 → ⊥) → false ≡ isPlain n free
+    unfolding isPlain
+    with-losses l = rw (f, ne-eqb (n .losses) 0 l)
 
-  pub with-items : n .losses ≡ 0 → n .isotopes ≡ 0 → (n .items ≡ 0 → ⊥) → false ≡ isPlain n
-  unfolding isPlain
-  with-items l i x = rw (eq-eqb (n .losses) 0 l, eq-eqb (n .isotopes) 0 i, ne-eqb (n .items) 0 x)
+    pub with-isotopes : n .losses ≡ 0 → (n .isotopes ≡ 0 → ⊥) → false ≡ isPlain n free
+    unfolding isPlain
+    with-isotopes l i = rw (f, eq-eqb (n .losses) 0 l, ne-eqb (n .isotopes) 0 i)
 
-  pub by-units : n .losses ≡ 0 → n .isotopes ≡ 0 → n .items ≡ 0 → eqb (n .units) 0 ≡ isPlain n
-  unfolding isPlain
-  by-units l i x = rw (eq-eqb (n .losses) 0 l, eq-eqb (n .isotopes) 0 i, eq-eqb (n .items) 0 x)
+    pub with-items : n .losses ≡ 0 → n .isotopes ≡ 0 → (n .items ≡ 0 → ⊥) → false ≡ isPlain n free
+    unfolding isPlain
+    with-items l i x = rw (f, eq-eqb (n .losses) 0 l, eq-eqb (n .isotopes) 0 i, ne-eqb (n .items) 0 x)
+
+    pub by-units : n .losses ≡ 0 → n .isotopes ≡ 0 → n .items ≡ 0 → eqb (n .units) 0 ≡ isPlain n free
+    unfolding isPlain
+    by-units l i x = rw (f, eq-eqb (n .losses) 0 l, eq-eqb (n .isotopes) 0 i, eq-eqb (n .items) 0 x)
 
 -- ---- the line
 
-module _ (line : List ℕ) (t : Totals) (p : Parts) {b : Bool} (told : b ≡ isPlain (t .counts)) where
+module _ (line : List ℕ) (t : Totals) (p : Parts) {b : Bool} (told : b ≡ isPlain (t .counts) (t .free)) where
   spelling-is : (v : Bool) → b ≡ v → cond v line (lineSpelled line p) ≡ spellingOf line t p
   unfolding spellingOf
   spelling-is v h = ap (λ (x : Bool). cond x line (lineSpelled line p)) (sym h ∙ told)

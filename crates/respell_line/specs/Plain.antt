@@ -1,6 +1,6 @@
 -- Lines in which nothing may be written in two ways, as what was counted of them tells, and what is given for a line. Assumes nothing.
 use Prim.Native.Nat.{ℕ}
-use mathlib.Core.Bool.{Bool, _&&_, cond}
+use mathlib.Core.Bool.{Bool, not, _&&_, cond}
 use mathlib.Core.List.{List, _++_}
 use lib.Dec.{eqb}
 use Rattle.rules.specs.Bytes.{bytes}
@@ -10,9 +10,9 @@ use Rattle.respell_annotation.specs.Annotations.{annotationSpelled}
 use Rattle.measure_line.specs.declared.Totals.{Totals}
 use Rattle.measure_line.specs.Walks.{lineGivenBy}
 
--- no losses, no isotopes, no adduct items, and no units
-unfoldable pub isPlain : Counts → Bool
-isPlain n = eqb (n .losses) 0 && (eqb (n .isotopes) 0 && (eqb (n .items) 0 && eqb (n .units) 0))
+-- nothing free that no count tells of, no losses, no isotopes, no adduct items, and no units
+unfoldable pub isPlain : Counts → Bool → Bool
+isPlain n free = not free && (eqb (n .losses) 0 && (eqb (n .isotopes) 0 && (eqb (n .items) 0 && eqb (n .units) 0)))
 
 -- an annotation behind a comma
 abbrev pub nextSpelled : List ℕ → Parts → List ℕ
@@ -24,4 +24,4 @@ lineSpelled line p = lineGivenBy annotationSpelled nextSpelled line p
 
 -- the line itself, or spelled anew, where t was counted of it and p read of its first annotation
 unfoldable pub spellingOf : List ℕ → Totals → Parts → List ℕ
-spellingOf line t p = cond (isPlain (t .counts)) line (lineSpelled line p)
+spellingOf line t p = cond (isPlain (t .counts) (t .free)) line (lineSpelled line p)

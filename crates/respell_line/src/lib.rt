@@ -23,11 +23,14 @@ use slices::advance;
 use slices::begins_with;
 use slices::rest;
 
-// Whether no losses, isotopes, adduct items and units were counted: nothing else may be written in two ways, so such a line is the
-// preferred one.
-fn is_plain(n: Counts) -> bool
-    ensures { λ r. ⌜ r ≡ isPlain n ⌝ }
+// Whether no losses, isotopes, adduct items and units were counted, and no confidence lacks its 0: nothing else may be written in two
+// ways, so such a line is the preferred one.
+fn is_plain(n: Counts, free: bool) -> bool
+    ensures { λ r. ⌜ r ≡ isPlain n free ⌝ }
 {
+    if free {
+        return false;
+    }
     if n.losses != 0 {
         return false;
     }
@@ -66,7 +69,7 @@ fn put_spelling(out: &mut [u8], line: &[u8], t: Totals, first: Parts) -> usize
     ensures { λ r. ⌜ Put (now (out .entry)) 0 (spellingOf (now (line .entry)) t first) (now (out .exit)) r ⌝ }
 {
     let n = t.counts;
-    if is_plain(n) {
+    if is_plain(n, t.free) {
         return put_run(out, 0, line);
     }
     spell_line(out, line, first)

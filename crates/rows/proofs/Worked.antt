@@ -22,7 +22,7 @@ use Rattle.rules.proofs.worked.Spell.{decimal, y}
 use Rattle.rules.proofs.TableOf.{tableOf}
 use Rattle.numbers.specs.Leading.{leading}
 use Rattle.numbers.specs.Making.{madeOf}
-use Rattle.numbers.specs.Points.{fraction, pointed, decimalOf}
+use Rattle.numbers.specs.Points.{fraction, pointed, decimalFrom, decimalOf}
 use Rattle.read_row.specs.Columns.{beginsDecimal, endsColumn, isColumn, columnOf}
 use Rattle.read_row.proofs.Decimals.{read-bad}
 
@@ -33,35 +33,35 @@ bad : (w : String) → columnOf (bytes w) .good ≡ false → T (lacks 9 (bytes 
 bad w e l = read-bad (bytes w) e (no-tab l)
 
 pub empty : BadColumn (bytes "")
-unfolding columnOf isColumn beginsDecimal endsColumn decimalOf leading fraction pointed madeOf digits digitsIn whole valueFrom
+unfolding columnOf isColumn beginsDecimal endsColumn decimalOf decimalFrom leading fraction pointed madeOf digits digitsIn whole valueFrom
 empty = bad "" refl tt
 
 pub no-whole-number : BadColumn (bytes ".5")
-unfolding columnOf isColumn beginsDecimal endsColumn decimalOf leading fraction pointed madeOf digits digitsIn whole valueFrom
+unfolding columnOf isColumn beginsDecimal endsColumn decimalOf decimalFrom leading fraction pointed madeOf digits digitsIn whole valueFrom
 no-whole-number = bad ".5" refl tt
 
 pub no-places : BadColumn (bytes "5.")
-unfolding columnOf isColumn beginsDecimal endsColumn decimalOf leading fraction pointed madeOf digits digitsIn whole valueFrom
+unfolding columnOf isColumn beginsDecimal endsColumn decimalOf decimalFrom leading fraction pointed madeOf digits digitsIn whole valueFrom
 no-places = bad "5." refl tt
 
 pub leading-zero : BadColumn (bytes "05")
-unfolding columnOf isColumn beginsDecimal endsColumn decimalOf leading fraction pointed madeOf digits digitsIn whole valueFrom
+unfolding columnOf isColumn beginsDecimal endsColumn decimalOf decimalFrom leading fraction pointed madeOf digits digitsIn whole valueFrom
 leading-zero = bad "05" refl tt
 
 pub signed : BadColumn (bytes "-5")
-unfolding columnOf isColumn beginsDecimal endsColumn decimalOf leading fraction pointed madeOf digits digitsIn whole valueFrom
+unfolding columnOf isColumn beginsDecimal endsColumn decimalOf decimalFrom leading fraction pointed madeOf digits digitsIn whole valueFrom
 signed = bad "-5" refl tt
 
 pub with-exponent : BadColumn (bytes "5e3")
-unfolding columnOf isColumn beginsDecimal endsColumn decimalOf leading fraction pointed madeOf digits digitsIn whole valueFrom
+unfolding columnOf isColumn beginsDecimal endsColumn decimalOf decimalFrom leading fraction pointed madeOf digits digitsIn whole valueFrom
 with-exponent = bad "5e3" refl tt
 
 pub thirteen-digits : BadColumn (bytes "1234567890123")
-unfolding columnOf isColumn beginsDecimal endsColumn decimalOf leading fraction pointed madeOf digits digitsIn whole valueFrom
+unfolding columnOf isColumn beginsDecimal endsColumn decimalOf decimalFrom leading fraction pointed madeOf digits digitsIn whole valueFrom
 thirteen-digits = bad "1234567890123" refl tt
 
 pub ten-places : BadColumn (bytes "0.1234567890")
-unfolding columnOf isColumn beginsDecimal endsColumn decimalOf leading fraction pointed madeOf digits digitsIn whole valueFrom
+unfolding columnOf isColumn beginsDecimal endsColumn decimalOf decimalFrom leading fraction pointed madeOf digits digitsIn whole valueFrom
 ten-places = bad "0.1234567890" refl tt
 
 pub twelve-digits : GoodColumn (bytes "123456789.012") (decimal 123456789012 3)

@@ -19,7 +19,7 @@ use Rattle.rules.specs.Lines.{Spelling}
 use Rattle.rules.specs.Fields.{filledAnnotation, Table, filled, SameFields}
 use Rattle.rules.specs.Limits.{maxPosition, maxCharge, bare, part, optPart, rowPart, ionParts}
 use Rattle.rules.specs.Limits.{lossMarks, isotopesMarks, itemMarks, adductMarks, analytePart, chargePart, deviationPart, confidencePart, annotationParts, annotationMarks}
-use Rattle.rules.specs.House.{isEmpty, ionRule, deviationRule, confidenceOf, one, annotationRules, firstBreach}
+use Rattle.rules.specs.House.{isEmpty, ionRule, deviationRule, share, one, annotationRules, firstBreach}
 use Rattle.rules.specs.Preferred.{countOr1}
 use Rattle.rules.specs.Stored.{Field, present, valueOr0, isotopeRecords, annotationRecord}
 use Rattle.rules.specs.Answers.{Sound}
@@ -68,7 +68,7 @@ kept-in-range i a at k t =
     let de = keep (optPart deviationPart (a .deviation)) (later (later (later (later (later (later (later here))))))) in
     let co = keep (optPart confidencePart (a .confidence)) (later (later (later (later (later (later (later (later here)))))))) in
     let ionRules = ionRule (a .ion) (not (isEmpty (a .adduct))) in
-    let bounded = leb (confidenceOf (a .confidence)) one in
+    let bounded = leb (share a) one in
     let rules = and-1 ionRules (deviationRule (a .deviation) && bounded) t in
     record {
       analyte = analyte-within (a .analyte) (an .0) (an .1);

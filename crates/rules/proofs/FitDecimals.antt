@@ -5,11 +5,12 @@ use mathlib.Core.List.{[], _∷_}
 use native.Mathlib.Omega.{arith}
 use native.Mathlib.Nat.{one-le-pow, le-mul-of-pos-right}
 use lib.Dec.{T, leb, leb→le}
-use Rattle.lang.specs.Parts.{Opt, silent, written}
+use Rattle.lang.specs.Parts.{Opt, silent, written, optMap}
 use Rattle.lang.specs.Mark.{here, later, Kept}
 use Rattle.lang.proofs.Deriv.{and-0, and-1}
 use Rattle.rules.specs.Bytes.{bytes}
 use Rattle.rules.specs.Decimals.{Decimal, digitCount}
+use Rattle.rules.specs.Confidences.{Confidence, in-full, from-point, meantDecimal}
 use Rattle.rules.specs.Annotations.{Deviation, flagText}
 use Rattle.rules.specs.Limits.{maxPlaces, maxDigits, fits, bare, optPart, decimalPart}
 use Rattle.rules.specs.Limits.{deviationPart, confidencePart}
@@ -66,9 +67,17 @@ pub record ConfidenceFits (x : Opt Decimal) : Type 0 where
   pub value : valueOr0 (λ d. d .value) x ≤ 10 ^ maxPlaces
 
 -- at most 1, and so at most a billion of its last places
-pub confidence-fits : (x : Opt Decimal) (at : ℕ) → Kept (optPart confidencePart x .marks at) → T (leb (confidenceOf x) one) → ConfidenceFits x
-confidence-fits silent at k t = omega arith
-confidence-fits (written d) at k t =
-    let f = kept-true (fits d) (λ b. k _ here b) in
+within-one : (d : Decimal) → T (fits d) → T (leb (billionths d) one) → ConfidenceFits (written d)
+within-one d f t =
     let g = le-mul-of-pos-right (d .value) (one-le-pow (maxPlaces - d .places) 10 (omega arith)) in
     record { places = decimal-places d f; value = omega (arith, leb→le (billionths d) one t) }
+
+-- the limit of a confidence is that of the decimal which it means
+pub confidence-kept : (c : Confidence) (at : ℕ) → Kept (confidencePart c .marks at) → T (fits (meantDecimal c))
+confidence-kept (in-full d) at k = kept-true (fits d) (λ b. k _ here b)
+confidence-kept (from-point z) at k = kept-true (fits (z .decimal)) (λ b. k _ here b)
+
+pub confidence-fits : (x : Opt Confidence) (at : ℕ) → Kept (optPart confidencePart x .marks at) → T (leb (confidenceOf (optMap meantDecimal x)) one)
+    → ConfidenceFits (optMap meantDecimal x)
+confidence-fits silent at k t = omega arith
+confidence-fits (written c) at k t = within-one (meantDecimal c) (confidence-kept c at k) t

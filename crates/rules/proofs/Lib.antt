@@ -1,6 +1,7 @@
 -- Laws of the rules.
 pub mod Digits
 pub mod Fractions
+pub mod Confidences
 pub mod Shortened
 pub mod TableOf
 pub mod Meant

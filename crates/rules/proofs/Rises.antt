@@ -8,13 +8,14 @@ use Rattle.lang.specs.Parts.{flat}
 use Rattle.lang.proofs.Rising.{room, none, also, rise-none, rise-wide, rise-append}
 use Rattle.rules.specs.Bytes.{bytes}
 use Rattle.rules.specs.Numbers.{digits, From}
-use Rattle.rules.specs.Decimals.{Decimal}
 use Rattle.rules.specs.Losses.{lossText}
-use Rattle.rules.specs.Annotations.{SpelledAnnotation, Deviation, flagText, chargeText, deviationText, confidenceText, annotationText}
+use Rattle.rules.specs.Confidences.{Confidence, in-full, from-point, confidenceText}
+use Rattle.rules.specs.Annotations.{SpelledAnnotation, Deviation, flagText, chargeText, deviationText, annotationText}
 use Rattle.rules.specs.Lines.{Spelling, nextText, lineText}
 use Rattle.rules.specs.Limits.{maxPosition, maxCharge, lossMarks, analytePart, chargePart, deviationPart, confidencePart}
 use Rattle.rules.specs.Limits.{annotationParts, annotationMarks, nextMarks, lineMarks}
 use Rattle.rules.proofs.Digits.{digits-some}
+use Rattle.rules.proofs.Confidences.{places-some, point-length}
 use Rattle.rules.proofs.Rising.{Rises, Fits, AllFit, bare-fits, number-rises, decimal-rises, decimal-some, decimal-fits}
 use Rattle.rules.proofs.Rising.{opt-fits, opt-length, parts-within, many-first, row-rises, row-fits}
 use Rattle.rules.proofs.RisesParts.{ion-rises, ion-some, loss-rises, isotopes-rise, adduct-rises}
@@ -34,10 +35,15 @@ deviation-fits d =
     let ps = also (bare-fits (bytes "/")) (also (bare-fits (flagText (bytes "-") (d .minus))) (also (decimal-fits (d .size)) none)) in
     record { rises = λ at. parts-within ps at (length (deviationText d)) (simp length-append (omega arith)) }
 
-confidence-fits : (d : Decimal) → Fits (confidencePart d)
-confidence-fits d =
+confidence-fits : (c : Confidence) → Fits (confidencePart c)
+confidence-fits (in-full d) =
     let s = decimal-some d in
-    record { rises = λ at. rise-wide (omega arith) (le-refl _) (decimal-rises d (at + 1) (at + length (confidenceText d)) (omega arith)) }
+    record { rises = λ at. rise-wide (omega arith) (le-refl _) (decimal-rises d (at + 1) (at + length (confidenceText (in-full d))) (omega arith)) }
+confidence-fits (from-point z) =
+    let d = z .decimal in
+    let h = places-some z in
+    let s = point-length (d .places) (d .value) h in
+    record { rises = λ at. rise-wide (omega arith) (le-refl _) (decimal-rises d (at + 2) (at + length (confidenceText (from-point z))) (omega arith)) }
 
 annotation-parts : (a : SpelledAnnotation) → AllFit (annotationParts a)
 annotation-parts a =

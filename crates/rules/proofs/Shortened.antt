@@ -8,13 +8,15 @@ use mathlib.Core.HLevel.{isProp→PathP}
 use native.Mathlib.Omega.{arith}
 use borrow.Author.Tests.{leb-true}
 use lib.Dec.{T, T-prop, leb, leb→le}
-use Rattle.lang.specs.Parts.{silent, written, Some, someMap}
+use Rattle.lang.specs.Parts.{Opt, silent, written, optMap, Some, someMap}
 use Rattle.rules.specs.Numbers.{From, Number}
 use Rattle.rules.specs.Formulas.{FormulaUnit, plain, labelled, unitMap, Formula, formulaMap}
 use Rattle.rules.specs.Ions.{Ion, series, internal, immonium, precursor, reference, named, composed, smiles, unknown, ionMap}
 use Rattle.rules.specs.Losses.{Lost, lost-formula, lost-name, lostMap, Loss, lossMap}
 use Rattle.rules.specs.Isotopes.{Shift, shiftMap, Specific, specificMap, Isotopes, no-isotope, plain-isotope, average-isotope, specific-isotopes, isotopesMap}
 use Rattle.rules.specs.Adducts.{Added, added-formula, electron, addedMap, Item, itemMap}
+use Rattle.rules.specs.Decimals.{Decimal}
+use Rattle.rules.specs.Confidences.{in-full, meantDecimal}
 use Rattle.rules.specs.Annotations.{TableAnnotation, Annotation, annotationMap}
 use Rattle.rules.specs.Fields.{filledAnnotation, Table, filled}
 use Rattle.rules.specs.Preferred.{shortenedAnnotation, shortened, preferredSpelling}
@@ -42,6 +44,11 @@ map-back f g gf (x ∷ l) = ap₂ _∷_ (gf x) (map-back f g gf l)
 
 pub some-back : {X Y : Type 0} (f : X → Y) (g : Y → X) → ((x : X) → g (f x) ≡ x) → (s : Some X) → someMap g (someMap f s) ≡ s
 some-back f g gf s = λ i. record { first = gf (s .first) i; more = map-back f g gf (s .more) i }
+
+-- a confidence in full means its decimal
+pub confidence-back : (x : Opt Decimal) → optMap meantDecimal (optMap in-full x) ≡ x
+confidence-back silent = refl
+confidence-back (written d) = refl
 
 module _ {A B : Type 0} (f : A → B) (g : B → A) (gf : (x : A) → g (f x) ≡ x) where
   pub unit-back : (v : FormulaUnit A) → unitMap g (unitMap f v) ≡ v
@@ -88,7 +95,7 @@ module _ {A B : Type 0} (f : A → B) (g : B → A) (gf : (x : A) → g (f x) �
   pub item-back : (v : Item A) → itemMap g (itemMap f v) ≡ v
   item-back v = λ i. record { sign = v .sign; count = gf (v .count) i; what = added-back (v .what) i }
 
-  pub annotation-back : (v : Annotation A) → annotationMap g (annotationMap f v) ≡ v
+  pub annotation-back : (v : Annotation A Decimal) → annotationMap g meantDecimal (annotationMap f in-full v) ≡ v
   annotation-back v =
       λ i. record {
         marked = v .marked;
@@ -99,7 +106,7 @@ module _ {A B : Type 0} (f : A → B) (g : B → A) (gf : (x : A) → g (f x) �
         adduct = map-back (itemMap f) (itemMap g) item-back (v .adduct) i;
         charge = v .charge;
         deviation = v .deviation;
-        confidence = v .confidence;
+        confidence = confidence-back (v .confidence) i;
       }
 
 -- ---- shortened, then filled

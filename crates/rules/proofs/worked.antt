@@ -8,3 +8,4 @@ pub mod Several
 pub mod Symbols
 pub mod Classes
 pub mod Bounds
+pub mod Points

@@ -3,7 +3,7 @@
 use Prim.Native.Nat.{ℕ}
 use mathlib.Core.Bool.{Bool, true, false}
 use mathlib.Core.List.{List, [], _++_, map}
-use Rattle.lang.specs.Parts.{Opt, optText, flat}
+use Rattle.lang.specs.Parts.{Opt, optText, optMap, flat}
 use Rattle.rules.specs.Bytes.{bytes}
 use Rattle.rules.specs.Numbers.{digits, From, Number, numberText}
 use Rattle.rules.specs.Decimals.{Decimal, decimalText}
@@ -12,6 +12,7 @@ use Rattle.rules.specs.Ions.{Ion, ionText, ionMap}
 use Rattle.rules.specs.Losses.{Loss, lossText, lossMap}
 use Rattle.rules.specs.Isotopes.{Isotopes, isotopesText, isotopesMap}
 use Rattle.rules.specs.Adducts.{Item, adductText, itemMap}
+use Rattle.rules.specs.Confidences.{Confidence, confidenceText}
 
 -- 4.3: `/`, optional `-`, decimal, optional `ppm`
 pub record Deviation : Type 0 where
@@ -19,7 +20,8 @@ pub record Deviation : Type 0 where
   pub size : Decimal
   pub ppm : Bool
 
-pub record Annotation (Free : Type 0) : Type 0 where
+-- what may be written in several ways has a type of its own in a spelling and in a table: the counts (Free), and the confidence (Sure)
+pub record Annotation (Free Sure : Type 0) : Type 0 where
   pub marked : Bool
   pub analyte : Opt ℕ
   pub ion : Ion Free
@@ -28,14 +30,14 @@ pub record Annotation (Free : Type 0) : Type 0 where
   pub adduct : List (Item Free)
   pub charge : Opt (From 2)
   pub deviation : Opt Deviation
-  pub confidence : Opt Decimal
+  pub confidence : Opt Sure
 
 -- an annotation as it is spelled, and as a table has it
 abbrev pub SpelledAnnotation : Type 0
-SpelledAnnotation = Annotation Written
+SpelledAnnotation = Annotation Written Confidence
 
 abbrev pub TableAnnotation : Type 0
-TableAnnotation = Annotation Number
+TableAnnotation = Annotation Number Decimal
 
 -- there, or not
 abbrev pub flagText : List ℕ → Bool → List ℕ
@@ -52,18 +54,15 @@ chargeText n = bytes "^" ++ numberText n
 abbrev pub deviationText : Deviation → List ℕ
 deviationText d = bytes "/" ++ (flagText (bytes "-") (d .minus) ++ (decimalText (d .size) ++ flagText (bytes "ppm") (d .ppm)))
 
--- 4.10: `*`, decimal
-abbrev pub confidenceText : Decimal → List ℕ
-confidenceText d = bytes "*" ++ decimalText d
-
 abbrev pub annotationText : SpelledAnnotation → List ℕ
 annotationText a =
     flagText (bytes "&") (a .marked) ++ (optText analyteText (a .analyte) ++ (ionText (a .ion)
     ++ (flat lossText (a .losses) ++ (isotopesText (a .isotopes) ++ (adductText (a .adduct)
     ++ (optText chargeText (a .charge) ++ (optText deviationText (a .deviation) ++ optText confidenceText (a .confidence))))))))
 
-abbrev pub annotationMap : {A B : Type 0} → (A → B) → Annotation A → Annotation B
-annotationMap f a =
+-- with each free count, and the confidence, changed
+abbrev pub annotationMap : {A B S R : Type 0} → (A → B) → (S → R) → Annotation A S → Annotation B R
+annotationMap f g a =
     record {
       marked = a .marked;
       analyte = a .analyte;
@@ -73,5 +72,5 @@ annotationMap f a =
       adduct = map (itemMap f) (a .adduct);
       charge = a .charge;
       deviation = a .deviation;
-      confidence = a .confidence;
+      confidence = optMap g (a .confidence);
     }

@@ -1,6 +1,6 @@
 -- The fields of a table, without bounds, and what a spelling means: document 01, "One table, several spellings".
--- A table has the fields of a spelling; but where a 1 may be written or left out it has the number, and its losses and adduct
--- items stand in preferred order. Assumes nothing.
+-- A table has the fields of a spelling; but where a 1 may be written or left out it has the number, where the 0 of a confidence may
+-- (document 02, M-102) the decimal, and its losses and adduct items stand in preferred order. Assumes nothing.
 use Prim.Native.Nat.{ℕ}
 use mathlib.Core.Path.{_≡_}
 use mathlib.Core.Bool.{Bool, _&&_}
@@ -10,6 +10,7 @@ use Rattle.lang.specs.Parts.{silent, written}
 use Rattle.lang.specs.Order.{Perm, rising, Each}
 use Rattle.rules.specs.Numbers.{Number}
 use Rattle.rules.specs.Formulas.{Written}
+use Rattle.rules.specs.Confidences.{meantDecimal}
 use Rattle.rules.specs.Annotations.{TableAnnotation, SpelledAnnotation, annotationMap}
 use Rattle.rules.specs.Lines.{Spelling, lineText}
 use Rattle.rules.specs.Preferred.{lossLe, itemLe}
@@ -22,9 +23,9 @@ abbrev pub filled : Written → Number
 filled silent = record { value = 1; least = tt }
 filled (written n) = n
 
--- an annotation with every count that is left out filled in
+-- an annotation with every count that is left out filled in, and the decimal that its confidence means
 abbrev pub filledAnnotation : SpelledAnnotation → TableAnnotation
-filledAnnotation a = annotationMap filled a
+filledAnnotation a = annotationMap filled meantDecimal a
 
 -- the losses, and the adduct items, stand in preferred order
 abbrev pub inOrder : TableAnnotation → Bool

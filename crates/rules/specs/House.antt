@@ -4,10 +4,11 @@ use mathlib.Core.Bool.{Bool, true, false, not, _&&_, _||_}
 use mathlib.Core.List.{List, [], _∷_}
 use lib.Dec.{leb}
 use lib.ListN.{length}
-use Rattle.lang.specs.Parts.{Opt, silent, written}
+use Rattle.lang.specs.Parts.{Opt, silent, written, optMap}
 use Rattle.rules.specs.Decimals.{Decimal}
 use Rattle.rules.specs.Ions.{Ion, series, internal, immonium, precursor, reference, named, composed, smiles, unknown}
-use Rattle.rules.specs.Annotations.{Deviation, Annotation, annotationText}
+use Rattle.rules.specs.Confidences.{meantDecimal}
+use Rattle.rules.specs.Annotations.{Deviation, SpelledAnnotation, annotationText}
 use Rattle.rules.specs.Lines.{Spelling}
 use Rattle.rules.specs.Limits.{maxPlaces}
 
@@ -45,10 +46,14 @@ confidenceOf (written d) = billionths d
 abbrev pub one : ℕ
 one = 10 ^ maxPlaces
 
+-- that of a spelled annotation
+abbrev pub share : SpelledAnnotation → ℕ
+share a = confidenceOf (optMap meantDecimal (a .confidence))
+
 -- confidence is at most 1
-abbrev pub annotationRules : {Free : Type 0} → Annotation Free → Bool
+abbrev pub annotationRules : SpelledAnnotation → Bool
 annotationRules a =
-    ionRule (a .ion) (not (isEmpty (a .adduct))) && (deviationRule (a .deviation) && leb (confidenceOf (a .confidence)) one)
+    ionRule (a .ion) (not (isEmpty (a .adduct))) && (deviationRule (a .deviation) && leb (share a) one)
 
 -- ---- over the line; places are those of first bytes
 
@@ -61,5 +66,4 @@ firstBreach at (a ∷ more) = elim (annotationRules a) [ true ↦ firstBreach (a
 abbrev pub firstExcess : ℕ → ℕ → Spelling → Opt ℕ
 firstExcess sum at [] = silent
 firstExcess sum at (a ∷ more) =
-    elim (leb (sum + confidenceOf (a .confidence)) one)
-    [ true ↦ firstExcess (sum + confidenceOf (a .confidence)) (at + length (annotationText a) + 1) more | false ↦ written at ]
+    elim (leb (sum + share a) one) [ true ↦ firstExcess (sum + share a) (at + length (annotationText a) + 1) more | false ↦ written at ]

@@ -8,6 +8,7 @@ pub mod Ions
 pub mod Losses
 pub mod Isotopes
 pub mod Adducts
+pub mod Confidences
 pub mod Annotations
 pub mod Lines
 pub mod Preferred

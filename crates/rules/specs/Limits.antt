@@ -16,7 +16,8 @@ use Rattle.rules.specs.Ions.{Ion, series, internal, immonium, precursor,
 use Rattle.rules.specs.Losses.{signText, Lost, lost-formula, lost-name, Loss, lossText}
 use Rattle.rules.specs.Isotopes.{Shift, shiftText, Specific, specificText, Isotopes, no-isotope, plain-isotope, average-isotope, specific-isotopes, isotopesText}
 use Rattle.rules.specs.Adducts.{Added, added-formula, electron, addedText, Item, itemText, adductText}
-use Rattle.rules.specs.Annotations.{SpelledAnnotation, Deviation, flagText, analyteText, chargeText, deviationText, confidenceText, annotationText}
+use Rattle.rules.specs.Confidences.{Confidence, in-full, from-point, confidenceText}
+use Rattle.rules.specs.Annotations.{SpelledAnnotation, Deviation, flagText, analyteText, chargeText, deviationText, annotationText}
 use Rattle.rules.specs.Lines.{Spelling, nextText}
 
 -- ---- the bounds
@@ -176,8 +177,13 @@ chargePart n = part (chargeText n) (λ at. numberMark maxCharge (n .value) (at +
 abbrev pub deviationPart : Deviation → Part
 deviationPart d = part (deviationText d) (λ at. marksOf at (bare (bytes "/") ∷ bare (flagText (bytes "-") (d .minus)) ∷ decimalPart (d .size) ∷ []))
 
-abbrev pub confidencePart : Decimal → Part
-confidencePart d = part (confidenceText d) (λ at. decimalMark d (at + 1))
+-- the first digit stands behind `*`, or behind `*.`
+abbrev pub confidenceMark : Confidence → ℕ → List Mark
+confidenceMark (in-full d) at = decimalMark d (at + 1)
+confidenceMark (from-point z) at = decimalMark (z .decimal) (at + 2)
+
+abbrev pub confidencePart : Confidence → Part
+confidencePart c = part (confidenceText c) (confidenceMark c)
 
 abbrev pub annotationParts : SpelledAnnotation → List Part
 annotationParts a =

@@ -1,4 +1,5 @@
--- Document 01, "One table, several spellings": the preferred spelling. It leaves out each 1 that may be left out, and puts losses,
+-- Document 01, "One table, several spellings": the preferred spelling. It leaves out each 1 that may be left out, writes the 0 before
+-- the point of a confidence (document 02, M-102), and puts losses,
 -- and adduct items, in order of their text, so shortened, after sign and count. Assumes nothing.
 use Prim.Native.Nat.{ℕ, _+_}
 use mathlib.Core.Bool.{Bool, true, false}
@@ -10,6 +11,7 @@ use Rattle.rules.specs.Numbers.{From, Number}
 use Rattle.rules.specs.Formulas.{Written}
 use Rattle.rules.specs.Losses.{Sign, minus, plus, Loss, lostText, lostMap}
 use Rattle.rules.specs.Adducts.{Item, addedText, addedMap}
+use Rattle.rules.specs.Confidences.{in-full}
 use Rattle.rules.specs.Annotations.{TableAnnotation, SpelledAnnotation, annotationMap}
 use Rattle.rules.specs.Lines.{Spelling, lineText}
 
@@ -55,9 +57,9 @@ itemLe x y = lexLe (itemKey x) (itemKey y)
 
 -- ---- the spelling of a table, whose losses and adduct items stand in order
 
--- an annotation of a table, each 1 left out that may be
+-- an annotation of a table, each 1 left out that may be, and its confidence in full
 abbrev pub shortenedAnnotation : TableAnnotation → SpelledAnnotation
-shortenedAnnotation a = annotationMap shortened a
+shortenedAnnotation a = annotationMap shortened in-full a
 
 abbrev pub preferredSpelling : List TableAnnotation → Spelling
 preferredSpelling t = map shortenedAnnotation t

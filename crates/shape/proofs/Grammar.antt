@@ -28,8 +28,12 @@ twoRe = alt (headRe digit ("2" to "9" ∷ [])) (seq (word (bytes "1")) (headRe d
 abbrev pub natRe : Re
 natRe = alt (word (bytes "0")) numberRe
 
+-- a point and one or more digits
+abbrev pub pointRe : Re
+pointRe = seq (word (bytes ".")) (headRe digit digit)
+
 abbrev pub decimalRe : Re
-decimalRe = seq natRe (optRe (seq (word (bytes ".")) (headRe digit digit)))
+decimalRe = seq natRe (optRe pointRe)
 
 -- ---- texts and names
 
@@ -118,7 +122,7 @@ abbrev pub deviationRe : Re
 deviationRe = seq (word (bytes "/")) (seq (optRe (word (bytes "-"))) (seq decimalRe (optRe (word (bytes "ppm")))))
 
 abbrev pub confidenceRe : Re
-confidenceRe = seq (word (bytes "*")) decimalRe
+confidenceRe = seq (word (bytes "*")) (alt decimalRe pointRe)
 
 abbrev pub annotationRe : Re
 annotationRe =

@@ -1,17 +1,20 @@
 -- Annotations and lines are what the grammar says. Assumes nothing.
 use Prim.Native.Nat.{ℕ}
-use mathlib.Core.Path.{refl}
+use mathlib.Core.Path.{_≡_, refl}
 use mathlib.Core.Bool.{Bool, true, false}
-use mathlib.Core.List.{List, [], _∷_}
+use mathlib.Core.List.{List, [], _∷_, _++_}
+use mathlib.Core.Logic.{_⊎_, inl, inr}
+use Rattle.lang.specs.Re.{either}
 use Rattle.lang.specs.Parts.{Opt, silent, written}
-use Rattle.lang.proofs.Means.{Means, optRe, means-many, means-opt, means-pair, means-as, means-word}
+use Rattle.lang.proofs.Means.{Means, optRe, means-many, means-opt, means-pair, means-alt, means-as, means-word}
 use Rattle.rules.specs.Bytes.{bytes}
 use Rattle.rules.specs.Numbers.{From}
-use Rattle.rules.specs.Decimals.{Decimal}
-use Rattle.rules.specs.Annotations.{SpelledAnnotation, Deviation, flagText, analyteText, chargeText, deviationText, confidenceText, annotationText}
+use Rattle.rules.specs.Decimals.{Decimal, pointText, decimalText}
+use Rattle.rules.specs.Confidences.{ZeroPoint, Confidence, in-full, from-point, confidenceText}
+use Rattle.rules.specs.Annotations.{SpelledAnnotation, Deviation, flagText, analyteText, chargeText, deviationText, annotationText}
 use Rattle.rules.specs.Lines.{Spelling, nextText, lineText}
 use Rattle.shape.proofs.Grammar.{word, analyteRe, chargeRe, deviationRe, confidenceRe, annotationRe, nextRe, lineRe}
-use Rattle.shape.proofs.MeansNumbers.{means-two, means-nat, means-decimal}
+use Rattle.shape.proofs.MeansNumbers.{means-two, means-nat, means-decimal, means-point}
 use Rattle.shape.proofs.MeansParts.{means-ion, means-loss, means-isotopes, means-adduct}
 
 -- ---- flags
@@ -46,8 +49,27 @@ means-deviation =
     (λ p. record { minus = p .1 .0; size = p .1 .1 .0; ppm = p .1 .1 .1 })
     (λ d. refl) (λ d. refl) (λ p. refl)
 
-means-confidence : Means Decimal confidenceText confidenceRe
-means-confidence = means-as (means-pair (means-word (bytes "*")) means-decimal) (λ d. (tt, d)) (λ p. p .1) (λ d. refl) (λ d. refl) (λ p. refl)
+abbrev Written : Type 0
+Written = Unit {0} × (Decimal ⊎ ZeroPoint)
+
+confidence-to : Confidence → Written
+confidence-to (in-full d) = (tt, inl d)
+confidence-to (from-point z) = (tt, inr z)
+
+confidence-from : Written → Confidence
+confidence-from (u, inl d) = in-full d
+confidence-from (u, inr z) = from-point z
+
+from-text : (p : Written) → bytes "*" ++ either decimalText (λ z. pointText (z .decimal .places) (z .decimal .value)) (p .1) ≡ confidenceText (confidence-from p)
+unfolding confidence-from
+from-text (u, inl d) = refl
+from-text (u, inr z) = refl
+
+means-confidence : Means Confidence confidenceText confidenceRe
+unfolding confidence-to confidence-from
+means-confidence =
+    means-as (means-pair (means-word (bytes "*")) (means-alt means-decimal means-point)) confidence-to confidence-from
+    (elim [ in-full d ↦ refl | from-point z ↦ refl ]) (elim [ in-full d ↦ refl | from-point z ↦ refl ]) from-text
 
 -- ---- annotations and lines
 

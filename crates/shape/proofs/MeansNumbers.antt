@@ -1,5 +1,5 @@
 -- Numbers and decimals are what the grammar says. Assumes nothing.
-use Prim.Native.Nat.{ℕ, zero, suc, _+_, _-_, _*_, _≤_}
+use Prim.Native.Nat.{ℕ, zero, suc, _+_, _-_, _*_, _%_, _≤_}
 use mathlib.Core.Path.{_≡_, refl, sym, ap, ap₂, _∙_}
 use mathlib.Core.List.{List, [], _∷_, _++_, tail-eq-of-cons-eq, nil≢cons, cons≢nil}
 use mathlib.Core.Logic.{inl, inr}
@@ -7,22 +7,26 @@ use mathlib.Core.HLevel.{isProp→PathP}
 use native.Mathlib.Omega.{arith}
 use native.Mathlib.Nat.{le-trans}
 use native.Mathlib.Decide.{decLe}
-use lib.Dec.{T, T-prop, leb, leb→le, le→leb}
+use lib.Dec.{T, T-prop, eqb, leb, leb→le, le→leb}
+use borrow.Author.Tests.{eq-eqb}
 use lib.ListN.{length}
 use Rattle.lang.specs.Re.{Rng, inC, Re, seq, Tree, text}
 use Rattle.lang.specs.Digits.{valueFrom}
 use Rattle.lang.specs.Parts.{Such, all}
-use Rattle.lang.proofs.Deriv.{and-0, and-1}
+use Rattle.lang.proofs.Deriv.{and-0, and-1, and-i}
+use Rattle.lang.proofs.Tests.{is-t}
 use Rattle.lang.proofs.Lits.{one-eq, in→, →in}
 use Rattle.lang.proofs.Means.{Means, optRe, means-one, means-pair, means-as}
 use Rattle.lang.proofs.Names.{headRe, head-enc, head-dec}
 use Rattle.rules.specs.Bytes.{bytes, _to_, digit}
 use Rattle.rules.specs.Numbers.{digits, From, Number, numberText}
 use Rattle.rules.specs.Decimals.{Decimal, whole, lastDigits, pointText, decimalText}
+use Rattle.rules.specs.Confidences.{ZeroPoint}
 use Rattle.rules.proofs.Digits.{value-le, digits-small, one-number, leading, read-back}
 use Rattle.rules.proofs.Fractions.{whole-from, last-from, value-back, last-length, last-digits}
+use Rattle.rules.proofs.Confidences.{zero-point-path, whole-zero, places-some}
 use Rattle.rules.proofs.Shortened.{from-path}
-use Rattle.shape.proofs.Grammar.{numberRe, twoRe, natRe, decimalRe, word}
+use Rattle.shape.proofs.Grammar.{numberRe, twoRe, natRe, pointRe, decimalRe, word}
 
 -- n has a tree, and a tree has an n of at least m
 abbrev Tree-of : Re → ℕ → Type 0
@@ -146,7 +150,7 @@ fraction [] = []
 fraction (b ∷ w) = 46 ∷ b ∷ w
 
 abbrev fractionRe : Re
-fractionRe = optRe (seq (word (bytes ".")) (headRe digit digit))
+fractionRe = optRe pointRe
 
 abbrev Fraction : Type 0
 Fraction = Such (all digit)
@@ -198,3 +202,47 @@ means-decimal =
     (λ d i. record { value = value-back (d .places) (d .value) i; places = last-length (d .places) (d .value) i })
     (λ d. ap (λ (l : List ℕ). digits (whole (d .places) (d .value)) ++ l) (point-fraction (d .places) (d .value)))
     (λ p. decimal-from-text (p .0) (p .1 .bytes) (p .1 .good))
+
+-- ---- decimals without the 0 before their point
+
+point-enc : (n v : ℕ) → 1 ≤ n → (t : Tree pointRe) × ((k : List ℕ) → text pointRe t k ≡ pointText n v ++ k)
+unfolding pointText lastDigits
+point-enc zero v h = absurd (omega arith)
+point-enc (suc n) v h =
+    let b = 48 + whole n v % 10 in
+    let w = lastDigits n v in
+    let t = last-digits (suc n) v in
+    let x = head-enc digit digit b w (and-0 (inC digit b) (all digit w) t) (and-1 (inC digit b) (all digit w) t) in
+    ((record { val = 46; isIn = tt }, x .0), λ k. ap (λ (l : List ℕ). 46 ∷ l) (x .1 k))
+
+-- 0 and these digits behind it: the whole part is 0
+zero-from : (b : ℕ) (w : List ℕ) → T (all digit (b ∷ w)) → ZeroPoint
+zero-from b w t =
+    let ds = b ∷ w in
+    let e = whole-from 0 ds t in
+    record {
+      decimal = record { value = valueFrom 0 ds; places = length ds };
+      begins = and-i (eqb (whole (length ds) (valueFrom 0 ds)) 0) (leb 1 (length ds)) (is-t (eq-eqb (whole (length ds) (valueFrom 0 ds)) 0 e)) (le→leb 1 (length ds) (omega arith));
+    }
+
+point-dec : (t : Tree pointRe) → (z : ZeroPoint) × ((k : List ℕ) → text pointRe t k ≡ pointText (z .decimal .places) (z .decimal .value) ++ k)
+unfolding zero-from
+point-dec (p, t) =
+    let x = head-dec digit digit (λ b i. i) t in
+    let ds = x .0 ∷ x .1 in
+    let e : 46 ∷ ds ≡ pointText (length ds) (valueFrom 0 ds) = ap fraction (sym (last-from 0 ds (x .2))) ∙ point-fraction (length ds) (valueFrom 0 ds) in
+    (zero-from (x .0) (x .1) (x .2), λ k. ap₂ _∷_ (one-eq 46 (p .val) (p .isIn)) (x .4 k) ∙ ap (λ (l : List ℕ). l ++ k) e)
+
+one-point : (x y : ZeroPoint) → pointText (x .decimal .places) (x .decimal .value) ≡ pointText (y .decimal .places) (y .decimal .value) → x ≡ y
+one-point x y e =
+    let n = x .decimal .places in
+    let v = x .decimal .value in
+    let m = y .decimal .places in
+    let w = y .decimal .value in
+    let l = fraction-one (lastDigits n v) (lastDigits m w) (point-fraction n v ∙ e ∙ sym (point-fraction m w)) in
+    let places = sym (last-length n v) ∙ ap length l ∙ last-length m w in
+    let value = sym (value-back n v) ∙ ap₂ valueFrom (whole-zero x ∙ sym (whole-zero y)) l ∙ value-back m w in
+    zero-point-path x y (λ i. record { value = value i; places = places i })
+
+pub means-point : Means ZeroPoint (λ z. pointText (z .decimal .places) (z .decimal .value)) pointRe
+means-point = means-one one-point (λ z. point-enc (z .decimal .places) (z .decimal .value) (places-some z)) point-dec

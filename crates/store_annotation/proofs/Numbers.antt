@@ -5,11 +5,12 @@ use mathlib.Core.Bool.{Bool, true, false, cond, not}
 use mathlib.Core.List.{[], _∷_}
 use native.Mathlib.Omega.{arith}
 use borrow.Author.Tests.{ne-eqb}
-use Rattle.lang.specs.Parts.{Opt, silent, written}
+use Rattle.lang.specs.Parts.{Opt, silent, written, optMap}
 use Rattle.lang.specs.Mark.{Kept, here, later}
 use Rattle.rules.specs.Bytes.{bytes}
 use Rattle.rules.specs.Numbers.{From, Number}
 use Rattle.rules.specs.Decimals.{Decimal}
+use Rattle.rules.specs.Confidences.{Confidence, meantDecimal}
 use Rattle.rules.specs.Annotations.{Deviation, flagText}
 use Rattle.rules.specs.Preferred.{countOr1}
 use Rattle.rules.specs.Limits.{maxPosition, maxCharge, bare, optPart, numberPart, decimalPart, analytePart, chargePart, deviationPart, confidencePart}
@@ -21,7 +22,7 @@ use Rattle.read_tail.specs.declared.DecimalPart.{DecimalPart}
 use Rattle.read_tail.proofs.SpelledTail.{chargeRead, kindRead, sizeRead, deviationRead, confidenceRead}
 use Rattle.read_ion.proofs.OneIon.{labelRead}
 use Rattle.read_annotation.proofs.Ions.{told-within}
-use Rattle.read_annotation.proofs.Rules.{fits-kept}
+use Rattle.read_annotation.proofs.Rules.{fits-kept, confidence-fits-kept}
 use Rattle.store_annotation.specs.Records.{signedOf}
 
 -- ---- numbers
@@ -72,8 +73,10 @@ pub record ConfidenceTold (c : Opt Decimal) (p : DecimalPart) : Type 0 where
   pub places : p .size .places ≡ valueOr0 (λ d. d .places) c
   pub value : p .size .value ≡ valueOr0 (λ d. d .value) c
 
-pub confidence-told : (c : Opt Decimal) (at : ℕ) (g : Fault) → Kept (optPart confidencePart c .marks at) → ConfidenceTold c (confidenceRead c g)
+pub confidence-told : (c : Opt Confidence) (at : ℕ) (g : Fault) → Kept (optPart confidencePart c .marks at)
+    → ConfidenceTold (optMap meantDecimal c) (confidenceRead c g)
 confidence-told silent at g k = record { kind = refl; places = refl; value = refl }
-confidence-told (written d) at g k =
-    let f = fits-kept d _ k in
+confidence-told (written c) at g k =
+    let d = meantDecimal c in
+    let f = confidence-fits-kept c at k in
     record { kind = refl; places = ap (λ (t : Bool). sizeRead d t .places) f; value = ap (λ (t : Bool). sizeRead d t .value) f }

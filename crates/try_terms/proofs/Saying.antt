@@ -11,21 +11,22 @@ use Rattle.numbers.specs.declared.MadeDecimal.{MadeDecimal}
 use Rattle.numbers.specs.declared.MadeDecimal.the-variants.{Fits, Past}
 use Rattle.numbers.specs.declared.DecimalRead.{DecimalRead}
 use Rattle.numbers.specs.Making.{ruled}
+use Rattle.numbers.specs.declared.FirstByte.the-variants.{DigitOrPoint}
 use Rattle.numbers.specs.Points.{decimalOf}
 use Rattle.io_answers.specs.Tells.{field}
 use Rattle.try_terms.specs.Lines.{madeText, readText, numberSaid, decimalSaid, symbolSaid, formulaSaid, saidOf, answerTo}
 
 -- ---- a decimal
 
-made-as : (d : DecimalRead) (text : List ℕ) {m : MadeDecimal} → d ≡ decimalOf text → d .made ≡ m → field (d .len) ++ madeText m ≡ decimalSaid text
+made-as : (d : DecimalRead) (text : List ℕ) {m : MadeDecimal} → d ≡ decimalOf DigitOrPoint text → d .made ≡ m → field (d .len) ++ madeText m ≡ decimalSaid text
 made-as d text h e = ap (λ (m : MadeDecimal). field (d .len) ++ madeText m) (sym e) ∙ ap readText h
 
-pub decimal-fits : (d : DecimalRead) (text : List ℕ) {x : Decimal} → d ≡ decimalOf text → d .made ≡ Fits x
+pub decimal-fits : (d : DecimalRead) (text : List ℕ) {x : Decimal} → d ≡ decimalOf DigitOrPoint text → d .made ≡ Fits x
     → field (d .len) ++ (field (x .value) ++ (field (x .places) ++ decimalText (ruled x))) ≡ decimalSaid text
 unfolding madeText
 decimal-fits d text h e = made-as d text h e
 
-pub decimal-past : (d : DecimalRead) (text : List ℕ) → d ≡ decimalOf text → d .made ≡ Past → field (d .len) ++ bytes "past" ≡ decimalSaid text
+pub decimal-past : (d : DecimalRead) (text : List ℕ) → d ≡ decimalOf DigitOrPoint text → d .made ≡ Past → field (d .len) ++ bytes "past" ≡ decimalSaid text
 unfolding madeText
 decimal-past d text h e = made-as d text h e
 

@@ -14,6 +14,7 @@ use Rattle.numbers.specs.declared.MadeDecimal.the-variants.{Fits, Past}
 use Rattle.numbers.specs.declared.DecimalRead.{DecimalRead}
 use Rattle.numbers.specs.Leading.{numberOf}
 use Rattle.numbers.specs.Making.{ruled}
+use Rattle.numbers.specs.declared.FirstByte.the-variants.{DigitOrPoint}
 use Rattle.numbers.specs.Points.{decimalOf}
 use Rattle.elements.specs.declared.Element.{Element}
 use Rattle.elements.specs.Symbols.{elementOf}
@@ -39,7 +40,7 @@ abbrev pub readText : DecimalRead → List ℕ
 readText d = field (d .len) ++ madeText (d .made)
 
 abbrev pub decimalSaid : List ℕ → List ℕ
-decimalSaid text = readText (decimalOf text)
+decimalSaid text = readText (decimalOf DigitOrPoint text)
 
 -- atomic number, bytes and symbol
 abbrev pub elementText : Element → List ℕ

@@ -15,6 +15,7 @@ use io_answers::put_field;
 use io_lines::Stream;
 use io_lines::next_line;
 use io_lines::room;
+use numbers::FirstByte;
 use numbers::MadeDecimal;
 use numbers::put_decimal;
 use numbers::put_number;
@@ -121,7 +122,7 @@ fn say_number(text: &[u8], out: &mut [u8], at: usize) -> usize
 fn say_decimal(text: &[u8], out: &mut [u8], at: usize) -> usize
     ensures { λ r. ⌜ Put (now (out .entry)) at (decimalSaid (now (text .entry))) (now (out .exit)) r ⌝ }
 {
-    let d = read_decimal(text);
+    let d = read_decimal(text, FirstByte::DigitOrPoint);
     let p = put_field(out, at, d.len as u64);
     let made = d.made;
     match made {

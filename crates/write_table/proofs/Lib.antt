@@ -4,6 +4,6 @@ pub mod Within
 pub mod Limited
 pub mod Unbroken
 pub mod Prefers
-pub mod Shorter
+pub mod Longer
 pub mod Holds
 pub mod Right

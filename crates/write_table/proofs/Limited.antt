@@ -4,11 +4,10 @@ use mathlib.Core.Bool.{Bool}
 use mathlib.Core.List.{List, [], _∷_, map}
 use native.Mathlib.Omega.{arith}
 use lib.ListN.{length, length-map}
-use Rattle.lang.specs.Parts.{Opt, silent, written, items, Such, wordOf}
+use Rattle.lang.specs.Parts.{Opt, silent, written, optMap, items, Such, wordOf}
 use Rattle.lang.specs.Mark.{Mark, here, later, Kept, marksOf}
 use Rattle.rules.specs.Bytes.{bytes}
 use Rattle.rules.specs.Numbers.{From}
-use Rattle.rules.specs.Decimals.{Decimal}
 use Rattle.rules.specs.Texts.{bracedText, bracketText}
 use Rattle.rules.specs.Formulas.{Written, FormulaUnit, plain, labelled, unitText, unitMap, Formula, formulaMap}
 use Rattle.rules.specs.Ions.{Ion, series, internal, immonium, precursor, reference, named, composed, smiles, unknown, ionText, ionMap}
@@ -16,6 +15,7 @@ use Rattle.rules.specs.Losses.{signText, Lost, lost-formula, lost-name, lostMap
 use Rattle.rules.specs.Isotopes.{Shift, Specific, Isotopes, no-isotope, plain-isotope, average-isotope, specific-isotopes, shiftText, specificText, isotopesText}
 use Rattle.rules.specs.Isotopes.{shiftMap, specificMap, isotopesMap}
 use Rattle.rules.specs.Adducts.{Added, added-formula, electron, addedMap, Item, itemText, adductText, itemMap}
+use Rattle.rules.specs.Confidences.{Confidence, meantDecimal}
 use Rattle.rules.specs.Annotations.{SpelledAnnotation, Deviation, flagText}
 use Rattle.rules.specs.Fields.{filledAnnotation, Table, filled}
 use Rattle.rules.specs.Answers.{Sound}
@@ -27,7 +27,7 @@ use Rattle.rules.proofs.Totals.{in-map}
 use Rattle.rules.proofs.Keeps.{kept-tail, kept-part, not-past, not-many, row-each, row-few}
 use Rattle.rules.proofs.Bounds.{each-in, line-each, table-few, unit-counted}
 use Rattle.rules.proofs.FitParts.{number-within}
-use Rattle.rules.proofs.FitDecimals.{kept-true}
+use Rattle.rules.proofs.FitDecimals.{kept-true, confidence-kept}
 use Rattle.write_table.proofs.Within.{IfThere, Row, AtMost, Short, UnitWithin, FormulaWithin, IonWithin, LostWithin, LossWithin, ShiftWithin, SpecificWithin, IsotopesWithin}
 use Rattle.write_table.proofs.Within.{AddedWithin, ItemWithin, DecimalWithin, DeviationWithin, AnnotationWithin, same-within}
 
@@ -168,9 +168,9 @@ deviation-limited (written d) at k =
     let p = kept-part at (bare (bytes "/") ∷ bare (flagText (bytes "-") (d .minus)) ∷ decimalPart (d .size) ∷ []) k (decimalPart (d .size)) (later (later here)) in
     kept-true (fits (d .size)) (λ b. p .1 _ here b)
 
-confidence-limited : (x : Opt Decimal) (at : ℕ) → Kept (optPart confidencePart x .marks at) → IfThere DecimalWithin x
+confidence-limited : (x : Opt Confidence) (at : ℕ) → Kept (optPart confidencePart x .marks at) → IfThere DecimalWithin (optMap meantDecimal x)
 confidence-limited silent at k = tt
-confidence-limited (written d) at k = kept-true (fits d) (λ b. k _ here b)
+confidence-limited (written c) at k = confidence-kept c at k
 
 annotation-limited : (i : ℕ) (a : SpelledAnnotation) (at : ℕ) → Kept (annotationMarks i a at) → AnnotationWithin (filledAnnotation a)
 annotation-limited i a at k =

@@ -5,20 +5,22 @@ use mathlib.Core.Path.{_≡_, refl, sym, ap, ap₂, _∙_, subst}
 use mathlib.Core.Bool.{Bool, true, false, not, _&&_}
 use mathlib.Core.List.{List, [], _∷_, map}
 use lib.Dec.{T, leb}
-use Rattle.lang.specs.Parts.{Opt, silent, written}
+use Rattle.lang.specs.Parts.{Opt, silent, written, optMap}
 use Rattle.lang.specs.Mark.{Kept}
 use Rattle.lang.specs.Order.{Perm, same, swap, keep, then, Each, none, next}
 use Rattle.rules.specs.Numbers.{Number}
 use Rattle.rules.specs.Decimals.{Decimal}
 use Rattle.rules.specs.Ions.{Ion, series, internal, immonium, precursor, reference, named, composed, smiles, unknown, ionMap}
-use Rattle.rules.specs.Adducts.{itemMap}
-use Rattle.rules.specs.Annotations.{TableAnnotation, SpelledAnnotation, Annotation, Deviation, annotationMap}
+use Rattle.rules.specs.Adducts.{Item, itemMap}
+use Rattle.rules.specs.Confidences.{meantDecimal}
+use Rattle.rules.specs.Annotations.{TableAnnotation, SpelledAnnotation, Deviation}
 use Rattle.rules.specs.Lines.{Spelling}
 use Rattle.rules.specs.Preferred.{shortenedAnnotation, shortened, preferredSpelling}
 use Rattle.rules.specs.Fields.{Table, filled, SameFields, Says}
 use Rattle.rules.specs.Limits.{lineMarks}
-use Rattle.rules.specs.House.{isEmpty, ionRule, deviationRule, confidenceOf, one, annotationRules, firstBreach, firstExcess}
+use Rattle.rules.specs.House.{isEmpty, ionRule, deviationRule, confidenceOf, share, one, annotationRules, firstBreach, firstExcess}
 use Rattle.rules.specs.Answers.{Sound}
+use Rattle.rules.proofs.Shortened.{confidence-back}
 use Rattle.rules.proofs.FitAnnotations.{passed}
 use Rattle.write_table.proofs.Limited.{table-within}
 use Rattle.write_table.proofs.Unbroken.{line-kept}
@@ -55,13 +57,18 @@ empty-perm (then p q) = empty-perm p ∙ empty-perm q
 abbrev rulesOf : {Free : Type 0} → Ion Free → Bool → Opt Deviation → Opt Decimal → Bool
 rulesOf x empty d c = ionRule x (not empty) && (deviationRule d && leb (confidenceOf c) one)
 
-rules-map : {A B : Type 0} (f : A → B) (a : Annotation A) → annotationRules (annotationMap f a) ≡ annotationRules a
-rules-map f a =
-    ap (λ (e : Bool). rulesOf (ionMap f (a .ion)) e (a .deviation) (a .confidence)) (empty-map (itemMap f) (a .adduct))
-    ∙ ap (λ (r : Bool). r && (deviationRule (a .deviation) && leb (confidenceOf (a .confidence)) one))
-    (ion-rule-map f (a .ion) (not (isEmpty (a .adduct))))
+-- the counts, filled or shortened, are not looked at
+rules-map : {A B : Type 0} (f : A → B) (x : Ion A) (xs : List (Item A)) (d : Opt Deviation) (c : Opt Decimal)
+    → rulesOf (ionMap f x) (isEmpty (map (itemMap f) xs)) d c ≡ rulesOf x (isEmpty xs) d c
+rules-map f x xs d c =
+    ap (λ (e : Bool). rulesOf (ionMap f x) e d c) (empty-map (itemMap f) xs)
+    ∙ ap (λ (r : Bool). r && (deviationRule d && leb (confidenceOf c) one)) (ion-rule-map f x (not (isEmpty xs)))
 
-rules-same : {a b : TableAnnotation} → SameFields a b → annotationRules a ≡ annotationRules b
+-- of an annotation as a table has it
+abbrev tableRules : TableAnnotation → Bool
+tableRules a = rulesOf (a .ion) (isEmpty (a .adduct)) (a .deviation) (a .confidence)
+
+rules-same : {a b : TableAnnotation} → SameFields a b → tableRules a ≡ tableRules b
 rules-same {a} {b} e =
     ap (λ (x : Ion Number). rulesOf x (isEmpty (a .adduct)) (a .deviation) (a .confidence)) (e .ion)
     ∙ ap (λ (x : Bool). rulesOf (b .ion) x (a .deviation) (a .confidence)) (empty-perm (e .adduct))
@@ -69,7 +76,10 @@ rules-same {a} {b} e =
     ∙ ap (λ (x : Opt Decimal). rulesOf (b .ion) (isEmpty (b .adduct)) (b .deviation) x) (e .confidence)
 
 rules-kept : {a : SpelledAnnotation} {b : TableAnnotation} → Says a b → annotationRules a ≡ annotationRules (shortenedAnnotation b)
-rules-kept {a} {b} s = sym (rules-map filled a) ∙ rules-same (s .fields) ∙ sym (rules-map shortened b)
+rules-kept {a} {b} s =
+    sym (rules-map filled (a .ion) (a .adduct) (a .deviation) (optMap meantDecimal (a .confidence))) ∙ rules-same (s .fields)
+    ∙ sym (rules-map shortened (b .ion) (b .adduct) (b .deviation) (b .confidence))
+    ∙ ap (rulesOf (ionMap shortened (b .ion)) (isEmpty (map (itemMap shortened) (b .adduct))) (b .deviation)) (sym (confidence-back (b .confidence)))
 
 -- ---- a search for a place
 
@@ -93,10 +103,10 @@ sum-each : {s : Spelling} {t : Table} → Each Says s t → (m n p q : ℕ) → 
     → firstExcess m p s ≡ silent → firstExcess n q (preferredSpelling t) ≡ silent
 sum-each none m n p q i e = refl
 sum-each (next {a = a} {b = b} {l = s} {m = t} r x) m n p q i e =
-    let sum : m + confidenceOf (a .confidence) ≡ n + confidenceOf (b .confidence)
-    = ap₂ (λ (y z : ℕ). y + z) i (ap confidenceOf (r .fields .confidence)) in
-    let h = passed (leb (m + confidenceOf (a .confidence)) one) (firstExcess _ _ s) p e in
-    passes (leb (n + confidenceOf (b .confidence)) one) (firstExcess _ _ (preferredSpelling t)) q
+    let sum : m + share a ≡ n + share (shortenedAnnotation b)
+    = ap₂ (λ (y z : ℕ). y + z) i (ap confidenceOf (r .fields .confidence ∙ sym (confidence-back (b .confidence)))) in
+    let h = passed (leb (m + share a) one) (firstExcess _ _ s) p e in
+    passes (leb (n + share (shortenedAnnotation b)) one) (firstExcess _ _ (preferredSpelling t)) q
     (subst (λ (y : ℕ). T (leb y one)) sum (h .0)) (sum-each x _ _ _ _ sum (h .1))
 
 pub preferred-sum : (t : Table) → Sound t → firstExcess 0 0 (preferredSpelling t) ≡ silent

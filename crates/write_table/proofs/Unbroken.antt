@@ -5,7 +5,7 @@ use mathlib.Core.List.{List, [], _∷_, _++_, map}
 use native.Mathlib.Omega.{arith}
 use lib.Dec.{T, leb, ltb, leb→le, ltb→lt}
 use lib.ListN.{length}
-use Rattle.lang.specs.Parts.{Opt, silent, written, items, Such, wordOf}
+use Rattle.lang.specs.Parts.{Opt, silent, written, optMap, items, Such, wordOf}
 use Rattle.lang.specs.Mark.{Mark, In, here, later, Kept, Part, marksOf}
 use Rattle.rules.specs.Bytes.{bytes}
 use Rattle.rules.specs.Numbers.{From, Number}
@@ -17,6 +17,7 @@ use Rattle.rules.specs.Losses.{signText, Lost, lost-formula, lost-name, lostMap
 use Rattle.rules.specs.Isotopes.{Shift, Specific, Isotopes, no-isotope, plain-isotope, average-isotope, specific-isotopes, shiftText, specificText, isotopesText}
 use Rattle.rules.specs.Isotopes.{shiftMap, specificMap, isotopesMap}
 use Rattle.rules.specs.Adducts.{Added, added-formula, electron, addedMap, Item, itemText, adductText, itemMap}
+use Rattle.rules.specs.Confidences.{in-full}
 use Rattle.rules.specs.Annotations.{TableAnnotation, Deviation, flagText, annotationText}
 use Rattle.rules.specs.Lines.{nextText}
 use Rattle.rules.specs.Preferred.{shortenedAnnotation, shortened, preferredSpelling}
@@ -183,8 +184,12 @@ deviation-ok : (d : Deviation) → DeviationWithin d → Unbroken (deviationPart
 deviation-ok d h =
     record { ok = λ at. parts (also (bare-ok (bytes "/")) (also (bare-ok (flagText (bytes "-") (d .minus))) (also (decimal-ok (d .size) h) end))) at }
 
-confidence-ok : (d : Decimal) → DecimalWithin d → Unbroken (confidencePart d)
+confidence-ok : (d : Decimal) → DecimalWithin d → Unbroken (confidencePart (in-full d))
 confidence-ok d h = record { ok = λ at. kept-more _ [] (not-refused (fits d) h) kept-none }
+
+full-ok : (x : Opt Decimal) → IfThere DecimalWithin x → Unbroken (optPart confidencePart (optMap in-full x))
+full-ok silent w = bare-ok []
+full-ok (written d) w = confidence-ok d w
 
 pub annotation-ok : (i : ℕ) (b : TableAnnotation) (at : ℕ) → i < maxAnnotations → AnnotationWithin b → Kept (annotationMarks i (shortenedAnnotation b) at)
 annotation-ok i b at l w =
@@ -200,7 +205,7 @@ annotation-ok i b at l w =
     (also {p = part (adductText (a .adduct)) (adductMarks (a .adduct))} (record { ok = λ at. adduct-ok (b .adduct) at (w .adduct) })
     (also (opt-ok (AtMost maxCharge) chargePart charge-ok (b .charge) (w .charge))
     (also (opt-ok DeviationWithin deviationPart deviation-ok (b .deviation) (w .deviation))
-    (also (opt-ok DecimalWithin confidencePart confidence-ok (b .confidence) (w .confidence)) end)))))))))
+    (also (full-ok (b .confidence) (w .confidence)) end)))))))))
     at)
 
 -- ---- a line

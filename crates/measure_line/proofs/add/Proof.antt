@@ -18,6 +18,9 @@ sum-of-requires c κs = search needs
 plus-requires : tie.Need-plus-requires
 plus-requires c κs = search needs
 
+either-requires : tie.Need-either-requires
+either-requires c κs = search needs
+
 note-requires : tie.Need-note-requires
 note-requires c κs = search needs
 
@@ -29,7 +32,8 @@ advance-requires c κs = search needs
 
 returns : tie.Need-returns
 returns c =
-    let at-sum-of = c .before .before .before .before in
+    let at-plus = c .before .before .before .before in
+    let at-sum-of = at-plus .before in
     let at-measure = at-sum-of .before .before .before in
     let at-minus-or-zero = at-measure .before .before .before .before in
     let at-rest = at-minus-or-zero .before in
@@ -37,7 +41,8 @@ returns c =
       c .advance .ensures,
       c .before .note2 .ensures,
       c .before .before .note .ensures,
-      c .before .before .before .plus .ensures,
+      c .before .before .before .either .ensures,
+      at-plus .plus .ensures,
       at-sum-of .sum-of .ensures,
       at-measure .measure .ensures,
       at-minus-or-zero .minus-or-zero .ensures,
@@ -53,6 +58,7 @@ add-spec =
     measure-requires
     sum-of-requires
     plus-requires
+    either-requires
     note-requires
     note-requires-2
     advance-requires

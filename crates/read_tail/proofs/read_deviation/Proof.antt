@@ -5,6 +5,7 @@ use Rattle.rules.specs.Texts.{startsWith}
 use Rattle.rules.specs.Bytes.{bytes}
 use mathlib.Core.Path.{sym, ap, _∙_}
 use native.Mathlib.Omega.{arith}
+use Rattle.numbers.specs.declared.FirstByte.the-variants.{Digit}
 use Rattle.read_tail.proofs.Devs.{in-ppm, in-units}
 use Rattle.read_tail.proofs.Measures.{decimal-fits, size-small, ppm-fits}
 use Rattle.read_tail.specs.Decimals.{deviationOf}
@@ -28,8 +29,8 @@ rest-requires c κs = search needs
 begins-with-requires-2 : tie.Need-begins-with-requires-2
 begins-with-requires-2 c κs = search needs
 
-size-at-requires : tie.Need-size-at-requires
-size-at-requires c κs = search needs
+digit-at-requires : tie.Need-digit-at-requires
+digit-at-requires c κs = search needs
 
 rest-requires-2 : tie.Need-rest-requires-2
 rest-requires-2 c κs = search needs
@@ -39,14 +40,14 @@ read-decimal-requires c κs = search needs
 
 add-len : tie.Need-add-len
 add-len c =
-    let at-size-at = c .before .before .before in
-    let at-begins-with2 = at-size-at .before in
+    let at-digit-at = c .before .before .before in
+    let at-begins-with2 = at-digit-at .before in
     let at-args = at-begins-with2 .before .before .before .before .before in
     omega (
       arith,
-      decimal-fits (at-args .args .s .now) (at-size-at .size-at .result) (c .before .before .rest2 .ensures)
+      decimal-fits (at-args .args .s .now) (at-digit-at .digit-at .result) (c .before .before .rest2 .ensures) Digit
           (c .before .read-decimal .ensures),
-      at-size-at .size-at .ensures,
+      at-digit-at .digit-at .ensures,
       size-small (at-begins-with2 .begins-with2 .result),
     )
 
@@ -65,11 +66,11 @@ begins-ppm-requires c κs = search needs
 add-made-part : tie.Need-add-made-part
 add-made-part c =
     let at-read-decimal = c .before .before .before .before .before .before in
-    let at-size-at = at-read-decimal .before .before in
-    let at-args = at-size-at .before .before .before .before .before .before in
+    let at-digit-at = at-read-decimal .before .before in
+    let at-args = at-digit-at .before .before .before .before .before .before in
     omega (
       arith,
-      ppm-fits (at-args .args .s .now) (at-size-at .size-at .result + at-read-decimal .read-decimal .result .len)
+      ppm-fits (at-args .args .s .now) (at-digit-at .digit-at .result + at-read-decimal .read-decimal .result .len)
           (c .before .before .rest3 .ensures) (sym (c .before .begins-ppm .ensures) ∙ c .if2 .taken),
     )
 
@@ -83,15 +84,15 @@ returns-2 c =
     let at-minus-or-zero = at-minus-or-zero2 .before in
     let at-read-decimal = at-minus-or-zero .before .before in
     let at-rest2 = at-read-decimal .before in
-    let at-size-at = at-rest2 .before in
-    let at-begins-with2 = at-size-at .before in
+    let at-digit-at = at-rest2 .before in
+    let at-begins-with2 = at-digit-at .before in
     let at-rest = at-begins-with2 .before in
     let at-if1 = at-rest .before in
     let at-begins-with = at-if1 .before in
     let at-args = at-begins-with .before .before in
     in-ppm (at-args .args .s .now) (at-args .args .end) (at-args .args .f)
     (sym (at-begins-with .begins-with .ensures) ∙ not-false _ (at-if1 .if1 .left))
-    (at-begins-with2 .begins-with2 .ensures ∙ ap (startsWith (bytes "-")) (at-rest .rest .ensures)) (at-size-at .size-at .ensures)
+    (at-begins-with2 .begins-with2 .ensures ∙ ap (startsWith (bytes "-")) (at-rest .rest .ensures)) (at-digit-at .digit-at .ensures)
     (at-rest2 .rest2 .ensures) (at-read-decimal .read-decimal .ensures) (at-rest3 .rest3 .ensures) (at-minus-or-zero .minus-or-zero .ensures)
     (at-minus-or-zero2 .minus-or-zero2 .ensures) (sym (c .before .before .begins-ppm .ensures) ∙ c .before .if2 .taken) (c .made-part .ensures)
 
@@ -105,15 +106,15 @@ returns-3 c =
     let at-minus-or-zero = at-minus-or-zero2 .before in
     let at-read-decimal = at-minus-or-zero .before .before in
     let at-rest2 = at-read-decimal .before in
-    let at-size-at = at-rest2 .before in
-    let at-begins-with2 = at-size-at .before in
+    let at-digit-at = at-rest2 .before in
+    let at-begins-with2 = at-digit-at .before in
     let at-rest = at-begins-with2 .before in
     let at-if1 = at-rest .before in
     let at-begins-with = at-if1 .before in
     let at-args = at-begins-with .before .before in
     in-units (at-args .args .s .now) (at-args .args .end) (at-args .args .f)
     (sym (at-begins-with .begins-with .ensures) ∙ not-false _ (at-if1 .if1 .left))
-    (at-begins-with2 .begins-with2 .ensures ∙ ap (startsWith (bytes "-")) (at-rest .rest .ensures)) (at-size-at .size-at .ensures)
+    (at-begins-with2 .begins-with2 .ensures ∙ ap (startsWith (bytes "-")) (at-rest .rest .ensures)) (at-digit-at .digit-at .ensures)
     (at-rest2 .rest2 .ensures) (at-read-decimal .read-decimal .ensures) (at-rest3 .rest3 .ensures) (at-minus-or-zero .minus-or-zero .ensures)
     (at-minus-or-zero2 .minus-or-zero2 .ensures) (sym (c .before .before .begins-ppm .ensures) ∙ c .before .if2 .left) (c .made-part2 .ensures)
 
@@ -126,7 +127,7 @@ read-deviation-spec =
     returns
     rest-requires
     begins-with-requires-2
-    size-at-requires
+    digit-at-requires
     rest-requires-2
     read-decimal-requires
     add-len

@@ -42,8 +42,8 @@ rest-requires-5 c κs = search needs
 first-of-requires-2 : tie.Need-first-of-requires-2
 first-of-requires-2 c κs = search needs
 
-put-run-requires-2 : tie.Need-put-run-requires-2
-put-run-requires-2 c κs = search needs
+spell-tail-requires : tie.Need-spell-tail-requires
+spell-tail-requires c κs = search needs
 
 same-length : tie.Need-same-length
 same-length c =
@@ -53,7 +53,7 @@ same-length c =
     let at-spell-changes = at-spell-isotopes .before .before .before .before .before in
     let at-spell-ion = at-spell-changes .before .before .before .before .before in
     let at-put-run = at-spell-ion .before .before .before .before .before in
-    put-length (c .before .before .put-run2 .ensures) ∙ put-length (at-spell-adduct .spell-adduct .ensures)
+    put-length (c .before .before .spell-tail .ensures) ∙ put-length (at-spell-adduct .spell-adduct .ensures)
     ∙ put-length (at-spell-isotopes .spell-isotopes .ensures .put) ∙ put-length (at-spell-changes .spell-changes .ensures .put)
     ∙ put-length (at-spell-ion .spell-ion .ensures)
     ∙ put-length (at-put-run .put-run .ensures)
@@ -77,7 +77,7 @@ returns c =
     (at-rest2 .rest2 .ensures) (at-spell-changes .spell-changes .ensures)
     (at-rest3 .rest3 .ensures) (at-spell-isotopes .spell-isotopes .ensures)
     (at-rest4 .rest4 .ensures) (at-spell-adduct .spell-adduct .ensures) (at-rest5 .rest5 .ensures)
-    (at-first-of2 .first-of2 .ensures) (c .before .before .put-run2 .ensures)
+    (at-first-of2 .first-of2 .ensures) (c .before .before .spell-tail .ensures)
 
 pub spell-parts-spec : {M : Type 1} → statement M
 spell-parts-spec =
@@ -95,6 +95,6 @@ spell-parts-spec =
     spell-adduct-requires
     rest-requires-5
     first-of-requires-2
-    put-run-requires-2
+    spell-tail-requires
     same-length
     returns)

@@ -24,7 +24,7 @@ use Rattle.rules.proofs.worked.Spell.{specifics, item, electrons, charg
 use Rattle.rules.proofs.worked.Row.{broken}
 
 -- a broken limit: its number and its place
-abbrev refusal : ℕ → ℕ → Mark
+abbrev pub refusal : ℕ → ℕ → Mark
 refusal number place = record { place = place; number = number; broken = true }
 
 abbrev again : ℕ → (SpelledAnnotation → SpelledAnnotation) → SpelledAnnotation → SpelledAnnotation

@@ -19,6 +19,7 @@ use Rattle.rules.specs.Ions.{Ion, series, internal, immonium, precursor,
 use Rattle.rules.specs.Losses.{Sign, lost-formula, lost-name, Loss}
 use Rattle.rules.specs.Isotopes.{Specific, Isotopes, no-isotope, plain-isotope, average-isotope, specific-isotopes}
 use Rattle.rules.specs.Adducts.{added-formula, electron, Item}
+use Rattle.rules.specs.Confidences.{beginsZeroPoint, Confidence, in-full, from-point}
 use Rattle.rules.specs.Annotations.{SpelledAnnotation, Deviation}
 
 infixl 70 _with_
@@ -118,7 +119,7 @@ CO = formula (plain C silent) (plain O silent ∷ [])
 
 -- marked; analyte; ion; losses; isotopes; adduct; charge; deviation; confidence
 abbrev pub annotation :
-    Bool → Opt ℕ → Ion Written → List (Loss Written) → Isotopes Written → List (Item Written) → Opt (From 2) → Opt Deviation → Opt Decimal
+    Bool → Opt ℕ → Ion Written → List (Loss Written) → Isotopes Written → List (Item Written) → Opt (From 2) → Opt Deviation → Opt Confidence
     → SpelledAnnotation
 annotation m a i l s d c v f =
     record { marked = m; analyte = a; ion = i; losses = l; isotopes = s; adduct = d; charge = c; deviation = v; confidence = f }
@@ -224,4 +225,10 @@ off minus size unit a =
 
 abbrev pub confidence : Decimal → SpelledAnnotation → SpelledAnnotation
 confidence d a =
-    annotation (a .marked) (a .analyte) (a .ion) (a .losses) (a .isotopes) (a .adduct) (a .charge) (a .deviation) (written d)
+    annotation (a .marked) (a .analyte) (a .ion) (a .losses) (a .isotopes) (a .adduct) (a .charge) (a .deviation) (written (in-full d))
+
+-- without its 0: whole part 0, and a point
+abbrev pub fromPoint : (d : Decimal) → T (beginsZeroPoint d) → SpelledAnnotation → SpelledAnnotation
+fromPoint d h a =
+    annotation (a .marked) (a .analyte) (a .ion) (a .losses) (a .isotopes) (a .adduct) (a .charge) (a .deviation)
+    (written (from-point (record { decimal = d; begins = h })))

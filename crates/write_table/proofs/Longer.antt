@@ -1,13 +1,13 @@
--- Document 01, "One table, several spellings": no spelling of a table is shorter than the preferred one, which leaves out each 1 that
--- may be left out and puts losses and adduct items in another order. Assumes nothing.
-use Prim.Native.Nat.{ℕ, _≤_}
+-- How much longer than another spelling the preferred one is: by one byte for each annotation at most, the 0 before the point of its
+-- confidence. It leaves out each 1 that may be left out, and puts losses and adduct items in another order. Assumes nothing.
+use Prim.Native.Nat.{ℕ, suc, _+_, _≤_}
 use mathlib.Core.Path.{_≡_, refl, subst}
 use mathlib.Core.Bool.{Bool, true, false}
 use mathlib.Core.List.{List, [], _∷_, _++_, map}
 use native.Mathlib.Omega.{arith}
 use lib.Dec.{leb}
 use lib.ListN.{length, length-append}
-use Rattle.lang.specs.Parts.{silent, written, optText, Some, flat, wordOf}
+use Rattle.lang.specs.Parts.{Opt, silent, written, optText, optMap, Some, flat, wordOf}
 use Rattle.lang.specs.Order.{Perm, Each, none, next}
 use Rattle.rules.specs.Bytes.{bytes}
 use Rattle.rules.specs.Numbers.{Number, numberText}
@@ -17,10 +17,13 @@ use Rattle.rules.specs.Losses.{signText, Lost, lost-formula, lost-name, lostTex
 use Rattle.rules.specs.Isotopes.{Shift, shiftText, shiftMap, Specific, specificText, specificMap}
 use Rattle.rules.specs.Isotopes.{Isotopes, no-isotope, plain-isotope, average-isotope, specific-isotopes, isotopesText, isotopesMap}
 use Rattle.rules.specs.Adducts.{Added, added-formula, electron, addedText, addedMap, Item, itemText, itemMap, adductText}
-use Rattle.rules.specs.Annotations.{TableAnnotation, SpelledAnnotation, flagText, analyteText, chargeText, deviationText, confidenceText, annotationText}
+use Rattle.rules.specs.Decimals.{Decimal}
+use Rattle.rules.specs.Confidences.{Confidence, in-full, confidenceText, meantDecimal}
+use Rattle.rules.specs.Annotations.{TableAnnotation, SpelledAnnotation, flagText, analyteText, chargeText, deviationText, annotationText}
 use Rattle.rules.specs.Lines.{Spelling, lineText, nextText}
 use Rattle.rules.specs.Preferred.{shortenedAnnotation, shortened, preferredSpelling, preferred}
 use Rattle.rules.specs.Fields.{Table, filled, Says}
+use Rattle.rules.proofs.Confidences.{full-longer}
 use Rattle.rules.proofs.Totals.{total, perm-total, perm-length}
 
 -- ---- texts that are no longer than others
@@ -47,6 +50,16 @@ after w p = joined w w as-long p
 
 before : (u v w : List ℕ) → NoLonger u v → NoLonger (u ++ w) (v ++ w)
 before u v w p = joined u v p as-long
+
+-- no more than n bytes longer
+record Longer (n : ℕ) (u v : List ℕ) : Type 0 where
+  le : length u ≤ length v + n
+
+behind : (u v : List ℕ) {x y : List ℕ} {n : ℕ} → NoLonger u v → Longer n x y → Longer n (u ++ x) (v ++ y)
+behind u v {x} {y} p q = record { le = omega (arith, length-append u x, length-append v y, p .le, q .le) }
+
+both : (u v : List ℕ) {x y : List ℕ} {n : ℕ} → Longer 1 u v → Longer n x y → Longer (suc n) (u ++ x) (v ++ y)
+both u v {x} {y} p q = record { le = omega (arith, length-append u x, length-append v y, p .le, q .le) }
 
 -- texts of equals
 alike : {A : Type 0} (text : A → List ℕ) {x y : A} → x ≡ y → NoLonger (text y) (text x)
@@ -158,28 +171,34 @@ said-adduct (x ∷ l) (y ∷ m) p =
 
 -- ---- annotations and lines
 
-said-annotation : {a : SpelledAnnotation} {b : TableAnnotation} → Says a b → NoLonger (annotationText (shortenedAnnotation b)) (annotationText a)
+-- a confidence, whose 0 may have been left out
+said-confidence : (x : Opt Confidence) → Longer 1 (optText confidenceText (optMap in-full (optMap meantDecimal x))) (optText confidenceText x)
+said-confidence silent = record { le = omega arith }
+said-confidence (written c) = record { le = full-longer c }
+
+said-annotation : {a : SpelledAnnotation} {b : TableAnnotation} → Says a b → Longer 1 (annotationText (shortenedAnnotation b)) (annotationText a)
 said-annotation {a} {b} s =
     let e = s .fields in
-    joined (flagText (bytes "&") (b .marked)) (flagText (bytes "&") (a .marked)) (alike (flagText (bytes "&")) (e .marked))
-    (joined (optText analyteText (b .analyte)) (optText analyteText (a .analyte)) (alike (optText analyteText) (e .analyte))
-    (joined (ionText (ionMap shortened (b .ion))) (ionText (a .ion)) (said-ion (a .ion) (b .ion) (e .ion))
-    (joined (flat lossText (map (lossMap shortened) (b .losses))) (flat lossText (a .losses)) (said-losses (a .losses) (b .losses) (e .losses))
-    (joined (isotopesText (isotopesMap shortened (b .isotopes))) (isotopesText (a .isotopes)) (said-isotopes (a .isotopes) (b .isotopes) (e .isotopes))
-    (joined (adductText (map (itemMap shortened) (b .adduct))) (adductText (a .adduct)) (said-adduct (a .adduct) (b .adduct) (e .adduct))
-    (joined (optText chargeText (b .charge)) (optText chargeText (a .charge)) (alike (optText chargeText) (e .charge))
-    (joined (optText deviationText (b .deviation)) (optText deviationText (a .deviation)) (alike (optText deviationText) (e .deviation))
-    (alike (optText confidenceText) (e .confidence)))))))))
+    behind (flagText (bytes "&") (b .marked)) (flagText (bytes "&") (a .marked)) (alike (flagText (bytes "&")) (e .marked))
+    (behind (optText analyteText (b .analyte)) (optText analyteText (a .analyte)) (alike (optText analyteText) (e .analyte))
+    (behind (ionText (ionMap shortened (b .ion))) (ionText (a .ion)) (said-ion (a .ion) (b .ion) (e .ion))
+    (behind (flat lossText (map (lossMap shortened) (b .losses))) (flat lossText (a .losses)) (said-losses (a .losses) (b .losses) (e .losses))
+    (behind (isotopesText (isotopesMap shortened (b .isotopes))) (isotopesText (a .isotopes)) (said-isotopes (a .isotopes) (b .isotopes) (e .isotopes))
+    (behind (adductText (map (itemMap shortened) (b .adduct))) (adductText (a .adduct)) (said-adduct (a .adduct) (b .adduct) (e .adduct))
+    (behind (optText chargeText (b .charge)) (optText chargeText (a .charge)) (alike (optText chargeText) (e .charge))
+    (behind (optText deviationText (b .deviation)) (optText deviationText (a .deviation)) (alike (optText deviationText) (e .deviation))
+    (subst (λ (c : Opt Decimal). Longer 1 (optText confidenceText (optMap in-full c)) (optText confidenceText (a .confidence))) (e .confidence)
+    (said-confidence (a .confidence))))))))))
 
--- each after its comma
-said-more : {s : Spelling} {t : Table} → Each Says s t → NoLonger (flat nextText (preferredSpelling t)) (flat nextText s)
-said-more none = as-long
+-- each after its comma, and one byte more for each at most
+said-more : {s : Spelling} {t : Table} → Each Says s t → Longer (length s) (flat nextText (preferredSpelling t)) (flat nextText s)
+said-more none = record { le = omega arith }
 said-more (next {a = a} {b = b} x e) =
-    joined (nextText (shortenedAnnotation b)) (nextText a) (after (bytes ",") (said-annotation x)) (said-more e)
+    both (nextText (shortenedAnnotation b)) (nextText a) (behind (bytes ",") (bytes ",") as-long (said-annotation x)) (said-more e)
 
-said-line : {s : Spelling} {t : Table} → Each Says s t → NoLonger (preferred t) (lineText s)
-said-line none = as-long
-said-line (next {a = a} {b = b} x e) = joined (annotationText (shortenedAnnotation b)) (annotationText a) (said-annotation x) (said-more e)
+said-line : {s : Spelling} {t : Table} → Each Says s t → Longer (length s) (preferred t) (lineText s)
+said-line none = record { le = omega arith }
+said-line (next {a = a} {b = b} x e) = both (annotationText (shortenedAnnotation b)) (annotationText a) (said-annotation x) (said-more e)
 
-pub preferred-shorter : {s : Spelling} {t : Table} → Each Says s t → length (preferred t) ≤ length (lineText s)
-preferred-shorter e = said-line e .le
+pub preferred-longer : {s : Spelling} {t : Table} → Each Says s t → length (preferred t) ≤ length (lineText s) + length s
+preferred-longer e = said-line e .le
