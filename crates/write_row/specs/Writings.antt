@@ -17,18 +17,19 @@ use Rattle.answers.specs.declared.Answer.{Answer}
 use Rattle.put_bytes.specs.Puts.{cleared}
 use Rattle.write_table.specs.Writings.{writtenOf}
 use Rattle.write_row.specs.declared.Head.{Head}
+use Rattle.write_row.specs.Heads.{intensityAt, mzPlacesAt, intensityPlacesAt, zeroAt}
 use Rattle.answers.specs.Behind.{capped}
 
 -- 20 bytes are there, no number is refused, and the last two bytes are zero
 unfoldable pub isHead : List ℕ → ℕ → ℕ → Bool
 isHead s mz intensity =
-    cond (ltb (length s) rowHeadSize) false (cond (eqb mz 0) (cond (eqb intensity 0) (eqb (u16At (drop 18 s)) 0) false) false)
+    cond (ltb (length s) rowHeadSize) false (cond (eqb mz 0) (cond (eqb intensity 0) (eqb (u16At (drop zeroAt s)) 0) false) false)
 
 abbrev pub mzIn : List ℕ → MadeDecimal
-mzIn s = madeOf (u64At s) (getD s 16 0)
+mzIn s = madeOf (u64At s) (getD s mzPlacesAt 0)
 
 abbrev pub intensityIn : List ℕ → MadeDecimal
-intensityIn s = madeOf (u64At (drop 8 s)) (getD s 17 0)
+intensityIn s = madeOf (u64At (drop intensityAt s)) (getD s intensityPlacesAt 0)
 
 unfoldable pub headOf : List ℕ → Head
 headOf s = record { good = isHead s (madeNumber (mzIn s)) (madeNumber (intensityIn s)); mz = madeDecimal (mzIn s); intensity = madeDecimal (intensityIn s) }

@@ -23,6 +23,15 @@ use slices::u16_at;
 use slices::u64_at;
 use write_table::write_by;
 
+// Where the fields of a stored row's head stand behind m/z, which stands first. `read_head` is proved to look where the head's own fields are.
+const INTENSITY_AT: usize = 8;
+
+const MZ_PLACES_AT: usize = 16;
+
+const INTENSITY_PLACES_AT: usize = 17;
+
+const ZERO_AT: usize = 18;
+
 // The bytes of a stored row before its table, as they were read.
 struct Head {
     good: bool,
@@ -43,15 +52,18 @@ fn is_head(stored: &[u8], mz: usize, intensity: usize) -> bool
     if intensity != 0 {
         return false;
     }
-    u16_at(rest(stored, 18)) == 0
+    u16_at(rest(stored, ZERO_AT)) == 0
 }
 
 // The head of what may be a stored row.
 fn read_head(stored: &[u8]) -> Head
     ensures { λ r. ⌜ r ≡ headOf (now (stored .entry)) ⌝ }
 {
-    let mz = Decimal::new(u64_at(stored), byte_of(stored, 16));
-    let intensity = Decimal::new(u64_at(rest(stored, 8)), byte_of(stored, 17));
+    let mz = Decimal::new(u64_at(stored), byte_of(stored, MZ_PLACES_AT));
+    let intensity = Decimal::new(
+        u64_at(rest(stored, INTENSITY_AT)),
+        byte_of(stored, INTENSITY_PLACES_AT),
+    );
     Head {
         good: is_head(stored, mz.number(), intensity.number()),
         mz: mz.decimal(),

@@ -1,0 +1,77 @@
+-- Two bytes hold each number of the answer to a line or a table: places lie in the line, and no table has more than 43,596 bytes.
+-- Assumes nothing.
+use Prim.Native.Nat.{ℕ, _≤_}
+use mathlib.Core.Path.{_≡_}
+use mathlib.Core.List.{List}
+use native.Mathlib.Omega.{arith}
+use lib.ListN.{length}
+use Rattle.lang.specs.Parts.{silent}
+use Rattle.lang.specs.Mark.{Kept}
+use Rattle.rules.specs.Lines.{Spelling, stray, short}
+use Rattle.rules.specs.Limits.{lineMarks}
+use Rattle.rules.specs.House.{firstBreach}
+use Rattle.rules.specs.Editions.{current}
+use Rattle.rules.specs.Answers.{Answer, Delivers, no-room, done, ReadsSum, ReadsRules, ReadsSpelling, Reads, Writes}
+use Rattle.rules.proofs.Rises.{line-rises}
+use Rattle.rules.proofs.Sizes.{sizes-fit}
+use Rattle.read_row.proofs.LinePlaces.{reads-place}
+use Rattle.lines.specs.Relabels.{Relabels, refused, relabelled}
+use Rattle.pack_answer.specs.Handed.{AtMost, most}
+
+-- what a result of few bytes is answered by
+pub delivered-most : {m room : ℕ} {w : List ℕ} {a : Answer} → length w ≤ m → 8 ≤ m → Delivers room w a → AtMost m a
+delivered-most h g (no-room l) = record { number = g; place = h; size = omega arith }
+delivered-most h g (done l) = record { number = omega arith; place = omega arith; size = h }
+
+-- ---- reading
+
+-- a line and the largest table
+abbrev pub mostOfLine : ℕ
+mostOfLine = 47692
+
+module _ (s : Spelling) (room : ℕ) where
+  sum-most : Kept (lineMarks s) → firstBreach 0 s ≡ silent → {a : Answer} → a .place ≤ mostOfLine → ReadsSum s room a → AtMost mostOfLine a
+  sum-most k b h (ReadsSum.excess p z) = record { number = omega arith; place = h; size = omega arith }
+  sum-most k b h (ReadsSum.kept z t y d) =
+      delivered-most (omega (arith, sizes-fit current t (record { spelling = s; says = y; limits = k; rules = b; sum = z }))) (omega arith) d
+
+  rules-most : Kept (lineMarks s) → {a : Answer} → a .place ≤ mostOfLine → ReadsRules s room a → AtMost mostOfLine a
+  rules-most k h (ReadsRules.breach p z) = record { number = omega arith; place = h; size = omega arith }
+  rules-most k h (ReadsRules.kept z r) = sum-most k z h r
+
+  spelling-most : {a : Answer} → a .place ≤ mostOfLine → ReadsSpelling s room a → AtMost mostOfLine a
+  spelling-most h (ReadsSpelling.limit m w) =
+      record { number = omega (arith, line-rises s .within m (w .is-in) (w .broken) .number); place = h; size = omega arith }
+  spelling-most h (ReadsSpelling.kept k r) = rules-most k h r
+
+pub reads-most : {line : List ℕ} {room : ℕ} {a : Answer} → Reads line room a → AtMost mostOfLine a
+reads-most (Reads.long h) = record { number = omega arith; place = omega arith; size = omega arith }
+reads-most (Reads.misshapen h (stray k s)) = record { number = omega arith; place = omega (arith, s .inside); size = omega arith }
+reads-most (Reads.misshapen h (short b n)) = record { number = omega arith; place = omega arith; size = omega arith }
+reads-most {line} {room} (Reads.spelled h s e r) = spelling-most s room (omega (arith, reads-place {line = line} {room = room} (Reads.spelled h s e r))) r
+
+-- ---- writing
+
+-- a line, and the columns before it
+abbrev pub mostOfRow : ℕ
+mostOfRow = 4160
+
+pub writes-most : {bytes : List ℕ} {room : ℕ} {a : Answer} → Writes bytes room a → AtMost mostOfRow a
+writes-most (Writes.no-table n) = record { number = omega arith; place = omega arith; size = omega arith }
+writes-most (Writes.long t h l) = record { number = omega arith; place = omega arith; size = omega arith }
+writes-most (Writes.fits t h l d) = delivered-most (omega arith) (omega arith) d
+
+-- ---- two bytes
+
+pub at-most : {m : ℕ} {a : Answer} → m ≤ most → AtMost m a → AtMost most a
+at-most g h = record { number = omega (arith, h .number); place = omega (arith, h .place); size = omega (arith, h .size) }
+
+pub reads-fit : {line : List ℕ} {room : ℕ} {a : Answer} → Reads line room a → AtMost most a
+reads-fit r = at-most (omega arith) (reads-most r)
+
+pub writes-fit : {bytes : List ℕ} {room : ℕ} {a : Answer} → Writes bytes room a → AtMost most a
+writes-fit w = at-most (omega arith) (writes-most w)
+
+pub relabels-fit : {line : List ℕ} {room : ℕ} {a : Answer} → Relabels line room a → AtMost most a
+relabels-fit (refused r n) = let h = reads-fit r in record { number = h .number; place = h .place; size = omega arith }
+relabels-fit (relabelled r e w) = writes-fit w

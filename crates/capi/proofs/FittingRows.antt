@@ -1,0 +1,74 @@
+-- Two bytes hold each number of the answer to a row or a stored row: its columns are short, and its line is answered by few.
+-- Assumes nothing.
+use Prim.Native.Nat.{ℕ, _+_, _≤_}
+use mathlib.Core.Path.{ap}
+use mathlib.Core.List.{List, [], _∷_, _++_}
+use native.Mathlib.Omega.{arith}
+use lib.Dec.{T}
+use lib.ListN.{length, length-append, length-drop}
+use Rattle.lang.specs.Parts.{optText}
+use Rattle.rules.specs.Decimals.{Decimal, decimalText}
+use Rattle.rules.specs.Limits as Limits
+use Rattle.rules.specs.Limits.{maxLine}
+use Rattle.rules.specs.Fields.{Table}
+use Rattle.rules.specs.Preferred.{preferred}
+use Rattle.rules.specs.Answers.{Answer}
+use Rattle.rules.specs.Rows.{Row, tab, thirdText, preferredThird, preferredRow}
+use Rattle.rules.specs.RowAnswers.{Cut, Moves, ReadsThird, ReadsIntensity, ReadsRow, WritesRow}
+use Rattle.read_row.proofs.Decimals.{decimal-short}
+use Rattle.read_row.proofs.Right.{cut-place, cut-rest}
+use Rattle.rows.specs.Relabels.{RelabelsRow}
+use Rattle.pack_answer.specs.Handed.{AtMost, most}
+use Rattle.capi.proofs.Fitting.{delivered-most, mostOfLine, reads-most, mostOfRow, at-most}
+
+-- ---- reading
+
+moved-fit : {head : List ℕ} {at room : ℕ} {line a : Answer} → at ≤ 8320 → AtMost mostOfLine line → Moves head at room line a → AtMost most a
+moved-fit g h (Moves.done e) = record { number = omega arith; place = omega arith; size = omega (arith, h .size) }
+moved-fit g h (Moves.no-room e) = record { number = omega arith; place = omega (arith, h .place); size = omega arith }
+moved-fit g h (Moves.refused e f) = record { number = omega (arith, h .number); place = omega (arith, h .place); size = omega arith }
+
+third-fits : {mz intensity : Decimal} {third : List ℕ} {at room : ℕ} {a : Answer} → at ≤ 8320 → ReadsThird mz intensity third at room a → AtMost most a
+third-fits g (ReadsThird.line r m) = moved-fit g (reads-most r) m
+
+intensity-fits : {mz : Decimal} {bytes : List ℕ} {at room : ℕ} {a : Answer} → at ≤ 4160 → length bytes ≤ 4160 → ReadsIntensity mz bytes at room a → AtMost most a
+intensity-fits g l (ReadsIntensity.bad c b) = record { number = omega arith; place = omega arith; size = omega arith }
+intensity-fits g l (ReadsIntensity.good c d r) = third-fits (omega (arith, cut-place c)) r
+
+-- what stands behind a column is no longer than the whole
+rest-short : {s column more : List ℕ} {place : ℕ} → Cut s column more place → length more ≤ length s
+rest-short {s} {place = place} c = omega (arith, length-drop place s, ap length (cut-rest c))
+
+pub reads-row-fit : {row : List ℕ} {room : ℕ} {a : Answer} → ReadsRow row room a → AtMost most a
+reads-row-fit (ReadsRow.long h) = record { number = omega arith; place = omega arith; size = omega arith }
+reads-row-fit (ReadsRow.bad h c b) = record { number = omega arith; place = omega arith; size = omega arith }
+reads-row-fit (ReadsRow.good h c d r) = intensity-fits (omega (arith, cut-place c)) (omega (arith, rest-short c)) r
+
+-- ---- writing
+
+third-short : (t : Table) → length (preferred t) ≤ maxLine → length (optText thirdText (preferredThird t)) ≤ 4097
+third-short [] h = omega arith
+third-short (a ∷ t) h = omega (arith, length-append tab (preferred (a ∷ t)))
+
+row-short : (r : Row) → T (Limits.fits (r .mz)) → T (Limits.fits (r .intensity)) → length (preferred (r .table)) ≤ maxLine → length (preferredRow r) ≤ mostOfRow
+row-short r m i h =
+    let third = optText thirdText (preferredThird (r .table)) in
+    let second = decimalText (r .intensity) ++ third in
+    omega (
+      arith,
+      length-append (decimalText (r .mz)) (tab ++ second),
+      length-append tab second,
+      length-append (decimalText (r .intensity)) third,
+      decimal-short (r .mz) m,
+      decimal-short (r .intensity) i,
+      third-short (r .table) h,
+    )
+
+pub writes-row-fit : {bytes : List ℕ} {room : ℕ} {a : Answer} → WritesRow bytes room a → AtMost most a
+writes-row-fit (WritesRow.no-row n) = record { number = omega arith; place = omega arith; size = omega arith }
+writes-row-fit (WritesRow.long r h l) = record { number = omega arith; place = omega arith; size = omega arith }
+writes-row-fit (WritesRow.fits r h l d) = at-most (omega arith) (delivered-most (row-short r (h .mz) (h .intensity) l) (omega arith) d)
+
+pub relabels-row-fit : {row : List ℕ} {room : ℕ} {a : Answer} → RelabelsRow row room a → AtMost most a
+relabels-row-fit (RelabelsRow.refused r n) = let h = reads-row-fit r in record { number = h .number; place = h .place; size = omega arith }
+relabels-row-fit (RelabelsRow.relabelled r e w) = writes-row-fit w

@@ -1,0 +1,27 @@
+-- `capi::mzpaf_read_row_with` meets its contract: the model's answer, packed. Assumes nothing.
+use Rattle.pack_answer.proofs.Packs.{handed-on}
+use borrow.Author.Needs.{needs}
+use Rattle.capi.proofs.mzpaf_read_row_with.Statement.{statement}
+use Rattle.capi.proofs.mzpaf_read_row_with.Tie as tie
+
+read-row-by-requires : tie.Need-read-row-by-requires
+read-row-by-requires c κs = search needs
+
+hand-over-requires : tie.Need-hand-over-requires
+hand-over-requires c κs = search needs
+
+same-length : tie.Need-same-length
+same-length c = search needs
+
+same-length-2 : tie.Need-same-length-2
+same-length-2 c = search needs
+
+returns : tie.Need-returns
+returns c =
+    let at-hand = c .before .before .before .before in
+    let at-call = at-hand .before .before .before .before .before in
+    handed-on _ (at-call .read-row-by .kept .1 .1 .0) (at-call .read-row-by .ensures) (at-hand .hand-over .ensures)
+
+pub mzpaf-read-row-with-spec : {M : Type 1} → statement M
+mzpaf-read-row-with-spec =
+    tie.close (tie.spec read-row-by-requires hand-over-requires same-length same-length-2 returns)

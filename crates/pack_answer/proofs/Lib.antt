@@ -1,0 +1,3 @@
+-- Laws of answers that are packed.
+pub mod Packs
+pub mod One

@@ -1,0 +1,100 @@
+/*
+ * mzpaf.h: labels of peaks in mzPAF, read and written. Link target/staticlib/libcapi.a (`rt staticlib capi`), for Linux on x86-64;
+ * besides it memcpy and memset of any C library are needed, and nothing else.
+ *
+ * Every call takes pointers with a length in bytes behind each, and returns a number: 0 where all went well, else why not.
+ *
+ *   in      the bytes that are read: a line, a table, a row. No zero at the end is needed or looked for.
+ *   out     where the result goes. On 0 it holds the result and zeros behind it, on any other number zeros throughout.
+ *   answer  six bytes or more: number, place and length, each a uint16_t, lowest byte first; zeros behind the sixth.
+ *           Take them with mzpaf_number, mzpaf_place and mzpaf_length.
+ *           With fewer than six bytes the call returns 8, and both buffers are zero throughout; 8 with six bytes or more
+ *           says that out is too short, and then the place is the number of bytes that it needs.
+ *
+ *   number  0 done; 1 longer than 4,096 bytes (a row: 4,160); 2 a stray byte; 3 could still become a line; 4 a number past its bound;
+ *           5 too many; 6 a rule for one annotation is broken; 7 the confidences exceed 1; 8 too short a buffer; 9 the bytes are no
+ *           table or stored row; 12 a bad m/z; 13 a bad intensity. docs/REFUSALS.md says each in plain words.
+ *   place   the byte of in that the number speaks of, counted from 0; for 8 the bytes needed; 0 for 0 and 9.
+ *   length  how many bytes of out the result has; 0 unless the number is 0.
+ *
+ * Who owns what: the caller owns every buffer, and may free or reuse it once the call has returned. Nothing is allocated, kept or
+ * written but out, answer and the machine that is prepared. All bytes of out and answer are written by every call, so they need not
+ * be set before. out and answer must not overlap each other or anything else that the call is given.
+ * A null pointer is good where the length is 0, for every buffer.
+ *
+ * Threads: there is no state. Calls may run at the same time as long as none writes what another uses; a prepared machine is only
+ * read, so that one may serve all threads.
+ *
+ * Stack, as measured: by a prepared machine 7 KB, and 118 KB where a table of more than 1,024 bytes is written; to prepare one 57 KB, and
+ * so for the calls that make their own, which take 137 KB to write.
+ */
+#ifndef MZPAF_H
+#define MZPAF_H
+
+#include <stddef.h>
+#include <stdint.h>
+
+#ifdef __cplusplus
+extern "C" {
+#endif
+
+#define MZPAF_ANSWER_SIZE 6       /* bytes of an answer */
+#define MZPAF_MACHINE_SIZE 18688  /* bytes of a machine */
+#define MZPAF_MAX_LINE 4096       /* bytes of a line, and enough for every result of mzpaf_write and mzpaf_relabel */
+#define MZPAF_MAX_ROW 4160        /* bytes of a row, and enough for every result of mzpaf_write_row and mzpaf_relabel_row */
+#define MZPAF_MAX_TABLE 21340     /* enough for every result of mzpaf_read */
+#define MZPAF_MAX_STORED_ROW 21360  /* enough for every result of mzpaf_read_row */
+
+/* ---- one line, one table, one row of a peak list. These make the machine at each call, which takes some 12 microseconds; whoever has
+ *      many should prepare one and use the calls below. */
+
+/* The table that a line spells. docs/TABLE.md has its bytes. */
+uint16_t mzpaf_read(const uint8_t *line, size_t line_len, uint8_t *out, size_t out_len, uint8_t *answer, size_t answer_len);
+
+/* The line that spells a table, in preferred spelling. */
+uint16_t mzpaf_write(const uint8_t *table, size_t table_len, uint8_t *out, size_t out_len, uint8_t *answer, size_t answer_len);
+
+/* A line in preferred spelling: what mzpaf_write gives for what mzpaf_read gives. */
+uint16_t mzpaf_relabel(const uint8_t *line, size_t line_len, uint8_t *out, size_t out_len, uint8_t *answer, size_t answer_len);
+
+/* The stored form of a row: m/z, a tab, intensity, and perhaps a tab and a line; no line feed. It is 20 bytes and a table. */
+uint16_t mzpaf_read_row(const uint8_t *row, size_t row_len, uint8_t *out, size_t out_len, uint8_t *answer, size_t answer_len);
+
+/* The row of a stored row, in preferred spelling, without a line feed. */
+uint16_t mzpaf_write_row(const uint8_t *stored, size_t stored_len, uint8_t *out, size_t out_len, uint8_t *answer, size_t answer_len);
+
+/* A row in preferred spelling. */
+uint16_t mzpaf_relabel_row(const uint8_t *row, size_t row_len, uint8_t *out, size_t out_len, uint8_t *answer, size_t answer_len);
+
+/* ---- the same by a lent machine */
+
+/* Puts the machine into a buffer of MZPAF_MACHINE_SIZE bytes or more, zeros behind it, and returns 0. A shorter buffer is zeroed, and 8
+ * is returned. The buffer may be moved or copied; its bytes are the same on every machine. */
+uint16_t mzpaf_prepare(uint8_t *machine, size_t machine_len);
+
+/* With a machine that was not prepared the answers mean nothing, but there is one, and no fault: nothing is read or written outside the
+ * buffers. */
+uint16_t mzpaf_read_with(const uint8_t *machine, size_t machine_len, const uint8_t *line, size_t line_len, uint8_t *out, size_t out_len,
+                         uint8_t *answer, size_t answer_len);
+uint16_t mzpaf_write_with(const uint8_t *machine, size_t machine_len, const uint8_t *table, size_t table_len, uint8_t *out, size_t out_len,
+                          uint8_t *answer, size_t answer_len);
+uint16_t mzpaf_relabel_with(const uint8_t *machine, size_t machine_len, const uint8_t *line, size_t line_len, uint8_t *out, size_t out_len,
+                            uint8_t *answer, size_t answer_len);
+uint16_t mzpaf_read_row_with(const uint8_t *machine, size_t machine_len, const uint8_t *row, size_t row_len, uint8_t *out, size_t out_len,
+                             uint8_t *answer, size_t answer_len);
+uint16_t mzpaf_write_row_with(const uint8_t *machine, size_t machine_len, const uint8_t *stored, size_t stored_len, uint8_t *out,
+                              size_t out_len, uint8_t *answer, size_t answer_len);
+uint16_t mzpaf_relabel_row_with(const uint8_t *machine, size_t machine_len, const uint8_t *row, size_t row_len, uint8_t *out, size_t out_len,
+                                uint8_t *answer, size_t answer_len);
+
+/* ---- the three numbers of an answer of six bytes or more */
+
+static inline uint16_t mzpaf_number(const uint8_t *answer) { return (uint16_t)(answer[0] | answer[1] << 8); }
+static inline uint16_t mzpaf_place(const uint8_t *answer) { return (uint16_t)(answer[2] | answer[3] << 8); }
+static inline uint16_t mzpaf_length(const uint8_t *answer) { return (uint16_t)(answer[4] | answer[5] << 8); }
+
+#ifdef __cplusplus
+}
+#endif
+
+#endif
