@@ -12,13 +12,13 @@
 static uint8_t row[MZPAF_MAX_ROW + 1];
 
 /* Prints one annotation of a line that was read, up to its deviation or confidence, and returns where the next begins. Neither `/`, `*`
- * nor `,` ends it inside braces or brackets; inside braces a bracket is a byte like others. */
+ * nor `,` ends it inside braces or brackets; inside braces a bracket is a byte like others, and inside brackets a brace. */
 static size_t draw(const uint8_t *text, size_t at, size_t end)
 {
     int braced = 0, depth = 0, drawn = 1;
     for (; at < end; at++) {
         uint8_t b = text[at];
-        if (b == '{' || b == '}')
+        if (depth == 0 && (b == '{' || b == '}'))
             braced = b == '{';
         else if (!braced)
             depth += (b == '[') - (b == ']');

@@ -1,28 +1,39 @@
 #!/usr/bin/env python3
-"""The cases of the programs `reads` and `try_read_sized`: their inputs, and what the rules say of them in words.
+"""The cases of the programs `reads`, `relabel` and `try_read_sized`: their inputs, and what the rules say of them in words.
 
-    python3 tools/cases.py                   writes crates/reads/stdin and crates/try_read_sized/stdin
-    python3 tools/cases.py --check           holds the stored outputs to what is stated here; prints differences
-    python3 tools/cases.py --with PROGRAM    makes the stored outputs by a reader of lines, then checks
+    python3 tools/cases.py                  writes the stored inputs of the three programs, crates/NAME/stdin
+    python3 tools/cases.py --check          holds the stored outputs to what is stated here; prints differences
+    python3 tools/cases.py --with FOLDER    makes the stored outputs by the programs `cross` and `relabel` in FOLDER, then checks
 
-PROGRAM reads lines from standard input and prints `NUMBER PLACE LENGTH HEX` for each, HEX being `-` where there is no table;
-with `--out N` it does so with an output of N bytes. It is a reader other than this repository's, so that two readers agree on the
-stored outputs. A line has any bytes but the line feed. Each case is a line with its answer, where document 01, a request of document
-02 that has landed, or a reading in docs/DECISIONS.md states it (`no` a refusal, `yes` a table), or without one (`ask`).
+`cross` reads lines from standard input and prints `NUMBER PLACE LENGTH HEX` for each, HEX being `-` where there is no table; with `--out N`
+it does so with an output of N bytes. `relabel` prints the preferred spelling of each, or `!NUMBER PLACE`. Both are of an implementation
+other than this repository's, so that two agree on the stored outputs, and are told which requests have landed (`LANDED`). A line has any
+bytes but the line feed. Each case is a line with its answer, where document 01, a request of document 02 that has landed, or a reading in
+docs/DECISIONS.md states it (`no` a refusal, `yes` a table, `best` also the preferred spelling), or without one (`ask`). What `relabel` is to
+print follows from what `reads` does: the refusal, or the spelling of the table by tools/decode.py.
 """
 import itertools
 import os
 import subprocess
 import sys
 
+sys.dont_write_bytecode = True
+import decode
+
+# The flags of the other implementation for the requests that have landed here and change answers.
+LANDED = ("--m100", "--m102")
+
 ROOT = os.path.join(os.path.dirname(os.path.abspath(__file__)), "..", "crates")
-ROOM = 21340
+ROOM, MAX_LINE = 21340, 4096
+# What document 01 gives the relabel program; its input begins so.
+SHOWN = (b"y5-NH3-H2O/0.20ppm", b"y1^1")
 
 lines = []    # in order
 stated = {}   # line: (number, place)
 sizes = {}    # line: bytes of its table
 equal = []    # lines that read to one table
 unequal = []  # lines that read to two
+spelled = {}  # line: its preferred spelling
 texts = {}    # line: the bytes of its text section
 units = {}    # line: its units, (nucleons, atomic number, count)
 
@@ -67,9 +78,21 @@ def differ(a, b):
     unequal.append((raw(a), raw(b)))
 
 
+def best(spelling, *others):
+    """All read to one table, whose preferred spelling is the first."""
+    same(spelling, *others)
+    spelled.update((raw(line), raw(spelling)) for line in (spelling, *others))
+
+
 def text(line, expected):
     yes(line)
     texts[raw(line)] = raw(expected)
+
+
+def kept(line, expected):
+    """Read, to a table with this text, and given back as it stands."""
+    text(line, expected)
+    spelled[raw(line)] = raw(line)
 
 
 def made_of(line, *expected):
@@ -405,6 +428,211 @@ def points():
     no(filled(4097, 16), 1, 4096)
 
 
+def nested():
+    """Names with brackets inside. Document 02, M-100. The head of each kind of name: reference, modification, loss."""
+    heads = ("r[", "IC[", "y1-[", "&3@y1+2[")
+    for name in ("Hex[a[b]]c", "a[b]", "a[]", "a[][]", "a[[]]", "a[b][c]", "a[b]c[d]e", "Cation:Ca[II]", "a[M+H]", "M[+]", "M[+H]", "M2[-]", "H[2H1]", "H[13C]",
+                 "a[,]", "a[b,c/d]", "a[{]", "a[}]", "a[{x}]{", "a[+1-2*.5/0.1^2&@?]", "a[ ]", "a [b] ", "a[b[c[d[e[f]]]]]"):
+        for head in heads:
+            kept(head + name + "]", name)
+    for name in ("[]", "[][]", "[[]]", "[a]", "[a]b", "[[[]]]", "[M+]", "[M+]H", "[M-H]", "[2H1]", "[,]", "[ ]"):
+        for head in heads[:2]:
+            kept(head + name + "]", name)
+        # the name of a loss begins with a letter
+        for head in heads[2:]:
+            no(head + name + "]", 2, len(head))
+    for byte in (bytes([b]) for b in range(256) if b != 10 and bytes([b]) not in b"[]"):
+        if 32 <= byte[0] <= 126:
+            kept(b"r[a[" + byte + b"]]", b"a[" + byte + b"]")
+        else:
+            no(b"r[a[" + byte + b"]]", 2, 4)
+    for byte in ("\0", "\t", "\r", "\x1f", "\x7f", b"\x80", b"\xff"):
+        for head in heads:
+            no(raw(head + "a[b") + raw(byte) + b"]]", 2, len(head) + 3)
+    unpaired(heads)
+    immonium_names()
+    several_names()
+    orders_of_names()
+    long_names(heads)
+    deep_names(heads)
+    # each beginning of a name is 3, and a line is no line before it is closed
+    for head in heads:
+        whole = head + "Hex[a[b]]c[[]d[e]]]"
+        for n in range(len(head), len(whole)):
+            no(whole[:n], 3, n)
+        yes(whole)
+    long = "&12@r[Hex[a[b]]c]-[Hexa]-2[Hex[1[2]]x]+[a[]]+[2H2]+2i13C[M+[2H2]-e]^23/-0.20ppm*.50,IC[[M+]2],IC[M[-]]-[x[y]][M+H],_{a[b},r[c]"
+    for n in range(len(long)):
+        ask(long[:n])
+    best(long.replace("-[Hexa]-2[Hex[1[2]]x]+[a[]]+[2H2]", "+[2H2]-2[Hex[1[2]]x]-[Hexa]+[a[]]").replace(".50", "0.50"), long)
+
+
+def unpaired(heads):
+    """More that close than are open is 2, at the first too many; fewer is 3, at the end, whatever stands there."""
+    no("r[a[b]", 3, 6)
+    no("r[a]]", 2, 4)
+    no("y1-[[a]]", 2, 4)
+    no("r[]", 2, 2)
+    no("r[]]", 2, 2)
+    no("r[[", 3, 3)
+    no("r[[]", 3, 4)
+    no("r[[[]]]]", 2, 7)
+    no("r[a]b]", 2, 4)
+    no("r[a][b]", 2, 5)
+    no("r[a]][", 2, 4)
+    no("r]a[", 2, 1)
+    for head in heads:
+        n = len(head)
+        no(head + "]", 2, n)
+        no(head + "]a[]", 2, n)
+        for short in ("a[", "a[b", "a[[", "a[[]", "a[b]", "a[b[c]", "a[b],y1", "a[b][M+H]", "a[b-[c]", "a[^2/0.1*.5", "a[{x}"):
+            no(head + short, 3, n + len(short))
+        for closed in ("a]", "a[]]", "a[b]]", "a[b[c]]]", "a[b][c]d]", "a[[][]]]"):
+            no(head + closed + "]", 2, n + len(closed))
+            no(head + closed + "][", 2, n + len(closed))
+    # wherever no bracket is open
+    for before in ("", "&", "0@", "y", "y1", "y1{a}", "m2:3", "m2:3{a}", "I", "IC", "IC[a]", "p", "r", "r[a[b]]", "_{a}", "f{", "f{C", "f{[13C1]",
+                   "f{C}", "s{C}", "?", "y1-", "y1-2", "y1-H", "y1-[13C1]", "y1-[a[b]]", "y1+", "y1+i", "y1+i13", "y1+i13C", "y1[M", "y1[M+",
+                   "y1[M+H]", "y1[M+[13C1]]", "y1^", "y1^2", "y1/", "y1/0.1", "y1/0.1ppm", "y1*", "y1*.", "y1*0.5", "y1,"):
+        no(before + "]", 2, len(before))
+
+
+def immonium_names():
+    """A modification may hold `M+` and `M-` anywhere but in front; behind `IC[M+` stands an adduct item."""
+    kept("IC[[M+]]", "[M+]")
+    kept("IC[M[+]]", "M[+]")
+    kept("IC[M[+]][M+H]", "M[+]")
+    kept("IC[M[+H]]", "M[+H]")
+    best("IC[M[+H]][M+H+Na]", "IC[M[+H]][M+Na+1H]")
+    kept("IC[[M+H]][M+H]", "[M+H]")
+    kept("IC[[]][M+H]", "[]")
+    kept("IC[M[M+H]][M+H]", "M[M+H]")
+    kept("IC[m+[x]]", "m+[x]")
+    made_of("IC[M+[2H1]]", (2, 1, 1))
+    made_of("IC[M+H[2H1]]", (0, 1, 1), (2, 1, 1))
+    no("IC[M+[x]]", 2, 6)
+    no("IC[M-[x]]", 2, 6)
+    no("IC[M+[]]", 2, 6)
+    no("IC[M+H[x]]", 2, 7)
+    no("IC[M-2[2H1]x]", 2, 11)
+    no("IC[M+[2H1]][a]", 2, 11)
+    no("IC[M+H][a[b]]", 2, 7)
+    no("IC[a[b]][c]", 2, 9)
+    no("IC[M[+", 3, 6)
+    no("IC[M[+]", 3, 7)
+    no("IC[M[+]]]", 2, 8)
+    # a loss may: the rule is for modifications alone
+    kept("y1-[M+[x]]", "M+[x]")
+    kept("r[M+[x]]", "M+[x]")
+    no("p[M+[a]]", 2, 5)
+    no("p[[M+H]]", 2, 2)
+
+
+def several_names():
+    """Each name counts its own brackets, and texts in braces none."""
+    text("r[a[b]],r[c]", "a[b]" "c")
+    text("r[[]]-[x]", "[]" "x")
+    text("r[a[b]]-[c[d[e]]]-[f],IC[[g]h]-[i[]]", "a[b]" "c[d[e]]" "f" "[g]h" "i[]")
+    text("_{a[b},r[c]", "a[b" "c")
+    text("_{a]b},r[c[d]]", "a]b" "c[d]")
+    text("r[a{b],_{c]}", "a{b" "c]")
+    text("y1{A[b]C}-[a[b]],s{C[O-]}-[a[b]][M+H]", "A[b]C" "a[b]" "C[O-]" "a[b]")
+    text("r[a[b]][M+[2H1]],r[c]", "a[b]" "c")
+    text("y1-[a[M+H]][M+H]", "a[M+H]")
+    made_of("y1-[H[2H1]]-H[2H1]", (0, 1, 1), (2, 1, 1))
+    yes(joined(16, "r[a[b]]"), 28 + 16 * 36 + 16 * 4)
+    no(joined(17, "r[a[b]]"), 5, 16 * 8)
+    no("r[a[b]],r[c]]", 2, 12)
+    no("r[a[b]],r[c[d]", 3, 14)
+    no("r[a[b],r[c]", 3, 11)
+    no("r[a[b]]-[c]]", 2, 11)
+    no("r[a[b]]-[]", 2, 9)
+    no("r[[[]]],r[]", 2, 10)
+    no("_{a[},r[b]]", 2, 10)
+    no("y1-[a[b]]-[c[d]", 3, 15)
+    no("y1-[a[b]]-[[d]]", 2, 11)
+    no("y1-[a[b]][M+H]]", 2, 14)
+    # limits and rules go on behind them
+    no("r[a[b]]^256", 4, 8)
+    no("r[a[b]],m1:3", 6, 8)
+    no("r[a[b]]/-0.0", 6, 0)
+    no("r[a[b]]*.7,IC[[M+]]*.31", 7, 11)
+    no("y1" + "-[a[b]]" * 9, 5, 2 + 8 * 7)
+    yes("y1" + "-[a[b]]" * 8, 28 + 36 + 8 * 6 + 8 * 4)
+
+
+def orders_of_names():
+    """`[` ranks below every byte inside names too, and `]` where its byte does."""
+    best("y1-[Hex[x]]-[Hexa]", "y1-[Hexa]-[Hex[x]]")
+    text("y1-[Hexa]-[Hex[x]]", "Hex[x]" "Hexa")
+    best("y1-[2H1]-[H[a]]", "y1-[H[a]]-[2H1]")
+    best("y1-[H[2H1]]-H[2H1]-H2", "y1-H2-H[2H1]-[H[2H1]]", "y1-H[2H1]-[H[2H1]]-H2")
+    best("y1-[Hex[x]]-[Hex]", "y1-[Hex]-[Hex[x]]")
+    best("y1-[Hex[[]]]-[Hex[]]", "y1-[Hex[]]-[Hex[[]]]")
+    best("y1-[a[b][c]]-[a[b]B]-[a[b]]-[a[b]c]", "y1-[a[b]c]-[a[b]]-[a[b]B]-[a[b][c]]")
+    best("y1-[a[[]]]-[a[ ]]-[a[~]]", "y1-[a[~]]-[a[ ]]-[a[[]]]")
+    best("y1-[a[b]]-2[a[b]]-10[a[b]]+[a[b]]+3[a[b]]", "y1+3[a[b]]+[a[b]]-10[a[b]]-2[a[b]]-[a[b]]")
+    for parts in (["-[Hex[x]]", "-[HexNAc]", "-[Hex]", "-[Hexa]"], ["-[a[]]", "-[a[][]]", "-[a[]a]", "-[a[]A]"], ["-[a[b]c]", "-[a[b]]", "-[a[bc]]", "-[a[B]]"],
+                  ["-[M[+H]]", "-[M+H]", "-[13C1]", "-C[13C1]"], ["-[x[]]", "+[x[]]", "-2[x[]]", "-[x]"]):
+        same(*rotations("y9", parts))
+    eight = ["-[a[b]]", "-[a]", "-[a[[b]]]", "+[a[]]", "-[ab]", "-2[a[b]]", "-[13C1]", "-C"]
+    best("y9-[13C1]-[a[[b]]]+[a[]]-[a[b]]-2[a[b]]-[a]-[ab]-C", *rotations("y9", eight))
+
+
+def long_names(heads):
+    """255 bytes, brackets among them, and one more."""
+    for head in heads:
+        for fits in ("x" + "[]" * 127, "x[" + "y" * 252 + "]", "x" + "[" * 127 + "]" * 127, "x" * 253 + "[]", "x[" * 84 + "y" * 3 + "]" * 84):
+            assert len(fits) == 255
+            text(head + fits + "]", fits)
+            no(head + fits + "z]", 5, len(head) + 255)
+        for past in ("x" + "[]" * 128, "x" * 250 + "[" + "y" * 20 + "]", "x" * 254 + "[]", "x" + "[" * 200 + "]" * 200, "x[" + "y" * 253 + "]"):
+            no(head + past + "]", 5, len(head) + 255)
+    for head in heads[:2]:
+        for fits in ("[]" * 127 + "x", "[" * 127 + "x" + "]" * 127, "[" * 100 + "]" * 100 + "[]" * 27 + "x"):
+            assert len(fits) == 255
+            text(head + fits + "]", fits)
+        for past in ("[]" * 128, "[" * 128 + "]" * 128, "[]" * 127 + "xy"):
+            assert len(past) == 256
+            no(head + past + "]", 5, len(head) + 255)
+    whole = "r[" + "[]" * 127 + "x]"
+    yes(joined(15, whole), 28 + 15 * (36 + 255))
+    no("r[" + "[]" * 128 + "]^256", 5, 257)
+    no("y65536,r[" + "[]" * 128 + "]", 4, 1)
+    no("y1-[x" + "[]" * 128 + "],r[" + "[]" * 128 + "]", 5, 4 + 255)
+    # 4,096 bytes of names, and one more
+    full = ["r[" + "[]" * 126 + "]"] * 15
+    yes(",".join(full + ["r[" + "[]" * 126 + "x]"]), 28 + 16 * 36 + 4033)
+    no(",".join(full + ["r[" + "[]" * 127 + "]"]), 1, 4096)
+
+
+def deep_names(heads):
+    """Brackets of any depth: the shape has no bound but the line's."""
+    no("r[" + "[" * 2000, 3, 2002)
+    no("r[" + "[" * 4094, 3, 4096)
+    no("r[" + "[" * 4095, 1, 4096)
+    no("r[" + "[" * 4096, 1, 4096)
+    no("r[" + "[" * 2000 + "]" * 2000 + "]", 5, 257)
+    no("r[" + "[" * 2046 + "]" * 2046 + "]", 5, 257)
+    no("r[" + "[" * 2046 + "]" * 2046 + "]]", 2, 4095)
+    no("r[" + "[" * 2047 + "]" * 2047, 3, 4096)
+    no("r[" + "[]" * 2046 + "]", 5, 257)
+    no("r[" + "[]" * 2047, 3, 4096)
+    no("r[" + "[" * 2000 + "]" * 2000, 3, 4002)
+    no("r[" + "[" * 2000 + "]" * 1999 + "]],y1", 5, 257)
+    no("r[" + "[" * 2000 + "\x7f", 2, 2002)
+    for depth in (127, 128, 255, 256, 257, 512, 2040):
+        for head in heads:
+            begun = head + "x" + "[" * depth
+            no(begun + "]", 3, len(begun) + 1)
+            no(begun + "]" * depth, 3, len(begun) + depth)
+            no(begun + "]" * (depth + 2), 2, len(begun) + depth + 1)
+            if depth > 127:
+                no(begun + "]" * (depth + 1), 5, len(head) + 255)
+            else:
+                text(begun + "]" * (depth + 1), "x" + "[" * depth + "]" * depth)
+
+
 def filled(size, zeros):
     """A line of so many bytes that is read: 16 annotations, of which so many have a confidence without its 0, and the others none."""
     parts = ["_{%s}" + ("*.0" if i < zeros else "") for i in range(16)]
@@ -566,6 +794,8 @@ def strays():
             no(b"_{a" + one + b"}", 2, 3)
         if printable and one not in b"[]":
             text(b"r[a" + one + b"]", b"a" + one)
+        elif one == b"[":
+            no(b"r[a[]", 3, 5)
         elif one != b"]":
             no(b"r[a" + one + b"]", 2, 3)
         ask(one)
@@ -594,6 +824,9 @@ def rooms():
         ("f{C16H22O}", (1, 0, 0, 0, 3, 0)),
         ("&1@y7{PEPTIDE}-H2O+[Hex]+2i13C-i15N[M+Na-2e]^3/-0.20ppm*0.50", (1, 2, 2, 2, 3, 10)),
         ("_{" + "x" * 255 + "}," + "r[" + "y" * 255 + "]", (2, 0, 0, 0, 0, 510)),
+        ("r[[]]", (1, 0, 0, 0, 0, 2)),
+        ("IC[M[+]]-[Hexa]-[Hex[x]][M+H]", (1, 2, 0, 1, 1, 14)),
+        ("r[" + "[]" * 127 + "x]", (1, 0, 0, 0, 0, 255)),
         ("f{" + "H" * 12 + "}" + ("-" + "H" * 12) * 8 + "[M" + ("+" + "H" * 12) * 4 + "]", (1, 8, 0, 4, 156, 0)),
         (joined(16, "p"), (16, 0, 0, 0, 0, 0)),
         (joined(16, "f{" + "H" * 12 + "}" + ("-" + "H" * 12) * 8 + "[M" + ("+" + "H" * 12) * 4 + "]"), (16, 128, 0, 64, 2496, 0)),
@@ -604,7 +837,8 @@ def rooms():
         for room in (size, size - 1, size + 1, 0, 27, ROOM):
             made.append((room, raw(line), (0, 0, size) if size <= room else (8, size, 0)))
     # refusals by other numbers go before 8
-    for line, number, place in (("y1^1", 3, 4), ("y1 ", 2, 2), ("y65536", 4, 1), (joined(17, "p"), 5, 32), ("m1:3", 6, 0), ("y1*0.7,b2*0.7", 7, 7), ("x" * 4097, 1, 4096)):
+    for line, number, place in (("y1^1", 3, 4), ("y1 ", 2, 2), ("y65536", 4, 1), (joined(17, "p"), 5, 32), ("m1:3", 6, 0), ("y1*0.7,b2*0.7", 7, 7),
+                                ("x" * 4097, 1, 4096), ("r[a[b]", 3, 6), ("r[a]]", 2, 4), ("r[" + "[]" * 128 + "]", 5, 257)):
         for room in (0, 1, 28, ROOM):
             made.append((room, raw(line), (number, place, 0)))
     return made
@@ -644,6 +878,18 @@ def checked_reads(answers):
             yield line, expected, got
 
 
+def checked_spellings(read, answers):
+    """Differences between the stored answers of `relabel` and what follows from those of `reads`, and from the stated spellings."""
+    for line, told, answer in zip(lines, read, answers[len(SHOWN):]):
+        number, place, _, digits = told.split(b" ")
+        table = bytes.fromhex(digits.decode()) if number == b"0" else b""
+        due = decode.shown(decode.decoded(table), table, True).encode() if table else b"!" + number + b" " + place
+        if len(due) > MAX_LINE:
+            due = b"!1 %d" % MAX_LINE
+        if answer != due or spelled.get(line, due) != due:
+            yield line, spelled.get(line, due), answer
+
+
 def pair(table, at, n=2):
     """n numbers of two bytes each."""
     return [int.from_bytes(table[at + 2 * i:at + 2 * i + 2], "little") for i in range(n)]
@@ -663,6 +909,9 @@ def check(made):
     answers = stored("reads", "stdout").split(b"\n")[:-1]
     assert len(answers) == len(lines), (len(answers), len(lines))
     wrong = list(checked_reads(answers))
+    spellings = stored("relabel", "stdout").split(b"\n")[:-1]
+    assert len(spellings) == len(SHOWN) + len(lines), (len(spellings), len(lines))
+    wrong += checked_spellings(answers, spellings)
     answers = stored("try_read_sized", "stdout").split(b"\n")[:-1]
     assert len(answers) == len(made), (len(answers), len(made))
     for (room, line, expected), answer in zip(made, answers):
@@ -675,22 +924,26 @@ def check(made):
     return not wrong
 
 
-def answers_by(program, given, *words):
-    return subprocess.run([program, *words], input=given, stdout=subprocess.PIPE, check=True).stdout
+def answers_by(folder, name, given, *words):
+    """What a program of the other implementation prints."""
+    return subprocess.run([os.path.join(folder, name), *LANDED, *words], input=given, stdout=subprocess.PIPE, check=True).stdout
 
 
 def main(words):
-    for part in (examples, readings, specification, lengths, counted, numbered, together, sums, points, spellings, orders, kinds, unfinished, strays):
+    for part in (examples, readings, specification, lengths, counted, numbered, together, sums, points, nested, spellings, orders, kinds,
+                 unfinished, strays):
         part()
     made = rooms()
     if words[:1] == ["--check"]:
         return 0 if check(made) else 1
     # the last line lacks its line feed, as it may
     store("reads", "stdin", b"\n".join(lines))
+    store("relabel", "stdin", b"\n".join([*SHOWN, *lines]))
     store("try_read_sized", "stdin", b"".join(b"%d " % room + line + b"\n" for room, line, _ in made))
     if words[:1] == ["--with"]:
-        store("reads", "stdout", answers_by(words[1], stored("reads", "stdin")))
-        store("try_read_sized", "stdout", b"".join(answers_by(words[1], line + b"\n", "--out", str(room)) for room, line, _ in made))
+        store("reads", "stdout", answers_by(words[1], "cross", stored("reads", "stdin")))
+        store("relabel", "stdout", answers_by(words[1], "relabel", stored("relabel", "stdin")))
+        store("try_read_sized", "stdout", b"".join(answers_by(words[1], "cross", line + b"\n", "--out", str(room)) for room, line, _ in made))
         return 0 if check(made) else 1
     return 0
 

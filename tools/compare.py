@@ -6,7 +6,8 @@
 OURS and OTHER are programs that read lines from standard input and print one answer a line: "tools/run reads" and another reader,
 or "tools/run relabel" and another relabel program. Each is a path, or words between quotes.
 N (100,000 unless said) lines are made from good ones by damage: bytes and whole parts deleted, inserted, swapped, repeated; numbers
-moved to their bounds; parts repeated past their limits; long lines. FILE holds the good lines, one a line; without it the inputs of
+moved to their bounds; parts repeated past their limits; long lines. Some names have brackets inside, of a depth up to 6; brackets are put
+in, dropped, turned and moved, at times some thousands of them. FILE holds the good lines, one a line; without it the inputs of
 the program `reads` and lines made here serve. The same S makes the same lines. Prints each difference (K of them, 20 unless said)
 and how often each number was answered; the exit status is 1 where the answers differ.
 """
@@ -26,13 +27,53 @@ TEXTS = ["PEPTIDE", "a,b/c", "CN=C=O", "C(=O)[O-]", "x", "Urocanic Acid", "[M+H]
 EDGES = [0, 1, 2, 3, 9, 10, 11, 99, 254, 255, 256, 998, 999, 1000, 1001, 65534, 65535, 65536, 65537, 99999, 1000000, 2**32, 2**64, 10**12]
 DECIMALS = ["0", "0.0", "0.1", "0.05", "0.01", "0.02", "0.5", "0.25", "1", "1.0", "1.000000001", "0.999999999", "0.000000001", "0.1234567890", "123456789012", "1234567890123",
             "123.123456789", "1234.123456789", "0.70", "2", "99.5", "0.333333333", "0.000000000"]
+# What stands before the first bracket inside a name that need not begin with a letter; between brackets, or beside them.
+BEFORE = ["", "", "M", "x", "2"]
+INSIDE = ["", "", "", "a", "x", "Hex", "M+", "M-H", "2H1", "13C", ",", "/0.5", "{", "}", "+i", "*.5", " ", "^2", "II"]
 ALPHABET = b"yb12350m:I[]{}()+-^/*,.@&?_fsrpM HCNOeiAa\x00\x7f\xff\r~"
+
+
+def nested(chance, depth):
+    """A name, or a part of one, with brackets inside that pair up, at most so deep."""
+    made = chance.choice(INSIDE)
+    for _ in range(chance.choice([1, 1, 1, 2, 3])):
+        inner = nested(chance, depth - 1) if depth > 1 and chance.random() < 0.5 else chance.choice(INSIDE)
+        made += "[" + inner + "]" + chance.choice(INSIDE)
+    return made
+
+
+def brackets_changed(chance, text):
+    """Bytes with a bracket more or fewer, turned, or in another place; or with so many that they are deep."""
+    places = [i for i, b in enumerate(text) if b in b"[]"]
+    at = chance.choice(places) if places and chance.random() < 0.7 else chance.randint(0, len(text))
+    how = chance.randrange(7)
+    if how == 0:
+        return text[:at] + chance.choice([b"[", b"]", b"[]", b"][", b"[[]", b"[]]"]) + text[at:]
+    if how == 1:
+        return text[:at] + text[at + 1:]
+    if how == 2:
+        return text[:at] + (b"[" if text[at:at + 1] == b"]" else b"]") + text[at + 1:]
+    if how == 3:
+        rest, to = text[:at] + text[at + 1:], chance.randint(max(0, at - 5), at + 5)
+        return rest[:to] + text[at:at + 1] + rest[to:]
+    if how == 4:
+        return text[:at] + b"[" + text[at:at + 3] + b"]" + text[at + 3:]
+    if how == 5:
+        end = chance.choice(places) if places else at
+        return text[:min(at, end)] + text[max(at, end):]
+    n = chance.choice([2, 5, 100, 126, 127, 128, 255, 256, 1000, 2040, 4090]) + chance.randint(-2, 2)
+    return text[:at] + b"[" * n + b"]" * (n + chance.choice([0, 0, 0, -1, 1, -n])) + text[at:]
 
 
 class Maker:
     def __init__(self, seed, good):
         self.random = random.Random(seed)
         self.good = good
+
+    def name(self, first=NAMES):
+        """A name, at times with brackets inside; of a loss it mostly begins with a letter."""
+        chance = self.random.random()
+        return self.random.choice(NAMES) if chance < 0.6 else self.random.choice(first) + nested(self.random, self.random.choice([1, 1, 2, 3, 6]))
 
     def pointed(self, decimal):
         """A confidence, at times without the 0 before its point."""
@@ -57,7 +98,7 @@ class Maker:
         return self.number(2, 12) if self.random.random() < 0.25 else ""
 
     def loss(self):
-        what = "[" + self.random.choice(NAMES) + "]" if self.random.random() < 0.3 else self.formula()
+        what = "[" + self.name() + "]" if self.random.random() < 0.3 else self.formula()
         return self.random.choice("+-") + self.count() + what
 
     def isotope(self, kind):
@@ -80,12 +121,12 @@ class Maker:
             start = self.random.choice([1, 2, 2, 3, 4, 5, 6, 7, 8, 9, 9])
             return "m%s:%s" % (start, self.number(start, 30)) + ("{" + text + "}" if self.random.random() < 0.2 else "")
         if kind == 2:
-            return "I" + self.random.choice("ACDKMRZ") + ("[" + self.random.choice(NAMES) + "]" if self.random.random() < 0.5 else "")
+            return "I" + self.random.choice("ACDKMRZ") + ("[" + self.name(BEFORE) + "]" if self.random.random() < 0.5 else "")
         if kind == 6:
             return "f{" + self.formula() + "}"
         if kind == 8:
             return "?" + self.count()
-        return ["", "", "", "p", "r[" + self.random.choice(NAMES) + "]", "_{" + text + "}", "", "s{" + text + "}"][kind]
+        return ["", "", "", "p", "r[" + self.name(BEFORE) + "]", "_{" + text + "}", "", "s{" + text + "}"][kind]
 
     def annotation(self):
         chance = self.random.random
@@ -133,7 +174,9 @@ class Maker:
 
     def damaged(self, line):
         a, b = self.piece(line)
-        how = self.random.randrange(10)
+        how = self.random.randrange(12)
+        if how > 9:
+            return brackets_changed(self.random, line)
         if how == 0:
             return line[:a] + line[b:]
         if how == 1:

@@ -3,12 +3,13 @@
 
     python3 tools/compare_tables.py OURS OTHER.. [--tables N] [--seed S] [--show K] [--room R]
 
-OURS is "tools/run writes", a path or words between quotes; OTHER is another writer, with its words behind it: both read stored tables in hexadecimal digits from
-standard input, one a line, and print one answer a line. N (20,000 unless said) tables are made: from fields, with each field at or
-past its bound now and then, or from the stored output of the program `reads`; then bytes, words and whole records are changed,
-swapped, repeated and cut, with the header set right again or not; some have long texts, for lines around their bound. The same S makes
-the same tables. With R, OURS is "tools/run try_write_sized", given an output of R bytes for each, and OTHER's words have to say the same. Prints each difference (K of
-them, 20 unless said) and how often each number was answered; the exit status is 1 where the answers differ.
+OURS is "tools/run writes", a path or words between quotes; OTHER is another writer, with its words behind it: both read stored tables in
+hexadecimal digits from standard input, one a line, and print one answer a line. N (20,000 unless said) tables are made: from fields, with
+each field at or past its bound now and then, or from the stored output of the program `reads`; then bytes, words and whole records are
+changed, swapped, repeated and cut, with the header set right again or not; some have long texts, for lines around their bound, and some
+names have brackets inside, which mostly pair up. The same S makes the same tables. With R, OURS is "tools/run try_write_sized", given an
+output of R bytes for each, and OTHER's words have to say the same. Prints each difference (K of them, 20 unless said) and how often each
+number was answered; the exit status is 1 where the answers differ.
 """
 import argparse
 import collections
@@ -18,6 +19,8 @@ import shlex
 import subprocess
 import sys
 
+sys.dont_write_bytecode = True
+from compare import brackets_changed, nested
 from table_cases import annotation, framed, little, number, table
 
 WIDTHS = (36, 6, 8, 6, 6, 1)
@@ -54,9 +57,17 @@ class Maker:
             return b"x" * self.random.randint(150, 255)
         return self.rarely(self.random.choice(NAMES), ODD, 0.02)
 
+    def bracketed(self):
+        """A name for brackets, at times with brackets inside."""
+        made = self.name()
+        if self.random.random() < 0.35 and not self.long:
+            made += nested(self.random, self.random.choice([1, 1, 2, 3, 6])).encode()
+            made = brackets_changed(self.random, made) if self.random.random() < 0.05 else made
+        return made
+
     def loss(self):
         if self.random.random() < (0.9 if self.long else 0.3):
-            return (self.sign(), 1, self.count(), self.name())
+            return (self.sign(), 1, self.count(), self.bracketed())
         return (self.sign(), self.rarely(0, [2]), self.count(), self.units())
 
     def item(self):
@@ -105,7 +116,7 @@ class Maker:
         if kind == 9 and chance() < 0.5:
             fields.update(position=self.random.choice([1, 17, 65535]))
         if kind in (5, 6, 8) or (kind in (1, 2, 3) and chance() < 0.3):
-            fields.update(text=self.name())
+            fields.update(text=self.bracketed() if kind in (3, 5) else self.name())
         if kind == 7:
             fields.update(units=self.units())
         return fields
@@ -162,8 +173,23 @@ class Maker:
             return made
         return framed(counts, sections)
 
+    def text_changed(self, made):
+        """A bracket of the text turned, or swapped with another byte of it."""
+        at = number(made, 26)
+        places = [i for i in range(at, len(made)) if made[i] in b"[]"]
+        if not places:
+            return made
+        i, k = self.random.choice(places), self.random.randrange(at, len(made))
+        if self.random.random() < 0.5:
+            return made[:i] + self.random.choice([b"[", b"]", b"x"]) + made[i + 1:]
+        changed = bytearray(made)
+        changed[i], changed[k] = changed[k], changed[i]
+        return bytes(changed)
+
     def damaged(self, made):
-        how = self.random.randrange(10)
+        how = self.random.randrange(11)
+        if how == 10:
+            return self.text_changed(made)
         if how < 4 or len(made) < 28:
             at = self.random.randrange(len(made) + 1)
             return made[:at] + bytes([self.random.choice([0, 1, 2, 255, self.random.randrange(256)])]) + made[at + 1:]

@@ -8,7 +8,8 @@ It knows the forms that stand there and no others; where it meets another it say
 An expression is a name with its arguments, `"a" to "z"`, a list `x ∷ y ∷ []`, a text in quotes, or one of them in parentheses. The words of lang that grammars are
 written in (`seq`, `litRe`, ..) are said once more below, under WORDS. Of the files of rules only the definitions that the grammar names are looked at.
 
-A grammar is given as ('eps',), ('cls', ranges), ('seq', r, s), ('alt', r, s) or ('star', r); the ranges are pairs of numbers.
+A grammar is given as ('eps',), ('cls', ranges), ('seq', r, s), ('alt', r, s), ('star', r) or ('nest', brackets, depth); the ranges are pairs of numbers,
+and brackets are ('brackets', plain, opens, closes), three classes.
 """
 import re
 import sys
@@ -47,8 +48,21 @@ def head(others, first):
     return ('seq', cls(first), ('star', cls(others)))
 
 
+def brackets(plain, opens, closes):
+    return ('brackets', tuple(plain), tuple(opens), tuple(closes))
+
+
+def nested(b, first):
+    """nestedRe: a byte of the class, or one that opens a bracket; and bytes behind it with which brackets pair up"""
+    return ('alt', ('seq', cls(first), ('nest', b, 0)), ('seq', cls(b[2]), ('nest', b, 1)))
+
+
+def is_brackets(v):
+    return isinstance(v, tuple) and v[0] == 'brackets'
+
+
 def is_re(v):
-    return isinstance(v, tuple) and isinstance(v[0], str)
+    return isinstance(v, tuple) and isinstance(v[0], str) and not is_brackets(v)
 
 
 def is_range(v):
@@ -86,6 +100,9 @@ WORDS = {
     'litRe': ([is_word], lit),
     'litsRe': ([is_words], lits),
     'headRe': ([is_class, is_class], head),
+    'brackets': ([is_class, is_class, is_class], brackets),
+    'pairedRe': ([is_brackets], lambda b: ('nest', b, 0)),
+    'nestedRe': ([is_brackets, is_class], nested),
     'bytes': ([is_text], lambda s: list(s.encode('ascii'))),
     'map': ([callable, lambda v: isinstance(v, list)], lambda f, vs: [f(v) for v in vs]),
 }

@@ -26,13 +26,10 @@ import sys
 sys.dont_write_bytecode = True
 import cases
 import table_cases
-from cases import ROOT, raw, store, stored
-from table_cases import C, H2O, annotation, changed, decimal, framed, is_pairs, largest, little, number, other, record, rich, spelled, table, texts
+from cases import LANDED, MAX_LINE, ROOT, raw, store, stored
+from table_cases import C, H, H2O, annotation, changed, decimal, framed, is_pairs, largest, little, number, other, record, rich, spelled, table, texts
 
-# The flags of the other implementation for the requests that have landed here and change answers.
-LANDED = ("--m102",)
-
-MAX_LINE, MAX_ROW, FRONT = 4096, 4160, 20
+MAX_ROW, FRONT = 4160, 20
 ROOM = FRONT + 21340
 FULL = ",".join(["_{" + "x" * 252 + "}"] * 15 + ["_{" + "x" * 253 + "}"])
 # The shortest columns, some of middle length and the longest, each with the tab behind it, and the two numbers.
@@ -349,6 +346,27 @@ def of_points():
     yes(b"1\t1\t" + line, one, one, *[annotation(6, text=text, sure=1, sure_decimals=1) for text in texts_of])
 
 
+def of_names():
+    """Names with brackets inside (M-100): places counted from the row's start, and brackets for each row by itself."""
+    one = (1, 0)
+    yes("1\t1\tr[a[b]]", one, one, annotation(5, text=b"a[b]"))
+    yes("1\t1\tr[[]]", one, one, annotation(5, text=b"[]"))
+    yes("1\t1\tIC[M[+]][M+H]", one, one, annotation(3, series=67, text=b"M[+]", items=[(1, 0, 1, H)]))
+    in_order = annotation(losses=[(0, 1, 1, b"Hex[x]"), (0, 1, 1, b"Hexa")])
+    for line in ("y1-[Hex[x]]-[Hexa]", "y1-[Hexa]-[Hex[x]]"):
+        yes("100.5\t7\t" + line, (1005, 1), (7, 0), in_order)
+    for front, mz, intensity in FRONTS:
+        n = len(front)
+        for line, refusal, place in (
+            ("r[a[b]", 3, 6), ("r[a]]", 2, 4), ("y1-[[a]]", 2, 4), ("r[]", 2, 2), ("r[[[]]]]", 2, 7), ("IC[M+[x]]", 2, 6), ("r[a[\t]]", 2, 4),
+            ("r[a[b]\t", 2, 6), ("r[a[b],y1", 3, 9), ("r[" + "[]" * 128 + "]", 5, 257), ("y1,r[a[b]]^256", 4, 11), ("r[" + "[" * 4094, 3, MAX_LINE),
+            ("r[" + "[" * 4095, 1, MAX_LINE), ("r[" + "[" * 2046 + "]" * 2048, 2, MAX_LINE - 1), ("r[" + "[" * 2000 + "]" * 2001, 5, 257),
+        ):
+            no(front + line, refusal, n + place)
+            again("1\t1\tr[a[b]]")
+        yes(front + "r[c],r[" + "[]" * 127 + "x]", mz, intensity, annotation(5, text=b"c"), annotation(5, text=b"[]" * 127 + b"x"))
+
+
 # ---- stored rows
 
 def small():
@@ -414,13 +432,14 @@ def stored_lengths():
 
 def stored_tables_behind():
     """Tables and what is none, as tools/table_cases.py states of them: behind a sound front they are answered the same."""
-    for part in (table_cases.fields, table_cases.kinds, table_cases.sums, table_cases.ordered):
+    answers = {(0, 0): sound, (1, MAX_LINE): too_long, (9, 0): unsound}
+    for part in (table_cases.fields, table_cases.kinds, table_cases.sums, table_cases.ordered, table_cases.nested):
         before = len(table_cases.cases)
         part()
         for digits in dict.fromkeys(table_cases.cases[before:]):
             _, mz, intensity = FRONTS[len(stored_rows) % len(FRONTS)]
             row = stored_row(mz, intensity, bytes.fromhex(digits.decode()))
-            (sound if table_cases.stated[digits] == (0, 0) else unsound)(row)
+            answers[table_cases.stated[digits]](row)
     for row in (small(), large(), empty()):
         for at in range(0, 28, 2):
             for value in (0, 1, 27, 28, 29, 65535):
@@ -512,12 +531,12 @@ def sizes_around(need, *others):
 
 def read_rooms():
     """Outputs around the bytes that a row needs: 20 and its table's. Refusals by other numbers go before 8."""
-    for row in (b"1\t1", b"1\t1\t", b"1\t1\ty1", b"100.5\t7\ty1-N-C", b"677.303\t34\tb6-H2O/-0.005,&y7/0.003", raw("1\t1\t" + FULL)):
+    for row in (b"1\t1", b"1\t1\t", b"1\t1\ty1", b"100.5\t7\ty1-N-C", b"677.303\t34\tb6-H2O/-0.005,&y7/0.003", b"1\t1\tr[[]]", raw("1\t1\t" + FULL)):
         data = row_answers[row][2]
         for room in sizes_around(len(data), 19, 20, 21, 47, 48, 49, len(data) - FRONT, ROOM):
             yield room, row, (0, 0, data) if len(data) <= room else (8, len(data), b"")
     over = (b"x" * (MAX_ROW + 1), raw("1\t1\t" + FULL + "x"))
-    for row in (b"", b"1", b"1\t", b"x", b"1\t1\t\t", b"1\t1\ty1^1", b"1\t1\ty65536", b"1\t1\ty1*0.7,b2*0.301", *over):
+    for row in (b"", b"1", b"1\t", b"x", b"1\t1\t\t", b"1\t1\ty1^1", b"1\t1\ty65536", b"1\t1\ty1*0.7,b2*0.301", b"1\t1\tr[a[b]", *over):
         for room in (0, 1, 20, 48, ROOM):
             yield room, row, row_answers[row]
 
@@ -526,12 +545,14 @@ def write_rooms():
     """Outputs around the length of a row. 9 and 1 go before 8."""
     full, most = texts(*[252] * 15, 253), (10**12 - 1, 9)
     at_bound = (stored_row((1, 0), (1, 0), full), stored_row(most, most, full))
-    for row in (empty(), small(), large(), stored_row(most, most, table(annotation(4))), *at_bound):
+    nested = stored_row((1, 0), (1, 0), table(annotation(3, series=67, text=b"[M+]", losses=[(0, 1, 1, b"a[b]")])))
+    for row in (empty(), small(), large(), stored_row(most, most, table(annotation(4))), nested, *at_bound):
         text = row_text(row)
         for room in sizes_around(len(text), 3, 4, 27, 28, MAX_LINE, MAX_ROW):
             yield room, row.hex().encode(), (0, 0, text) if len(text) <= room else (8, len(text), b"")
     over = stored_row((1, 0), (1, 0), texts(*[252] * 15, 254))
-    for row, refusal, place in ((b"", 9, 0), (small()[:-1], 9, 0), (changed(small(), 18, 1), 9, 0), (over, 1, MAX_LINE)):
+    unpaired = stored_row((1, 0), (1, 0), table(annotation(5, text=b"a[b")))
+    for row, refusal, place in ((b"", 9, 0), (small()[:-1], 9, 0), (changed(small(), 18, 1), 9, 0), (unpaired, 9, 0), (over, 1, MAX_LINE)):
         for room in (0, 1, 20, MAX_ROW):
             yield room, row.hex().encode(), (refusal, place, b"")
 
@@ -661,7 +682,7 @@ def check_lists(programs):
 
 
 def main(words):
-    for part in (of_specification, of_request, of_columns, of_tabs, of_lines, of_lengths, of_neighbours, of_bytes, of_points):
+    for part in (of_specification, of_request, of_columns, of_tabs, of_lines, of_lengths, of_neighbours, of_bytes, of_points, of_names):
         part()
     for part in (stored_fronts, stored_numbers, stored_lengths, stored_tables_behind, stored_editions, stored_long, stored_digits):
         part()

@@ -1,22 +1,22 @@
 #!/usr/bin/env python3
 """The cases of the programs `writes` and `try_write_sized`: stored tables, and what the rules say of them in words.
 
-    python3 tools/table_cases.py                   writes crates/writes/stdin and crates/try_write_sized/stdin
-    python3 tools/table_cases.py --check           holds the stored outputs to what is stated here; prints differences
-    python3 tools/table_cases.py --with PROGRAM    makes the stored outputs by a writer of tables, then checks
+    python3 tools/table_cases.py                  writes crates/writes/stdin and crates/try_write_sized/stdin
+    python3 tools/table_cases.py --check          holds the stored outputs to what is stated here; prints differences
+    python3 tools/table_cases.py --with FOLDER    makes the stored outputs by the program `cross` in FOLDER, then checks
 
-PROGRAM, with `--write --hex`, reads tables in hexadecimal digits from standard input, one a line, and prints `NUMBER PLACE LENGTH HEX`
+`cross`, with `--write --hex`, reads tables in hexadecimal digits from standard input, one a line, and prints `NUMBER PLACE LENGTH HEX`
 for each, HEX being the line, `-` where it is none or empty; with `--out N` too it does so with an output of N bytes. It is a writer
 other than this repository's, so that two agree on the stored outputs. Lines that are no pairs of digits are not asked of it: they are
 no table. Tables are made here from fields, by the section "The stored table" of document 01; those of the program `reads` come from
-its stored output. Where a table is written, its line is held to the fields that its bytes have.
+its stored output, so tools/cases.py goes first. Where a table is written, its line is held to the fields that its bytes have.
 """
 import copy
 import os
-import subprocess
 import sys
 
-from cases import ROOT, store, stored
+sys.dont_write_bytecode = True
+from cases import ROOT, answers_by, store, stored
 
 SERIES = "a b c d v w x y z da db wa wb".split()
 SYMBOLS = (
@@ -357,6 +357,64 @@ def kinds():
     bad(kind=7, units=C * 13)
 
 
+def nested():
+    """Names with brackets inside. Document 02, M-100. They pair up in each name by itself."""
+    def named(name, reference, modification, loss):
+        reference(kind=5, text=name)
+        modification(kind=3, series=67, text=name)
+        loss(losses=[(0, 1, 1, name)])
+    for name in (b"a[]", b"a[b]", b"Hex[a[b]]c", b"a[[]]", b"a[][]", b"a[b][c]d", b"M[+]", b"M[-H]", b"a[M+]", b"a[{]", b"a[}]", b"a[,/ ^*]", b"Cation:Ca[II]"):
+        named(name, good, good, good)
+    # a loss begins with a letter, a modification not with `M+` or `M-`
+    for name in (b"[]", b"[a]", b"[M+H]", b"[[]]", b"[][]", b"[a]b", b"2[a]", b" [a]", b"+[a]"):
+        named(name, good, good, bad)
+    for name in (b"M+[a]", b"M-[]", b"M+[", b"M-]"):
+        fine = good if name.count(b"[") == name.count(b"]") else bad
+        named(name, fine, bad, fine)
+    for name in (b"[", b"]", b"][", b"a[", b"a]", b"a][", b"a[[]", b"a[]]", b"[a", b"[[a]", b"[a]]", b"a[b]]", b"a[[b]", b"a]b[", b"a[b]][c", b"a[b]c]d[", b"a[" * 100, b"a" + b"]" * 100):
+        named(name, bad, bad, bad)
+    # closed twice: printed, these are lines that read to other tables
+    for name in (b"a]-[b", b"a],r[b", b"a][M+H", b"a]^2,r[b", b"a]b", b"a]+i[M+Na"):
+        named(name, bad, bad, bad)
+    # a name that is open at its end is not closed by the next
+    for first, second in ((b"a[", b"b]"), (b"a]", b"b["), (b"a[b", b"c]d"), (b"a[[", b"b]]"), (b"a[b]", b"c]"), (b"a[", b"b"), (b"a", b"b]")):
+        bad(kind=5, text=first, losses=[(0, 1, 1, second)])
+        bad(losses=[(0, 1, 1, first), (1, 1, 1, second)])
+        no(table(annotation(5, text=first), annotation(5, text=second)))
+    good(kind=5, text=b"a[b]", losses=[(0, 1, 1, b"c[d]")])
+    yes(table(annotation(5, text=b"[a]"), annotation(3, series=67, text=b"[M+]", items=[(1, 0, 1, H)]), annotation(6, text=b"[")))
+    # texts in braces count none
+    for kind, more in ((1, {}), (2, dict(position=2, end=3)), (6, {}), (8, dict(items=[(1, 0, 1, H)]))):
+        for text in (b"[", b"]", b"][", b"a]", b"[[a]", b"[a]"):
+            good(kind=kind, text=text, **more)
+    for byte in (b"\0", b"\n", b"\x1f", b"\x7f", b"\x80", b"\xff"):
+        named(b"a[" + byte + b"]", bad, bad, bad)
+    for name in (b"x" + b"[]" * 127, b"x" + b"[" * 127 + b"]" * 127, b"x" * 253 + b"[]"):
+        named(name, good, good, good)
+        named(name + b"z", bad, bad, bad)
+        named(name[:-1] + b"z", bad, bad, bad)
+    for name in (b"[]" * 127 + b"x", b"[" * 127 + b"x" + b"]" * 127):
+        named(name, good, good, bad)
+    for name in (b"[]" * 128, b"[" * 128 + b"]" * 128, b"[" * 255, b"]" * 255, b"[" * 128 + b"]" * 127, b"[" * 127 + b"]" * 128):
+        named(name, bad, bad, bad)
+    # `[` ranks lowest inside names too
+    names = (b"Hex[[]]", b"Hex[x]", b"Hex[x]a", b"HexNAc", b"Hex", b"Hexa", b"Hexa[x]")
+    ranked = sorted(names, key=lambda name: [0 if b == 91 else b for b in name + b"]"])
+    assert ranked == [b"Hex[[]]", b"Hex[x]", b"Hex[x]a", b"HexNAc", b"Hex", b"Hexa[x]", b"Hexa"]
+    good(losses=[(0, 1, 1, name) for name in ranked])
+    for i, first in enumerate(ranked):
+        for second in ranked[i + 1:]:
+            good(losses=[(1, 1, 9, first), (0, 1, 1, second)])
+            bad(losses=[(0, 1, 1, second), (1, 1, 9, first)])
+    good(losses=[(0, 0, 1, [(2, 1, 1)]), (0, 1, 1, b"H[a]"), (0, 0, 1, [(0, 1, 1), (2, 1, 1)])])
+    bad(losses=[(0, 1, 1, b"H[a]"), (0, 0, 1, [(2, 1, 1)])])
+    # 4,096 bytes of such names, and one more
+    full = [annotation(5, text=b"[]" * 126)] * 15
+    yes(table(*full, annotation(5, text=b"[]" * 126 + b"x")))
+    state(table(*full, annotation(5, text=b"[]" * 127)), 1, 4096)
+    no(table(*full, annotation(5, text=b"[]" * 126 + b"x]")))
+
+
 def sums():
     """Confidences over the line."""
     def share(confidence, decimals):
@@ -424,7 +482,7 @@ def digits():
 def rooms():
     """Outputs around the length of a line."""
     for made in (table(), table(annotation()), table(annotation(4), annotation(4)), table(rich()), table(*other()), table(rich(), *other()), table(*[annotation(4)] * 16), table(annotation(9)), texts(252, 252),
-                 table(annotation(3, series=90, items=[(1, 0, 1, H)])), texts(255, 255, 255, 255), texts(*[252] * 15, 250), texts(*[252] * 15, 253), table(largest())):
+                 table(annotation(3, series=90, items=[(1, 0, 1, H)])), table(annotation(3, series=67, text=b"[M+]", losses=[(0, 1, 1, b"a[b]")])), texts(255, 255, 255, 255), texts(*[252] * 15, 250), texts(*[252] * 15, 253), table(largest())):
         n = len(spelled(made))
         for room in dict.fromkeys((n, max(n - 1, 0), min(n + 1, 4096), 0) + (() if n > 1000 else (1, 28, 4096))):
             spare.append((room, made, (0, 0, n) if n <= room else (8, n, 0)))
@@ -471,12 +529,13 @@ def check():
     return not wrong
 
 
-def answers_by(program, given, *words):
-    return subprocess.run([program, "--write", "--hex", *words], input=given, stdout=subprocess.PIPE, check=True).stdout
+def lines_by(folder, given, *words):
+    """What the writer of the other implementation prints."""
+    return answers_by(folder, "cross", given, "--write", "--hex", *words)
 
 
 def main(words):
-    for part in (of_lines, bytes_changed, cut_and_longer, ordered, fields, kinds, sums, long, digits, rooms):
+    for part in (of_lines, bytes_changed, cut_and_longer, ordered, fields, kinds, nested, sums, long, digits, rooms):
         part()
     if words[:1] == ["--check"]:
         return 0 if check() else 1
@@ -485,9 +544,9 @@ def main(words):
     store("try_write_sized", "stdin", b"".join(b"%d " % room + made.hex().encode() + b"\n" for room, made, _ in spare))
     if words[:1] == ["--with"]:
         given = [line for line in cases if is_pairs(line)]
-        answers = iter(answers_by(words[1], b"".join(line + b"\n" for line in given)).splitlines(keepends=True))
+        answers = iter(lines_by(words[1], b"".join(line + b"\n" for line in given)).splitlines(keepends=True))
         store("writes", "stdout", b"".join(next(answers) if is_pairs(line) else b"9 0 0 -\n" for line in cases))
-        store("try_write_sized", "stdout", b"".join(answers_by(words[1], made.hex().encode() + b"\n", "--out", str(room)) for room, made, _ in spare))
+        store("try_write_sized", "stdout", b"".join(lines_by(words[1], made.hex().encode() + b"\n", "--out", str(room)) for room, made, _ in spare))
         return 0 if check() else 1
     return 0
 

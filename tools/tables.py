@@ -23,25 +23,33 @@ def null(r):
         return null(r[1]) and null(r[2])
     if t == 'alt':
         return null(r[1]) or null(r[2])
+    if t == 'nest':
+        return r[2] == 0
     return t in ('eps', 'star')
 
 
-def number_nodes(line):
+class Nodes:
     """Each grammar a number, so that stacks are compared fast."""
-    ids, nodes = {}, []
 
-    def make(r):
-        key = r if r[0] in ('cls', 'eps') else (r[0],) + tuple(make(x) for x in r[1:])
-        if key not in ids:
-            ids[key] = len(nodes)
-            nodes.append((key, null(r)))
-        return ids[key]
+    def __init__(self):
+        self.ids, self.nodes = {}, []
 
-    return make(line), nodes
+    def make(self, r):
+        key = r if r[0] in ('cls', 'eps', 'nest') else (r[0],) + tuple(self.make(x) for x in r[1:])
+        if key not in self.ids:
+            self.ids[key] = len(self.nodes)
+            self.nodes.append((key, null(r)))
+        return self.ids[key]
+
+
+def classes_of(nodes):
+    """The classes of bytes that a grammar names."""
+    return sorted({c for key, _ in nodes for c in ([key[1]] if key[0] == 'cls' else key[1][1:] if key[0] == 'nest' else [])})
 
 
 def machine(line):
-    start, nodes = number_nodes(line)
+    made = Nodes()
+    start, nodes = made.make(line), made.nodes
 
     def edges(r, k):
         (t, *parts), _ = nodes[r]
@@ -53,7 +61,16 @@ def machine(line):
             return edges(parts[0], (parts[1],) + k) + (edges(parts[1], k) if nodes[parts[0]][1] else [])
         if t == 'alt':
             return edges(parts[0], k) + edges(parts[1], k)
+        if t == 'nest':
+            (_, plain, opens, closes), depth = parts
+            ways = [(plain, depth), (opens, depth + 1)] + ([(closes, depth - 1)] if depth else [])
+            return [(c, (made.make(('nest', parts[0], d)),) + k) for c, d in ways]
         return edges(parts[0], (r,) + k)
+
+    def opened(state):
+        """The bytes that open a bracket, where one is open and nothing else goes on: a deep state, which stands for all depths"""
+        key = nodes[state[0][0]][0] if len(state) == 1 and state[0] else ('eps',)
+        return key[1][2] if key[0] == 'nest' and key[2] == 1 else ()
 
     @functools.lru_cache(None)
     def stack_edges(k):
@@ -62,7 +79,7 @@ def machine(line):
         return edges(k[0], k[1:]) + (stack_edges(k[1:]) if nodes[k[0]][1] else [])
 
     # bytes that no class of the grammar tells apart
-    ranges = sorted({key[1] for key, _ in nodes if key[0] == 'cls'})
+    ranges = classes_of(nodes)
     columns, classes, reps = {}, [], []
     for b in range(256):
         column = tuple(any(lo <= b <= hi for lo, hi in c) for c in ranges)
@@ -76,6 +93,9 @@ def machine(line):
         out = [e for k in states[i] for e in stack_edges(k)]
         row = []
         for b in reps:
+            if any(lo <= b <= hi for lo, hi in opened(states[i])):
+                row.append(i)  # the scan counts it, and does not look here
+                continue
             to = tuple(k for c, k in out if any(lo <= b <= hi for lo, hi in c))
             if len(set(to)) < len(to):
                 sys.exit(f'ambiguous: two ways to go on alike after {bytes(paths[i] + (b,))}')
@@ -86,10 +106,13 @@ def machine(line):
             row.append(index[to] if to else None)
         rows.append(row)
         i += 1
-    dead = len(states)
-    rows = [[dead if q is None else q for q in row] for row in rows]
-    accepts = [int(any(all(nodes[r][1] for r in k) for k in s)) for s in states]
-    return classes, reps, rows, accepts, paths
+    # deep states are the last
+    order = sorted(range(len(states)), key=lambda q: bool(opened(states[q])))
+    place = {q: n for n, q in enumerate(order)} | {None: len(states)}
+    deeps = sum(not opened(s) for s in states)
+    rows = [[place[to] for to in rows[q]] for q in order]
+    accepts = [int(any(all(nodes[r][1] for r in k) for k in states[q])) for q in order]
+    return classes, reps, rows, accepts, [paths[q] for q in order], deeps
 
 
 # ---- what is written
@@ -132,10 +155,11 @@ def layout(classes, rows, accepts):
     return rows_at, ends_at, ends_at + ROWS
 
 
-def tables_antt(classes, reps, rows, accepts, paths):
+def tables_antt(classes, reps, rows, accepts, paths, deeps):
     rows_at, ends_at, size = layout(classes, rows, accepts)
     numbers = [
         ('how many states there are; the state of this number is where no shape goes on', 'states', len(rows)),
+        ('the states from this number on are deep: a bracket is open inside a name', 'deeps', deeps),
         ('how many classes of bytes there are', 'kinds', len(reps)),
         ("where the rows begin in the machine's bytes", 'rowsAt', rows_at),
         ('where the marks of the states in which a line may end begin', 'endsAt', ends_at),
@@ -179,11 +203,12 @@ def rows_antt(rows):
     return '\n'.join(out) + '\n'
 
 
-def tables_rt(classes, rows, accepts):
+def tables_rt(classes, rows, accepts, deeps):
     rows_at, ends_at, size = layout(classes, rows, accepts)
     words = packed(machine_bytes(classes, rows, accepts))
     numbers = [
         ('How many states there are; the state of this number is where no shape goes on.', 'STATES', len(rows)),
+        ('The states from this number on are deep: a bracket is open inside a name.', 'DEEPS', deeps),
         ('How many classes of bytes there are.', 'KINDS', len(rows[0])),
         ("Where the rows begin in the machine's bytes.", 'ROWS_AT', rows_at),
         ('Where the marks of the states in which a line may end begin.', 'ENDS_AT', ends_at),
@@ -197,11 +222,11 @@ def tables_rt(classes, rows, accepts):
 
 
 def main():
-    classes, reps, rows, accepts, paths = machine(line_grammar())
-    for path, text in [('crates/shape/specs/Tables.antt', tables_antt(classes, reps, rows, accepts, paths)),
-                       ('crates/shape/proofs/Rows.antt', rows_antt(rows)), ('crates/scan_line/src/tables.rt', tables_rt(classes, rows, accepts))]:
+    classes, reps, rows, accepts, paths, deeps = machine(line_grammar())
+    for path, text in [('crates/shape/specs/Tables.antt', tables_antt(classes, reps, rows, accepts, paths, deeps)),
+                       ('crates/shape/proofs/Rows.antt', rows_antt(rows)), ('crates/scan_line/src/tables.rt', tables_rt(classes, rows, accepts, deeps))]:
         (ROOT / path).write_text(text, encoding='utf-8')
-    print(f'{len(rows)} states, {len(reps)} classes')
+    print(f'{len(rows)} states, of which {len(rows) - deeps} deep; {len(reps)} classes')
 
 
 if __name__ == '__main__':

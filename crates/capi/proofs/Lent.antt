@@ -18,9 +18,9 @@ use Rattle.shape.specs.Tables.{states, kinds, rowsAt, endsAt, size, packed}
 use Rattle.put_bytes.specs.Puts.{maxPlace}
 use Rattle.scan_line.specs.declared.Progress.{Progress}
 use Rattle.scan_line.specs.declared.Verdict.the-variants.{Fine, Short, Stray}
-use Rattle.scan_line.specs.Steps.{machineBytes, stepBy, endsBy, standing, runBy, verdictBy, scannedBy}
+use Rattle.scan_line.specs.Steps.{machineBytes, stepBy, moveBy, endsBy, standing, runBy, verdictBy, scannedBy}
 use Rattle.scan_line.specs.Verdicts.{JudgedBy}
-use Rattle.scan_line.proofs.Walks.{taken-run}
+use Rattle.scan_line.proofs.Walks.{moves-alike, taken-run}
 use Rattle.scan_line.proofs.Scans.{by-machine}
 use Rattle.read_line.specs.Readings.{readOf}
 use Rattle.read_line.proofs.Right.{read-right}
@@ -89,18 +89,19 @@ module _ (z : List ℕ) where
   unfolding endsBy
   ends-same q h = ap (λ (b : ℕ). eqb b 1) (inside (endsAt + q) (omega arith))
 
-  run-same : (w : List ℕ) → Bytes w → (q at : ℕ) → q < states → runBy longer q at w ≡ runBy machineBytes q at w
+  run-same : (w : List ℕ) → Bytes w → (q d at : ℕ) → q < states → runBy longer q d at w ≡ runBy machineBytes q d at w
   unfolding runBy
-  run-same [] y q at h = refl
-  run-same (b ∷ w) y q at h =
-      let s = step-same q b h (y 0 (omega arith)) in
-      rw s (by (λ g. run-same w (λ i k. y (suc i) (omega arith)) (stepBy machineBytes q b) (at + 1) g) (ltb (stepBy machineBytes q b) states) refl)
+  run-same [] y q d at h = refl
+  run-same (b ∷ w) y q d at h =
+      let s = moves-alike longer machineBytes q d b (step-same q b h (y 0 (omega arith))) in
+      let p = moveBy machineBytes q d b in
+      rw s (by p (λ g. run-same w (λ i k. y (suc i) (omega arith)) (p .0) (p .1) (at + 1) g) (ltb (p .0) states) refl)
     where
-      by : (stepBy machineBytes q b < states → runBy longer (stepBy machineBytes q b) (at + 1) w ≡ runBy machineBytes (stepBy machineBytes q b) (at + 1) w)
-          → (t : Bool) → ltb (stepBy machineBytes q b) states ≡ t
-          → cond t (runBy longer (stepBy machineBytes q b) (at + 1) w) (standing states at) ≡ cond t (runBy machineBytes (stepBy machineBytes q b) (at + 1) w) (standing states at)
-      by ih true e = ih (ltb-true (stepBy machineBytes q b) states e)
-      by ih false e = refl
+      by : (p : ℕ × ℕ) → (p .0 < states → runBy longer (p .0) (p .1) (at + 1) w ≡ runBy machineBytes (p .0) (p .1) (at + 1) w)
+          → (t : Bool) → ltb (p .0) states ≡ t
+          → cond t (runBy longer (p .0) (p .1) (at + 1) w) (standing states 0 at) ≡ cond t (runBy machineBytes (p .0) (p .1) (at + 1) w) (standing states 0 at)
+      by p ih true e = ih (ltb-true (p .0) states e)
+      by p ih false e = refl
 
   verdict-same : (s : Progress) → verdictBy longer s ≡ verdictBy machineBytes s
   unfolding verdictBy
@@ -117,8 +118,8 @@ module _ (z : List ℕ) where
   unfolding scannedBy
   scan-same line y h =
       ap (verdictBy longer)
-      (taken-run longer (standing 0 0) line long (omega arith) (omega arith) ∙ run-same line y 0 0 (omega arith)
-      ∙ sym (taken-run machineBytes (standing 0 0) line (omega (arith, machine-size)) (omega arith) (omega arith)))
+      (taken-run longer (standing 0 0 0) line long (omega arith) (omega arith) (omega arith) ∙ run-same line y 0 0 0 (omega arith)
+      ∙ sym (taken-run machineBytes (standing 0 0 0) line (omega (arith, machine-size)) (omega arith) (omega arith) (omega arith)))
       ∙ verdict-same _
 
 -- ---- by a machine in a buffer of k bytes

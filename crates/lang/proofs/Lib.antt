@@ -6,11 +6,16 @@ pub mod Lits
 pub mod Means
 pub mod Unique
 pub mod Classes
+pub mod Inside
+pub mod Deep
 pub mod Certify
 pub mod Flat
 pub mod Prefix
 pub mod Names
+pub mod NestedNames
+pub mod EachByte
 pub mod Whole
+pub mod Moved
 pub mod Loop
 pub mod Tests
 pub mod Sort

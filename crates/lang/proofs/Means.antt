@@ -7,7 +7,7 @@ use mathlib.Core.HLevel.{isProp→PathP}
 use lib.Dec.{T, T-prop, ltb, ltb→lt, lt→ltb}
 use lib.ListN.{length}
 use mathlib.Core.Logic.{_⊎_, inl, inr}
-use Rattle.lang.specs.Re.{Rng, Re, eps, cls, seq, alt, star, Byte, Tree, texts, text, either}
+use Rattle.lang.specs.Re.{Rng, Brackets, Nested, Re, eps, cls, seq, alt, star, nest, Byte, Tree, texts, text, either}
 use Rattle.lang.proofs.Lits.{litRe, lit-tree, lit-text, litsRe, lits-tree, lits-text, lits-back}
 use Rattle.lang.specs.Parts.{Opt, silent, written, optText, flat, Such, Listed, wordOf}
 
@@ -24,6 +24,10 @@ optRe r = alt eps r
 -- a byte of a class
 abbrev pub means-byte : (c : List Rng) → Means (Byte c) (λ b. b .val ∷ []) (cls c)
 means-byte c = record { enc = λ x. x; enc-text = λ x k. refl; dec = λ x. x; dec-text = λ x k. refl; back = λ x. refl }
+
+-- brackets that pair up
+abbrev pub means-nest : (B : Brackets) (d : ℕ) → Means (Nested B d) (λ n. n .bytes) (nest B d)
+means-nest B d = record { enc = λ x. x; enc-text = λ x k. refl; dec = λ x. x; dec-text = λ x k. refl; back = λ x. refl }
 
 module _ {X : Type 0} {tx : X → List ℕ} {r : Re} (m : Means X tx r) where
   abbrev pub many-enc : List X → List (Tree r)

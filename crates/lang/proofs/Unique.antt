@@ -2,14 +2,14 @@
 use Prim.Native.Nat.{ℕ, _<_, _≤_}
 use mathlib.Core.Path.{_≡_, refl, sym, ap, ap₂, _∙_, subst}
 use mathlib.Core.Bool.{Bool, true, false, not, _&&_, _||_}
-use mathlib.Core.List.{List, [], _∷_, head-eq-of-cons-eq, tail-eq-of-cons-eq, nil≢cons, cons≢nil, List·isSet}
+use mathlib.Core.List.{List, [], _∷_, _++_, head-eq-of-cons-eq, tail-eq-of-cons-eq, nil≢cons, cons≢nil, List·isSet}
 use mathlib.Core.Logic.{_⊎_, inl, inr}
 use mathlib.Core.HLevel.{Σ-prop-path, hedberg}
 use native.Mathlib.Omega.{arith}
 use native.Mathlib.Decide.{ℕ-discrete, decLe}
 use lib.Dec.{T, T-prop, leb, leb→le, T-not}
-use Rattle.lang.specs.Re.{Rng, rng, inC, Re, eps, cls, seq, alt, star, Tree, texts, either, text}
-use Rattle.lang.proofs.Deriv.{null, Stack, STree, stext, LS, Edge, whenN, lf, lfs, LE, le-left, le-right, le-split, le-when, when-le, and-0, and-1, and-i, or-e, or-l, or-r, empty, sound, sound-stack, nulls, nulls-complete}
+use Rattle.lang.specs.Re.{Rng, rng, inC, Brackets, noneOpen, paired, Nested, Re, eps, cls, seq, alt, star, nest, Tree, texts, either, text}
+use Rattle.lang.proofs.Deriv.{null, Stack, STree, stext, LS, Edge, whenN, lf, lfs, LE, le-left, le-right, le-split, le-when, when-le, and-0, and-1, and-i, or-e, or-l, or-r, empty, sound, sound-stack, nulls, nulls-complete, next-nest}
 use Rattle.lang.proofs.Same.{LA}
 use Rattle.lang.proofs.Lits.{byte-path}
 use Rattle.lang.proofs.Machine.{edges, takes, edges-sound, consIf-l, consIf-r, consIf-e, takes-in, takes-out, acc, acc-complete}
@@ -21,6 +21,7 @@ ok (cls c) = true
 ok (seq r s) = ok r && ok s
 ok (alt r s) = (ok r && ok s) && not (null r && null s)
 ok (star r) = ok r && not (null r)
+ok (nest B d) = true
 
 split-left : (es fs : List Edge) (b : ℕ) (w : List ℕ) (x : LE es b w) → le-split es fs b w (le-left es fs b w x) ≡ inl x
 unfolding le-split le-left
@@ -73,6 +74,11 @@ comp-star⁺ r no-null h k b w (x ∷ xs) u e =
     (λ y. absurd (T-not (null r) no-null (y .0)))
     (h (star r ∷ k) b w x (xs, u) e)
 
+comp-nest⁺ : (B : Brackets) (d : ℕ) (k : Stack) (b : ℕ) (w : List ℕ) (l : List ℕ) (p : T (paired B l d)) (u : STree k) → l ++ stext k u ≡ b ∷ w
+    → ((x : LE (lf (nest B d) k) b w) × (sound (nest B d) k b w x .0 ≡ (record { bytes = l; pair = p }, u))) ⊎ ((n : T (noneOpen d)) × (_≡_ {A = Nested B d} (record { bytes = l; pair = p }) (record { bytes = []; pair = n })) × (stext k u ≡ b ∷ w))
+comp-nest⁺ B d k b w [] p u e = inr (p, refl, e)
+comp-nest⁺ B d k b w (x ∷ xs) p u e = inl (next-nest B k b w x xs u e d p)
+
 complete⁺ : (r : Re) → T (ok r) → Comp⁺ r
 unfolding sound empty
 complete⁺ eps o k b w t u e = inr (tt, refl, e)
@@ -119,6 +125,7 @@ complete⁺ (alt r s) o k b w (inr t) u e =
     (λ y. inr (or-r (null r) (null s) (y .0), ap inr (y .1) ∙ sym (empty-r r s (or-r (null r) (null s) (y .0)) (y .0) (and-1 (ok r && ok s) (not (null r && null s)) o)), y .2))
     (complete⁺ s (and-1 (ok r) (ok s) (and-0 (ok r && ok s) (not (null r && null s)) o)) k b w t u e)
 complete⁺ (star r) o k b w t u e = comp-star⁺ r (and-1 (ok r) (not (null r)) o) (complete⁺ r (and-0 (ok r) (not (null r)) o)) k b w t u e
+complete⁺ (nest B d) o k b w t u e = comp-nest⁺ B d k b w (t .bytes) (t .pair) u e
 
 abbrev pub okS : Stack → Bool
 okS [] = true
@@ -196,6 +203,10 @@ nil-star⁺ : (r : Re) (no-null : T (not (null r))) (h : (t : Tree r) (k : List 
 nil-star⁺ r no-null h [] k e = (tt, refl, e)
 nil-star⁺ r no-null h (x ∷ xs) k e = absurd (T-not (null r) no-null (h x (texts (text r) xs k) e .0))
 
+nil-nest⁺ : (B : Brackets) (d : ℕ) (l : List ℕ) (p : T (paired B l d)) (k : List ℕ) → l ++ k ≡ [] → (n : T (noneOpen d)) × (_≡_ {A = Nested B d} (record { bytes = l; pair = p }) (record { bytes = []; pair = n })) × (k ≡ [])
+nil-nest⁺ B d [] p k e = (p, refl, e)
+nil-nest⁺ B d (x ∷ xs) p k e = absurd (cons≢nil e)
+
 nil⁺ : (r : Re) → T (ok r) → (t : Tree r) (k : List ℕ) → text r t k ≡ [] → (n : T (null r)) × (t ≡ empty r n .0) × (k ≡ [])
 unfolding empty
 nil⁺ eps o t k e = (tt, refl, e)
@@ -211,6 +222,7 @@ nil⁺ (alt r s) o (inr t) k e =
     let x = nil⁺ s (and-1 (ok r) (ok s) (and-0 (ok r && ok s) (not (null r && null s)) o)) t k e in
     (or-r (null r) (null s) (x .0), ap inr (x .1) ∙ sym (empty-r r s (or-r (null r) (null s) (x .0)) (x .0) (and-1 (ok r && ok s) (not (null r && null s)) o)), x .2)
 nil⁺ (star r) o t k e = nil-star⁺ r (and-1 (ok r) (not (null r)) o) (nil⁺ r (and-0 (ok r) (not (null r)) o)) t k e
+nil⁺ (nest B d) o t k e = nil-nest⁺ B d (t .bytes) (t .pair) k e
 
 nil-stack⁺ : (k : Stack) → T (okS k) → (u v : STree k) → stext k u ≡ [] → stext k v ≡ [] → u ≡ v
 nil-stack⁺ [] o u v e f = refl

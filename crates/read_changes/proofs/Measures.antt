@@ -8,10 +8,10 @@ use lib.Dec.{eqb}
 use lib.ListN.{length, drop, length-drop}
 use borrow.Author.Tests.{eqb-true}
 use Rattle.lang.proofs.Walks.{walk-rest}
-use Rattle.rules.specs.Bytes.{bytes, nameByte}
+use Rattle.rules.specs.Bytes.{bytes}
 use Rattle.rules.specs.Texts.{startsWith}
-use Rattle.texts.specs.Leading.{leadingIn}
-use Rattle.texts.proofs.LeadingBytes.{leading-within}
+use Rattle.texts.specs.Names.{nameLength}
+use Rattle.texts.proofs.NameEnds.{name-length-within}
 use Rattle.faults.specs.declared.Fault.{Fault}
 use Rattle.read_formula.specs.Units.{beginsUnit}
 use Rattle.read_formula.specs.Formulas.{Counted, counted, unitSize, countUnit, formulaOf}
@@ -48,7 +48,7 @@ name-long : (end last : ℕ) (s : List ℕ) (f g : Fault) → nameOf end s f .le
 unfolding nameOf enclosedOf
 name-long end last s f g = by (startsWith (bytes "[") s)
   where
-    by : (t : Bool) → cond t (enclosedOf (leadingIn nameByte (drop 1 s)) (length s) end f) (nothing f) .len ≡ cond t (enclosedOf (leadingIn nameByte (drop 1 s)) (length s) last g) (nothing g) .len
+    by : (t : Bool) → cond t (enclosedOf (nameLength (drop 1 s)) (length s) end f) (nothing f) .len ≡ cond t (enclosedOf (nameLength (drop 1 s)) (length s) last g) (nothing g) .len
     by true = refl
     by false = refl
 
@@ -56,8 +56,8 @@ name-few : (end : ℕ) (s : List ℕ) (f : Fault) → nameOf end s f .size ≤ n
 unfolding nameOf enclosedOf
 name-few end s f = by (startsWith (bytes "[") s)
   where
-    by : (t : Bool) → cond t (enclosedOf (leadingIn nameByte (drop 1 s)) (length s) end f) (nothing f) .size ≤ cond t (enclosedOf (leadingIn nameByte (drop 1 s)) (length s) end f) (nothing f) .len
-    by true = omega (arith, leading-within nameByte (drop 1 s), length-drop 1 s)
+    by : (t : Bool) → cond t (enclosedOf (nameLength (drop 1 s)) (length s) end f) (nothing f) .size ≤ cond t (enclosedOf (nameLength (drop 1 s)) (length s) end f) (nothing f) .len
+    by true = omega (arith, name-length-within (drop 1 s), length-drop 1 s)
     by false = omega arith
 
 -- ---- losses and adduct items

@@ -12,7 +12,7 @@ use Rattle.rules.specs.Numbers.{From, numberText}
 use Rattle.rules.specs.Losses.{signText}
 use Rattle.rules.specs.Preferred.{signRank}
 use Rattle.rules.specs.Limits.{maxCount, manyMark, optPart, numberPart}
-use Rattle.texts.proofs.LeadingBytes.{loss-is-name}
+use Rattle.texts.proofs.NameEnds.{loss-is-name}
 use Rattle.faults.specs.declared.Fault.{Fault}
 use Rattle.faults.specs.Faults.{join, after}
 use Rattle.faults.proofs.Marks.{join-kept, after-append}

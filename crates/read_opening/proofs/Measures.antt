@@ -5,16 +5,17 @@ use mathlib.Core.Bool.{Bool, true, false, cond, not, _&&_}
 use mathlib.Core.List.{List, [], _∷_}
 use native.Mathlib.Omega.{arith}
 use lib.ListN.{length, drop, length-drop}
-use Rattle.lang.specs.Re.{Rng}
 use Rattle.lang.proofs.Deriv.{and-0, and-1}
 use Rattle.lang.proofs.Tests.{is-t, t-is}
-use Rattle.rules.specs.Bytes.{bytes, textByte, nameByte}
+use Rattle.rules.specs.Bytes.{bytes, textByte}
 use Rattle.rules.specs.Texts.{startsWith}
 use Rattle.numbers.specs.declared.Number.{Number}
 use Rattle.numbers.specs.Leading.{numberOf}
 use Rattle.numbers.proofs.SpelledNumbers.{number-within}
 use Rattle.texts.specs.Leading.{leadingIn}
+use Rattle.texts.specs.Names.{nameLength}
 use Rattle.texts.proofs.LeadingBytes.{leading-within}
+use Rattle.texts.proofs.NameEnds.{name-length-within}
 use Rattle.faults.specs.declared.Fault.{Fault}
 use Rattle.read_opening.specs.declared.Enclosed.{Enclosed}
 use Rattle.read_opening.specs.Heads.{headOf, behind, beginsSign, beginsIsotope, beginsChange}
@@ -69,15 +70,15 @@ pub record Within (c : Enclosed) (s : List ℕ) : Type 0 where
   pub len : c .len ≤ length s
   pub size : c .size ≤ length s
 
-closed-in : (c : List Rng) (s : List ℕ) (end : ℕ) (f : Fault) (t : Bool) → Within (cond t (enclosedOf (leadingIn c (drop 1 s)) (length s) end f) (nothing f)) s
+closed-in : (n : ℕ) (s : List ℕ) → n ≤ length (drop 1 s) → (end : ℕ) (f : Fault) (t : Bool) → Within (cond t (enclosedOf n (length s) end f) (nothing f)) s
 unfolding enclosedOf
-closed-in c s end f true = record { len = omega arith; size = omega (arith, leading-within c (drop 1 s), length-drop 1 s) }
-closed-in c s end f false = record { len = omega arith; size = omega arith }
+closed-in n s h end f true = record { len = omega arith; size = omega (arith, h, length-drop 1 s) }
+closed-in n s h end f false = record { len = omega arith; size = omega arith }
 
 pub text-within : (end : ℕ) (s : List ℕ) (f : Fault) → Within (textOf end s f) s
 unfolding textOf
-text-within end s f = closed-in textByte s end f (startsWith (bytes "{") s)
+text-within end s f = closed-in (leadingIn textByte (drop 1 s)) s (leading-within textByte (drop 1 s)) end f (startsWith (bytes "{") s)
 
 pub name-within : (end : ℕ) (s : List ℕ) (f : Fault) → Within (nameOf end s f) s
 unfolding nameOf
-name-within end s f = closed-in nameByte s end f (startsWith (bytes "[") s)
+name-within end s f = closed-in (nameLength (drop 1 s)) s (name-length-within (drop 1 s)) end f (startsWith (bytes "[") s)

@@ -9,7 +9,7 @@ use lib.ListN.{length, drop, length-append}
 use lib.Seq.{drop-append-seam, drop-append-add}
 use borrow.Author.Tests.{ltb-true, ne-eqb}
 use Rattle.lang.specs.Parts.{Opt, silent, written, optText, Such}
-use Rattle.rules.specs.Bytes.{bytes, digit, textByte, nameByte}
+use Rattle.rules.specs.Bytes.{bytes, digit, textByte}
 use Rattle.rules.specs.Texts.{firstIn, startsWith, isName, Text, bracedText, bracketText}
 use Rattle.rules.specs.Numbers.{From, numberText}
 use Rattle.rules.specs.Losses.{Sign, minus, plus, signText}
@@ -21,7 +21,9 @@ use Rattle.numbers.specs.Leading.{numberOf}
 use Rattle.numbers.proofs.SpelledNumbers.{number-read, number-silent}
 use Rattle.numbers.proofs.Bounds.{some-digits}
 use Rattle.texts.specs.Leading.{leadingIn}
-use Rattle.texts.proofs.LeadingBytes.{text-ends, name-ends}
+use Rattle.texts.specs.Names.{nameLength}
+use Rattle.texts.proofs.LeadingBytes.{text-ends}
+use Rattle.texts.proofs.NameEnds.{name-ends}
 use Rattle.faults.specs.declared.Fault.{Fault}
 use Rattle.faults.specs.Faults.{join, after}
 use Rattle.read_formula.specs.Units.{orOne}
@@ -162,5 +164,5 @@ pub name-here : {test : List ℕ → Bool} (n : Such test) → T (isName (n .byt
     ≡ record { size = length (n .bytes); len = length (bracketText n); fault = after f (closedPart bracketText n .marks (end - length (bracketText n ++ k))) }
 unfolding nameOf
 name-here n g k end f h =
-    let e : leadingIn nameByte (drop 1 (bracketText n ++ k)) ≡ length (n .bytes) = ap (λ (s : List ℕ). leadingIn nameByte (drop 1 s)) (enclosed-text 91 93 (n .bytes) k) ∙ name-ends (n .bytes) k g in
+    let e : nameLength (drop 1 (bracketText n ++ k)) ≡ length (n .bytes) = ap (λ (s : List ℕ). nameLength (drop 1 s)) (enclosed-text 91 93 (n .bytes) k) ∙ name-ends (n .bytes) k g in
     ap (λ (x : ℕ). enclosedOf x (length (bracketText n ++ k)) end f) e ∙ enclosed-read 91 93 (n .bytes) k end f h

@@ -5,10 +5,11 @@ use mathlib.Core.List.{List}
 use lib.Dec.{ltb}
 use lib.ListN.{length, drop}
 use Rattle.lang.specs.Mark.{Mark}
-use Rattle.rules.specs.Bytes.{bytes, textByte, nameByte}
+use Rattle.rules.specs.Bytes.{bytes, textByte}
 use Rattle.rules.specs.Texts.{startsWith}
 use Rattle.rules.specs.Limits.{maxText}
 use Rattle.texts.specs.Leading.{leadingIn}
+use Rattle.texts.specs.Names.{nameLength}
 use Rattle.faults.specs.declared.Fault.{Fault}
 use Rattle.faults.specs.Faults.{join}
 use Rattle.read_opening.specs.declared.Enclosed.{Enclosed}
@@ -28,4 +29,4 @@ unfoldable pub textOf : ℕ → List ℕ → Fault → Enclosed
 textOf end s f = cond (startsWith (bytes "{") s) (enclosedOf (leadingIn textByte (drop 1 s)) (length s) end f) (nothing f)
 
 unfoldable pub nameOf : ℕ → List ℕ → Fault → Enclosed
-nameOf end s f = cond (startsWith (bytes "[") s) (enclosedOf (leadingIn nameByte (drop 1 s)) (length s) end f) (nothing f)
+nameOf end s f = cond (startsWith (bytes "[") s) (enclosedOf (nameLength (drop 1 s)) (length s) end f) (nothing f)

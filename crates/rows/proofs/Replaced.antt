@@ -4,13 +4,12 @@ use Prim.Native.Nat.{ℕ, _≤_}
 use mathlib.Core.Path.{_≡_, refl, sym, ap, ap₂, _∙_, subst}
 use mathlib.Core.Bool.{Bool, true, not, _&&_}
 use mathlib.Core.List.{List, [], _∷_, _++_, map, append-assoc, append-nil}
-use mathlib.Core.Logic.{inl, inr}
 use lib.Dec.{T}
 use lib.ListN.{length, take}
-use Rattle.lang.specs.Re.{Rng, inC, Re, eps, cls, seq, alt, star, Tree, texts, text}
+use Rattle.lang.specs.Re.{Rng, inC, Re, Tree, text}
 use Rattle.lang.specs.Parts.{Opt, silent, written, optText}
 use Rattle.lang.specs.Order.{Each, none, next}
-use Rattle.lang.proofs.Deriv.{and-0, and-1}
+use Rattle.lang.proofs.EachByte.{eachClass, each-text}
 use Rattle.lang.proofs.Tests.{t-is}
 use Rattle.rules.specs.Elements.{symbols}
 use Rattle.rules.specs.Decimals.{Decimal, decimalText}
@@ -122,31 +121,17 @@ last-fed row n t h = (rows-then n (last-row h t), rows-around row n t no-rows)
 
 -- ---- no line feed is ever written
 
--- no class of a grammar has a line feed
-abbrev noFeed : Re → Bool
-noFeed eps = true
-noFeed (cls c) = not (inC c 10)
-noFeed (seq r s) = noFeed r && noFeed s
-noFeed (alt r s) = noFeed r && noFeed s
-noFeed (star r) = noFeed r
+abbrev free : List Rng → Bool
+free c = not (inC c 10)
 
-byte-other : (c : List Rng) (b : ℕ) → T (not (inC c 10)) → T (inC c b) → b ≡ 10 → ⊥
+byte-other : (c : List Rng) (b : ℕ) → T (free c) → T (inC c b) → b ≡ 10 → ⊥
 byte-other c b n i e = subst (λ (x : Bool). T (not x)) (t-is (inC c 10) (subst (λ (x : ℕ). T (inC c x)) e i)) n
 
-texts-lack : (r : Re) → ((t : Tree r) (k : List ℕ) → T (lacks 10 k) → T (lacks 10 (text r t k))) → (ts : List (Tree r)) (k : List ℕ) → T (lacks 10 k)
-    → T (lacks 10 (texts (text r) ts k))
-texts-lack r h [] k e = e
-texts-lack r h (t ∷ ts) k e = h t (texts (text r) ts k) (texts-lack r h ts k e)
+-- no class of a grammar has a line feed: no text of it has one
+text-lacks : (r : Re) → T (eachClass free r) → (t : Tree r) (k : List ℕ) → T (lacks 10 k) → T (lacks 10 (text r t k))
+text-lacks r g t k e = each-text free (λ l. T (lacks 10 l)) (λ c b l n i m. lacks-more 10 b l (byte-other c b n i) m) r g t k e
 
-text-lacks : (r : Re) → T (noFeed r) → (t : Tree r) (k : List ℕ) → T (lacks 10 k) → T (lacks 10 (text r t k))
-text-lacks eps l t k e = e
-text-lacks (cls c) l t k e = lacks-more 10 (t .val) k (byte-other c (t .val) l (t .isIn)) e
-text-lacks (seq r s) l t k e = text-lacks r (and-0 (noFeed r) (noFeed s) l) (t .0) (text s (t .1) k) (text-lacks s (and-1 (noFeed r) (noFeed s) l) (t .1) k e)
-text-lacks (alt r s) l (inl t) k e = text-lacks r (and-0 (noFeed r) (noFeed s) l) t k e
-text-lacks (alt r s) l (inr t) k e = text-lacks s (and-1 (noFeed r) (noFeed s) l) t k e
-text-lacks (star r) l ts k e = texts-lack r (text-lacks r l) ts k e
-
-line-free : T (noFeed lineRe)
+line-free : T (eachClass free lineRe)
 unfolding symbolRe symbols
 line-free = tt
 

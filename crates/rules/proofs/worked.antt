@@ -9,3 +9,4 @@ pub mod Symbols
 pub mod Classes
 pub mod Bounds
 pub mod Points
+pub mod Nested

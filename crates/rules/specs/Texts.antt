@@ -3,10 +3,10 @@ use Prim.Native.Nat.{ℕ}
 use mathlib.Core.Bool.{Bool, true, false, not, _&&_, _||_}
 use mathlib.Core.List.{List, [], _∷_, _++_}
 use lib.Dec.{eqb}
-use Rattle.lang.specs.Re.{Rng}
+use Rattle.lang.specs.Re.{Rng, Brackets, brackets, paired}
 use Rattle.lang.specs.Parts.{Such, all}
 pub use Rattle.lang.specs.Parts.{firstIn}
-use Rattle.rules.specs.Bytes.{bytes, letter, textByte, nameByte}
+use Rattle.rules.specs.Bytes.{bytes, _to_, letter, textByte, nameByte}
 
 -- one or more bytes of a class
 abbrev pub someOf : List Rng → List ℕ → Bool
@@ -21,8 +21,14 @@ startsWith (a ∷ p) (b ∷ w) = eqb a b && startsWith p w
 abbrev pub isText : List ℕ → Bool
 isText w = someOf textByte w
 
+-- `[` opens a bracket inside a name and `]` closes one (document 02, M-100); the other bytes 0x20 to 0x7E stand for themselves
+abbrev pub nameBrackets : Brackets
+nameBrackets = brackets nameByte ("[" to "[" ∷ []) ("]" to "]" ∷ [])
+
+-- one or more bytes, in which brackets pair up
 abbrev pub isName : List ℕ → Bool
-isName w = someOf nameByte w
+isName [] = false
+isName (b ∷ w) = paired nameBrackets (b ∷ w) 0
 
 -- the name of a loss begins with a letter
 abbrev pub isLossName : List ℕ → Bool

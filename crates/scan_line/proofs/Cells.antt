@@ -3,15 +3,19 @@ use Prim.Native.Nat.{ℕ, _+_, _*_, _<_, _≤_}
 use mathlib.Core.Path.{_≡_, refl, ap, _∙_}
 use mathlib.Core.List.{List, [], _++_}
 use native.Mathlib.Omega.{arith}
-use lib.Dec.{eqb}
+use lib.Dec.{eqb, leb}
 use lib.ListN.{length, getD, replicate, List·getD-append}
 use lib.Seq.{getD-append-add}
 use Rattle.lang.proofs.Flat.{laid, laid-at}
+use Rattle.lang.specs.Re.{inC}
+use Rattle.lang.specs.Scan.{moved}
 use Rattle.lang.proofs.Certify.{step, accepting, kind-lt}
+use Rattle.lang.proofs.Deep.{move}
 use Rattle.put_bytes.specs.Puts.{Put}
 use Rattle.put_bytes.proofs.Putting.{filled}
-use Rattle.shape.specs.Tables.{states, kinds, rowsAt, endsAt, size, classes, rows, accepts, packed}
-use Rattle.scan_line.specs.Steps.{machineBytes, stepBy, endsBy}
+use Rattle.rules.specs.Texts.{nameBrackets}
+use Rattle.shape.specs.Tables.{states, deeps, kinds, rowsAt, endsAt, size, classes, rows, accepts, packed}
+use Rattle.scan_line.specs.Steps.{machineBytes, stepBy, moveBy, endsBy}
 use Rattle.shape.proofs.TableMachine.{machine}
 use Rattle.shape.proofs.Certificate.{certified}
 
@@ -20,6 +24,11 @@ pub record Steps (m : List ℕ) : Type 0 where
   pub long : size ≤ length m
   pub steps : (q b : ℕ) → q < states → b < 256 → stepBy m q b ≡ step machine q b
   pub ends : (q : ℕ) → q < states → endsBy m q ≡ accepting machine q
+
+-- so they move as it does
+pub moves : {m : List ℕ} → Steps m → (q d b : ℕ) → q < states → b < 256 → moveBy m q d b ≡ move machine q d b
+unfolding machine moveBy
+moves o q d b h g = ap (moved (leb deeps q) (inC (nameBrackets .opens) b) (inC (nameBrackets .closes) b) q d) (o .steps q b h g)
 
 -- ---- five lists one after the other: what stands in the first, the second and the fourth
 
@@ -38,13 +47,13 @@ module _ (cs ls zs es ys : List ℕ) where
       getD-append-add cs (ls ++ (zs ++ (es ++ ys))) (length ls + (length zs + i)) 0 ∙ getD-append-add ls (zs ++ (es ++ ys)) (length zs + i) 0
       ∙ getD-append-add zs (es ++ ys) i 0 ∙ List·getD-append es ys 0 i h
 
--- ---- the machine's: 26 rows and 26 marks belong to no state
+-- ---- the machine's: 24 rows and 24 marks belong to no state
 
 unfoldable noRows : List ℕ
-noRows = replicate 1846 0
+noRows = replicate 1704 0
 
 unfoldable noMarks : List ℕ
-noMarks = replicate 26 0
+noMarks = replicate 24 0
 
 unfoldable allRows : List ℕ
 allRows = laid rows
@@ -61,7 +70,7 @@ rows-length : length allRows ≡ states * kinds
 unfolding allRows rows
 rows-length = refl
 
-none-length : length noRows ≡ 26 * kinds
+none-length : length noRows ≡ 24 * kinds
 unfolding noRows
 none-length = refl
 

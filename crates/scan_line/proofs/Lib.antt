@@ -1,5 +1,6 @@
 pub mod Cells
 pub mod Walks
+pub mod Moves
 pub mod Scans
 pub mod Parts
 pub mod One

@@ -7,19 +7,19 @@ use native.Mathlib.Omega.{arith}
 use native.Mathlib.Decide.{decLe}
 use lib.ListN.{length, length-drop, getD, drop, drop-of-length-le}
 use borrow.Author.Tests.{lt-ltb, le-ltb, le-leb, lt-leb}
-use Rattle.lang.proofs.Certify.{step, step-le}
+use Rattle.lang.proofs.Deep.{move, move-le}
 use Rattle.lang.proofs.Loop as Loop
 use Rattle.lang.proofs.Loop.{Reading}
 use Rattle.rules.specs.Lines.{Shape, stray, short, fine, misshapen}
 use Rattle.shape.specs.Tables.{states, size}
 use Rattle.scan_line.specs.declared.Progress.{Progress}
 use Rattle.scan_line.specs.declared.Verdict.the-variants.{Fine, Short, Stray}
-use Rattle.scan_line.specs.Steps.{machineBytes, stepBy, endsBy, standing, runBy, verdictBy, scannedBy}
+use Rattle.scan_line.specs.Steps.{machineBytes, moveBy, endsBy, standing, runBy, verdictBy, scannedBy}
 use Rattle.scan_line.specs.Verdicts.{JudgedBy}
 use Rattle.shape.proofs.TableMachine.{machine}
 use Rattle.shape.proofs.Certificate.{certified}
 use Rattle.shape.proofs.OneSpelling.{from-start}
-use Rattle.scan_line.proofs.Cells.{Steps, machine-steps}
+use Rattle.scan_line.proofs.Cells.{Steps, moves, machine-steps}
 use Rattle.scan_line.proofs.Walks.{run-on, run-stops, taken-run, from-byte}
 
 -- ---- the verdict of a scan that stands somewhere
@@ -44,20 +44,20 @@ module _ (m : List ℕ) (s : Progress) where
 -- ---- by bytes that step and end as the machine does, over a line of bytes
 
 module _ (m : List ℕ) (o : Steps m) (line : List ℕ) (bytes : (i : ℕ) → i < length line → getD line i 0 < 256) where
-  abbrev Reads : ℕ → ℕ → Type 0
-  Reads q i = Reading Shape machine line q i
+  abbrev Reads : ℕ → ℕ → ℕ → Type 0
+  Reads q d i = Reading Shape machine line q d i
 
-  small : {q i : ℕ} → Reads q i → q < states
+  small : {q d i : ℕ} → Reads q d i → q < states
   unfolding machine
-  small r = r .small
+  small r = r .stand .small
 
-  at-end : (q i : ℕ) → Reads q i → length line ≤ i → (a : Bool) → endsBy m q ≡ a → JudgedBy line (verdictBy m (standing q i))
-  at-end q i r h true e =
-      subst (JudgedBy line) (sym (verdict-fine m (standing q i) (o .long) (small r) e))
-      (fine (Loop.fine Shape machine certified line q i r h true (sym e ∙ o .ends q (small r)) refl))
-  at-end q i r h false e =
-      let x = Loop.short Shape machine certified line q i r h false (sym e ∙ o .ends q (small r)) refl in
-      subst (JudgedBy line) (sym (verdict-short m (standing q i) (o .long) (small r) e)) (misshapen (short (x .0) (x .1)))
+  at-end : (q d i : ℕ) → Reads q d i → length line ≤ i → (a : Bool) → endsBy m q ≡ a → JudgedBy line (verdictBy m (standing q d i))
+  at-end q d i r h true e =
+      subst (JudgedBy line) (sym (verdict-fine m (standing q d i) (o .long) (small r) e))
+      (fine (Loop.fine Shape machine certified line q d i r h true (sym e ∙ o .ends q (small r)) refl))
+  at-end q d i r h false e =
+      let x = Loop.short Shape machine certified line q d i r h false (sym e ∙ o .ends q (small r)) refl in
+      subst (JudgedBy line) (sym (verdict-short m (standing q d i) (o .long) (small r) e)) (misshapen (short (x .0) (x .1)))
 
   past : (i : ℕ) → drop i line ≡ [] → length line ≤ i
   past i e = let p : length line - i ≡ 0 = sym (length-drop i line) ∙ ap length e in omega arith
@@ -66,15 +66,10 @@ module _ (m : List ℕ) (o : Steps m) (line : List ℕ) (bytes : (i : ℕ) → i
   inside i b w e (yes h) = absurd (nil≢cons (sym (drop-of-length-le line h) ∙ e))
   inside i b w e (no h) = omega arith
 
-  -- a step from a state is to a state, or stops
-  small-step : (q b : ℕ) → q < states → b < 256 → stepBy m q b ≤ states
-  unfolding machine
-  small-step q b h g = subst (λ (x : ℕ). x ≤ states) (sym (o .steps q b h g)) (step-le machine certified q b h g)
-
-  walk : (w : List ℕ) (q i : ℕ) → drop i line ≡ w → Reads q i → JudgedBy line (verdictBy m (runBy m q i w))
+  walk : (w : List ℕ) (q d i : ℕ) → drop i line ≡ w → Reads q d i → JudgedBy line (verdictBy m (runBy m q d i w))
   unfolding runBy machine
-  walk [] q i e r = at-end q i r (past i e) (endsBy m q) refl
-  walk (b ∷ w) q i e r = by (λ q′ r′. walk w q′ (i + 1) t r′) (decLe states (stepBy m q b))
+  walk [] q d i e r = at-end q d i r (past i e) (endsBy m q) refl
+  walk (b ∷ w) q d i e r = by (λ q′ d′ r′. walk w q′ d′ (i + 1) t r′) (decLe states (moveBy m q d b .0))
     where
       h : i < length line
       h = inside i b w e (decLe (length line) i)
@@ -85,26 +80,35 @@ module _ (m : List ℕ) (o : Steps m) (line : List ℕ) (bytes : (i : ℕ) → i
       same : getD line i 0 ≡ b
       same = head-eq-of-cons-eq (sym (from-byte line i h) ∙ e)
 
-      p : stepBy m q b ≡ step machine q (getD line i 0)
-      p = ap (stepBy m q) (sym same) ∙ o .steps q (getD line i 0) (small r) (bytes i h)
+      p : moveBy m q d b ≡ move machine q d (getD line i 0)
+      p = ap (moveBy m q d) (sym same) ∙ moves o q d (getD line i 0) (small r) (bytes i h)
 
-      most : stepBy m q b ≤ states
-      most = small-step q b (small r) (subst (λ (x : ℕ). x < 256) same (bytes i h))
+      p₀ : moveBy m q d b .0 ≡ move machine q d (getD line i 0) .0
+      p₀ = ap (λ (x : ℕ × ℕ). x .0) p
 
-      by : ((q′ : ℕ) → Reads q′ (i + 1) → JudgedBy line (verdictBy m (runBy m q′ (i + 1) w))) → Dec (states ≤ stepBy m q b) → JudgedBy line (verdictBy m (runBy m q i (b ∷ w)))
-      by ih (yes d) =
-          subst (λ (s : Progress). JudgedBy line (verdictBy m s)) (sym (run-stops m q i b w d))
-          (subst (JudgedBy line) (sym (verdict-stray m (standing states i) (o .long) (omega arith)))
-          (misshapen (stray i (Loop.dies Shape machine certified line q i (stepBy m q b) r h (bytes i h) p (omega (arith, most))))))
-      by ih (no d) =
-          subst (λ (s : Progress). JudgedBy line (verdictBy m s)) (sym (run-on m q i b w (omega arith)))
-          (ih (stepBy m q b) (Loop.turn Shape machine certified line q i (stepBy m q b) r h (bytes i h) p (omega arith)))
+      p₁ : moveBy m q d b .1 ≡ move machine q d (getD line i 0) .1
+      p₁ = ap (λ (x : ℕ × ℕ). x .1) p
+
+      -- to a state, or it stops
+      most : moveBy m q d b .0 ≤ states
+      most = subst (λ (x : ℕ). x ≤ states) (sym p₀) (move-le machine certified q d (getD line i 0) (r .stand) (bytes i h))
+
+      by : ((q′ d′ : ℕ) → Reads q′ d′ (i + 1) → JudgedBy line (verdictBy m (runBy m q′ d′ (i + 1) w)))
+          → Dec (states ≤ moveBy m q d b .0) → JudgedBy line (verdictBy m (runBy m q d i (b ∷ w)))
+      by ih (yes x) =
+          subst (λ (s : Progress). JudgedBy line (verdictBy m s)) (sym (run-stops m q d i b w x))
+          (subst (JudgedBy line) (sym (verdict-stray m (standing states 0 i) (o .long) (omega arith)))
+          (misshapen (stray i (Loop.dies Shape machine certified line q d i (moveBy m q d b .0) (moveBy m q d b .1) r h (bytes i h) p₀ p₁ (omega (arith, most))))))
+      by ih (no x) =
+          subst (λ (s : Progress). JudgedBy line (verdictBy m s)) (sym (run-on m q d i b w (omega arith)))
+          (ih (moveBy m q d b .0) (moveBy m q d b .1)
+          (Loop.turn Shape machine certified line q d i (moveBy m q d b .0) (moveBy m q d b .1) r h (bytes i h) p₀ p₁ (omega arith)))
 
   judged : length line < 2 ^ 64 → JudgedBy line (scannedBy m line)
   unfolding machine scannedBy
   judged h =
-      subst (λ (s : Progress). JudgedBy line (verdictBy m s)) (sym (taken-run m (standing 0 0) line (o .long) (omega arith) (omega arith)))
-      (walk line 0 0 refl (Loop.begin Shape machine certified line (omega arith) from-start))
+      subst (λ (s : Progress). JudgedBy line (verdictBy m s)) (sym (taken-run m (standing 0 0 0) line (o .long) (omega arith) (omega arith) (omega arith)))
+      (walk line 0 0 0 refl (Loop.begin Shape machine certified line (omega arith) from-start))
 
 -- the verdicts by the machine's bytes are what the rules say
 pub by-machine : (line : List ℕ) → ((i : ℕ) → i < length line → getD line i 0 < 256) → length line < 2 ^ 64 → JudgedBy line (scannedBy machineBytes line)

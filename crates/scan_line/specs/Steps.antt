@@ -5,10 +5,14 @@ use mathlib.Core.Bool.{Bool, cond, _&&_}
 use mathlib.Core.List.{List, [], _∷_}
 use lib.Dec.{ltb, leb, eqb}
 use lib.ListN.{length, getD}
+use Rattle.lang.specs.Re.{inC}
 use Rattle.lang.specs.Parts.{flat}
+use Rattle.lang.specs.Scan.{moved}
 use Rattle.rules.specs.Stored.{little}
-use Rattle.shape.specs.Tables.{states, kinds, rowsAt, endsAt, size, packed}
+use Rattle.rules.specs.Texts.{nameBrackets}
+use Rattle.shape.specs.Tables.{states, deeps, kinds, rowsAt, endsAt, size, packed}
 use Rattle.scan_line.specs.declared.Progress.{Progress}
+use Rattle.scan_line.specs.declared.Stand.{Stand}
 use Rattle.scan_line.specs.declared.Verdict.{Verdict}
 use Rattle.scan_line.specs.declared.Verdict.the-variants.{Fine, Short, Stray}
 
@@ -16,27 +20,37 @@ use Rattle.scan_line.specs.declared.Verdict.the-variants.{Fine, Short, S
 unfoldable pub machineBytes : List ℕ
 machineBytes = flat (little 8) packed
 
--- from state q by the byte b
+-- from state q by the byte b, as the table has it
 unfoldable pub stepBy : List ℕ → ℕ → ℕ → ℕ
 stepBy m q b = getD m (rowsAt + q * kinds + getD m b 0) 0
+
+-- with d brackets more open inside a name than state q says: from `deeps` on those that open and close are counted, and no row is needed for each depth
+unfoldable pub moveBy : List ℕ → ℕ → ℕ → ℕ → ℕ × ℕ
+moveBy m q d b = moved (leb deeps q) (inC (nameBrackets .opens) b) (inC (nameBrackets .closes) b) q d (stepBy m q b)
+
+abbrev pub standOf : ℕ × ℕ → Stand
+standOf p = record { state = p .0; depth = p .1 }
 
 unfoldable pub endsBy : List ℕ → ℕ → Bool
 endsBy m q = eqb (getD m (endsAt + q) 0) 1
 
-abbrev pub standing : ℕ → ℕ → Progress
-standing q at = record { state = q; at = at }
+abbrev pub standing : ℕ → ℕ → ℕ → Progress
+standing q d at = record { state = q; depth = d; at = at }
 
--- from state q at a place, over bytes: the walk stops where no shape goes on
-unfoldable pub runBy : List ℕ → ℕ → ℕ → List ℕ → Progress
-runBy m q at [] = standing q at
-runBy m q at (b ∷ w) = let more = runBy m (stepBy m q b) (at + 1) w in cond (ltb (stepBy m q b) states) more (standing states at)
+-- from state q, with d brackets more open, at a place, over bytes: the walk stops where no shape goes on
+unfoldable pub runBy : List ℕ → ℕ → ℕ → ℕ → List ℕ → Progress
+runBy m q d at [] = standing q d at
+runBy m q d at (b ∷ w) =
+    let p = moveBy m q d b in
+    let more = runBy m (p .0) (p .1) (at + 1) w in
+    cond (ltb (p .0) states) more (standing states 0 at)
 
--- a scan that stopped stays, and so does one by too few bytes, and one whose place would not fit a usize
+-- a scan that stopped stays, and so does one by too few bytes, one with more brackets open than bytes were read, and one whose place would not fit a usize
 abbrev pub goesOn : List ℕ → Progress → List ℕ → Bool
-goesOn m s part = leb size (length m) && (ltb (s .state) states && ltb (s .at + length part) (2 ^ 64))
+goesOn m s part = leb size (length m) && (ltb (s .state) states && (leb (s .depth) (s .at) && ltb (s .at + length part) (2 ^ 64)))
 
 unfoldable pub takenBy : List ℕ → Progress → List ℕ → Progress
-takenBy m s part = cond (goesOn m s part) (runBy m (s .state) (s .at) part) s
+takenBy m s part = cond (goesOn m s part) (runBy m (s .state) (s .depth) (s .at) part) s
 
 -- by too few bytes everything is stray
 unfoldable pub verdictBy : List ℕ → Progress → Verdict
@@ -44,4 +58,4 @@ verdictBy m s = cond (leb size (length m)) (cond (ltb (s .state) states) (cond (
 
 -- a line in one part
 unfoldable pub scannedBy : List ℕ → List ℕ → Verdict
-scannedBy m line = verdictBy m (takenBy m (standing 0 0) line)
+scannedBy m line = verdictBy m (takenBy m (standing 0 0 0) line)

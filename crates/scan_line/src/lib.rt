@@ -1,14 +1,15 @@
 // The shape of a line, decided by one walk of a table machine. Document 01, "Numbers of refusal", 2 and 3.
 // The machine is made once, by `machine`, and lent to whatever scans by it: a constant would be made anew by each function that names it.
 ghost use mathlib.Core.Path.{_≡_};
-ghost use Prim.Native.Nat.{_<_, _≤_};
+ghost use Prim.Native.Nat.{_+_, _<_, _≤_, _^_};
 ghost use lib.ListN.{length};
-ghost use Rattle.shape.specs.Tables.{states, size};
-ghost use Rattle.scan_line.specs.Steps.{machineBytes, stepBy, endsBy, standing, takenBy, verdictBy, scannedBy};
+ghost use Rattle.shape.specs.Tables.{states, deeps, size};
+ghost use Rattle.scan_line.specs.Steps.{machineBytes, stepBy, moveBy, standOf, endsBy, standing, takenBy, verdictBy, scannedBy};
 ghost use Rattle.scan_line.specs.Verdicts.{JudgedBy};
 
 mod tables;
 
+use crate::tables::DEEPS;
 use crate::tables::ENDS_AT;
 use crate::tables::KINDS;
 use crate::tables::PACKED;
@@ -37,13 +38,62 @@ pub fn machine() -> [u8; SIZE]
     bytes
 }
 
-// The state after a byte; at least 230 where no shape goes on with it.
+// The state after a byte, as the table has it; at least `STATES` where no shape goes on with it.
 fn next(machine: &[u8], q: usize, b: u8) -> usize
     requires { ⌜ (size ≤ length (now machine)) × (q < states) ⌝ }
     ensures { λ r. ⌜ r ≡ stepBy (now (machine .entry)) q b ⌝ }
 {
     let c = machine[b as usize] as usize;
     machine[ROWS_AT + q * KINDS + c] as usize
+}
+
+// Where the machine stands: a state, and how many brackets more are open inside a name than the state says.
+struct Stand {
+    state: usize,
+    depth: usize,
+}
+
+// Where it stands after a byte inside a bracket of a name. Brackets that open and close in there are counted: a state for each depth would not be few.
+fn step_inside(machine: &[u8], q: usize, d: usize, b: u8) -> Stand
+    requires { ⌜ (size ≤ length (now machine)) × ((deeps ≤ q) × ((q < states) × (d + 1 < 2 ^ 64))) ⌝ }
+    ensures { λ r. ⌜ r ≡ standOf (moveBy (now (machine .entry)) q d b) ⌝ }
+{
+    if b == b'[' {
+        return Stand {
+            state: q,
+            depth: d + 1,
+        };
+    }
+    if b != b']' {
+        return Stand {
+            state: next(machine, q, b),
+            depth: d,
+        };
+    }
+    if d > 0 {
+        return Stand {
+            state: q,
+            depth: d - 1,
+        };
+    }
+    Stand {
+        state: next(machine, q, b),
+        depth: d,
+    }
+}
+
+// Where it stands after a byte.
+fn step(machine: &[u8], q: usize, d: usize, b: u8) -> Stand
+    requires { ⌜ (size ≤ length (now machine)) × ((q < states) × (d + 1 < 2 ^ 64)) ⌝ }
+    ensures { λ r. ⌜ r ≡ standOf (moveBy (now (machine .entry)) q d b) ⌝ }
+{
+    if q < DEEPS {
+        return Stand {
+            state: next(machine, q, b),
+            depth: d,
+        };
+    }
+    step_inside(machine, q, d, b)
 }
 
 // Whether a line may end in a state.
@@ -54,18 +104,24 @@ fn ends(machine: &[u8], q: usize) -> bool
     machine[ENDS_AT + q] == 1
 }
 
-// How far a scan has come, after some bytes of a line, which may come in parts: the machine's state, and how many bytes begin a shape.
+// How far a scan has come, after some bytes of a line, which may come in parts: the machine's state, how many brackets more are open inside a name
+// than it says, and how many bytes begin a shape.
 pub struct Progress {
     pub state: usize,
+    pub depth: usize,
     pub at: usize,
 }
 
 impl Progress {
     // Before the first byte of a line.
     pub fn begin() -> Progress
-        ensures { λ r. ⌜ r ≡ standing 0 0 ⌝ }
+        ensures { λ r. ⌜ r ≡ standing 0 0 0 ⌝ }
     {
-        Progress { state: 0, at: 0 }
+        Progress {
+            state: 0,
+            depth: 0,
+            at: 0,
+        }
     }
 
     // After a further part of the line.
@@ -74,11 +130,16 @@ impl Progress {
     {
         let start = self.at;
         let mut q = self.state;
+        let mut d = self.depth;
         // With a state and a class below 256 every index is inside so many bytes.
         if machine.len() < SIZE {
             return self;
         }
         if q >= STATES {
+            return self;
+        }
+        // No scan has more brackets open than bytes read; so the depth fits where the place does.
+        if d > start {
             return self;
         }
         // A place past the last usize could not be told.
@@ -87,10 +148,13 @@ impl Progress {
         }
         let mut i: usize = 0;
         while i < part.len() {
-            q = next(machine, q, part[i]);
+            let s = step(machine, q, d, part[i]);
+            q = s.state;
+            d = s.depth;
             if q >= STATES {
                 return Progress {
                     state: STATES,
+                    depth: 0,
                     at: start + i,
                 };
             }
@@ -98,6 +162,7 @@ impl Progress {
         }
         Progress {
             state: q,
+            depth: d,
             at: start + i,
         }
     }

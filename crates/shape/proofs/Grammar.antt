@@ -6,9 +6,11 @@ use Rattle.lang.specs.Re.{Rng, Re, eps, cls, seq, alt, star}
 use Rattle.lang.proofs.Lits.{litRe, litsRe}
 use Rattle.lang.proofs.Means.{optRe}
 use Rattle.lang.proofs.Names.{headRe}
+use Rattle.lang.proofs.NestedNames.{pairedRe, nestedRe}
 use Rattle.rules.specs.Bytes.{bytes, _to_, digit, capital, letter, textByte, nameByte}
 use Rattle.rules.specs.Elements.{symbols}
 use Rattle.rules.specs.Ions.{seriesNames}
+use Rattle.rules.specs.Texts.{nameBrackets}
 
 abbrev pub word : List ℕ → Re
 word w = litRe w
@@ -50,12 +52,12 @@ abbrev pub textRe : Re
 textRe = headRe textByte textByte
 
 abbrev pub nameRe : Re
-nameRe = headRe nameByte nameByte
+nameRe = nestedRe nameBrackets nameByte
 
 abbrev pub lossNameRe : Re
-lossNameRe = headRe nameByte letter
+lossNameRe = seq (cls letter) (pairedRe nameBrackets)
 
--- the bytes of a name but M; but + and -
+-- the bytes that stand for themselves in a name, but M; but + and -
 abbrev pub notM : List Rng
 notM = " " to "L" ∷ "N" to "Z" ∷ "\\" to "\\" ∷ "^" to "~" ∷ []
 
@@ -64,7 +66,7 @@ notSign = " " to "*" ∷ "," to "," ∷ "." to "Z" ∷ "\\" to "\\" ∷ "^" to "
 
 -- a name that begins with no M, or with an M that + and - do not follow
 abbrev pub modificationRe : Re
-modificationRe = alt (headRe nameByte notM) (seq (word (bytes "M")) (optRe (headRe nameByte notSign)))
+modificationRe = alt (nestedRe nameBrackets notM) (seq (word (bytes "M")) (optRe (nestedRe nameBrackets notSign)))
 
 -- ---- formulas
 

@@ -1,11 +1,12 @@
 -- No line has two spellings, and the machine begins where every shape does. Assumes nothing.
 use Prim.Native.Nat.{ℕ}
-use mathlib.Core.Path.{_≡_}
+use mathlib.Core.Path.{_≡_, refl}
 use mathlib.Core.List.{List}
-use mathlib.Core.Logic.{_↔_}
+use mathlib.Core.Logic.{_↔_, inl}
 use native.Mathlib.Omega.{arith}
 use Rattle.lang.proofs.Same.{LA}
-use Rattle.lang.proofs.Certify.{res, one-tree}
+use Rattle.lang.proofs.Certify.{res}
+use Rattle.lang.proofs.Deep.{one-tree}
 use Rattle.lang.proofs.Whole as Whole
 use Rattle.rules.specs.Lines.{Spelling, lineText, Shape}
 use Rattle.shape.specs.Tables.{words}
@@ -20,4 +21,4 @@ from-start = Whole.from-start means-line
 
 pub one-spelling : (s u : Spelling) → lineText s ≡ lineText u → s ≡ u
 unfolding machine words
-one-spelling = Whole.unambiguous means-line (λ line. one-tree machine certified line 0 (omega arith))
+one-spelling = Whole.unambiguous means-line (λ line. one-tree machine certified line 0 0 (record { small = omega arith; flat = inl refl }))

@@ -38,7 +38,7 @@ pub shown-by : (m : List ℕ) (p : Progress) {d e : List ℕ} {v : Verdict} {s t
 shown-by m p roomed q x y = record { waits = λ line h. waits-by roomed (verdict-as q x line h) y }
 
 pub part-ends : {m part w d e : List ℕ} {s r : Stream} {p q fresh : Progress} → s .fed ≡ true → w ≡ part → q ≡ takenBy m p w
-    → Shown m q s d e r → fresh ≡ standing 0 0 → Parted m part s p d e (record { scan = fresh; stream = r })
+    → Shown m q s d e r → fresh ≡ standing 0 0 0 → Parted m part s p d e (record { scan = fresh; stream = r })
 part-ends {m} {d = d} {e} {s} {r} {p} t i j x f =
     let k = j ∙ ap (takenBy m p) i in
     record {

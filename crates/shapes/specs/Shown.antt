@@ -29,7 +29,7 @@ pub record Shown (machine : List ℕ) (p : Progress) (s : Stream) (d e : List �
 
 -- a part is scanned on from p: where a line feed ends it the answer to its line waits and the next scan begins, and else nothing is put
 pub record Parted (machine part : List ℕ) (s : Stream) (p : Progress) (d e : List ℕ) (r : Work) : Type 0 where
-  pub fresh : s .fed ≡ true → r .scan ≡ standing 0 0
+  pub fresh : s .fed ≡ true → r .scan ≡ standing 0 0 0
   pub shown : s .fed ≡ true → Shown machine (takenBy machine p part) s d e (r .stream)
   pub scanned : s .fed ≡ false → r .scan ≡ takenBy machine p part
   pub same : s .fed ≡ false → r .stream ≡ s

@@ -1,63 +1,39 @@
--- Classes of bytes by comparisons: what each test of a byte decides. Assumes nothing.
-use Prim.Native.Nat.{ℕ, _+_, _-_, _≤_, _<_}
-use mathlib.Core.Path.{_≡_, sym}
-use mathlib.Core.Bool.{true, false, _&&_, and-false, or-false}
-use native.Mathlib.Omega.{arith}
-use lib.Dec.{leb}
-use borrow.Author.Tests.{le-leb, lt-leb}
+-- What comparing a byte with single bytes tells of it: computed for each of the 256. Assumes nothing.
+use Prim.Native.Nat.{ℕ, _+_, _-_, _<_}
+use mathlib.Core.Path.{_≡_, ap₂}
+use mathlib.Core.Bool.{Bool, true, false, cond, not, _&&_, _||_, Bool·beq}
+use lib.Dec.{T, eqb, ltb}
 use Rattle.lang.specs.Re.{inC}
-use Rattle.texts.specs.Leading.{between}
+use Rattle.lang.proofs.Machine.{allB, all→}
+use Rattle.lang.proofs.Classes.{beq→}
+use Rattle.rules.specs.Bytes.{textByte}
+use Rattle.rules.specs.Texts.{nameBrackets}
+use Rattle.texts.specs.Leading.{printable}
+use Rattle.texts.specs.Names.{goesOn, openBehind}
 
-module _ (lo hi b : ℕ) where
-  inside : lo ≤ b → b ≤ hi → (leb lo b && leb b hi) ≡ true
-  inside h g = rw (le-leb lo b h, le-leb b hi g)
+-- two tests that agree on each byte
+agree : (f g : ℕ → Bool) → T (allB (λ b. Bool·beq (f b) (g b)) 256) → (b : ℕ) → b < 256 → f b ≡ g b
+agree f g t b h = beq→ (f b) (g b) (all→ (λ b. Bool·beq (f b) (g b)) 256 t b h)
 
-  below : b < lo → (leb lo b && leb b hi) ≡ false
-  below h = rw (lt-leb lo b h)
+-- a text has all printable bytes but `{` and `}`
+pub text-by : (b : ℕ) → b < 256 → inC textByte b ≡ (not (eqb b 123) && (not (eqb b 125) && inC printable b))
+text-by = agree (inC textByte) (λ b. not (eqb b 123) && (not (eqb b 125) && inC printable b)) tt
 
-  above : hi < b → (leb lo b && leb b hi) ≡ false
-  above h = rw (lt-leb b hi h) (and-false (leb lo b))
+-- whether a byte goes on with a name, by whether a bracket is open
+abbrev goes : Bool → ℕ → Bool
+goes t b = inC (nameBrackets .plain) b || (inC (nameBrackets .opens) b || (t && inC (nameBrackets .closes) b))
 
-  from : lo ≤ b → (leb lo b && leb b hi) ≡ leb b hi
-  from h = rw (le-leb lo b h)
+-- all printable bytes do, but `]` only where one is
+pub goes-by : (d b : ℕ) → b < 256 → goesOn nameBrackets d b ≡ cond (eqb b 93) (ltb 0 d) (inC printable b)
+goes-by d b h = by (ltb 0 d)
+  where
+    by : (t : Bool) → goes t b ≡ cond (eqb b 93) t (inC printable b)
+    by true = agree (goes true) (λ b. cond (eqb b 93) true (inC printable b)) tt b h
+    by false = agree (goes false) (λ b. cond (eqb b 93) false (inC printable b)) tt b h
 
--- the tests of a byte, one after the other
-module _ (opening closing b : ℕ) (printable : 32 < opening) (order : opening < closing) where
-  pub below-all : b < 32 → false ≡ inC (between opening closing) b
-  below-all h =
-      rw (
-        below 32 (opening - 1) b h,
-        below (opening + 1) (closing - 1) b (omega arith),
-        below (closing + 1) 126 b (omega arith),
-      )
-
-  pub below-opening : 32 ≤ b → b < opening → true ≡ inC (between opening closing) b
-  below-opening h g = rw (inside 32 (opening - 1) b h (omega arith))
-
-  pub is-opening : b ≡ opening → false ≡ inC (between opening closing) b
-  is-opening e =
-      rw (
-        above 32 (opening - 1) b (omega arith),
-        below (opening + 1) (closing - 1) b (omega arith),
-        below (closing + 1) 126 b (omega arith),
-      )
-
-  pub below-closing : opening < b → b < closing → true ≡ inC (between opening closing) b
-  below-closing h g = rw (above 32 (opening - 1) b (omega arith), inside (opening + 1) (closing - 1) b (omega arith) (omega arith))
-
-  pub is-closing : b ≡ closing → false ≡ inC (between opening closing) b
-  is-closing e =
-      rw (
-        above 32 (opening - 1) b (omega arith),
-        above (opening + 1) (closing - 1) b (omega arith),
-        below (closing + 1) 126 b (omega arith),
-      )
-
-  pub above-closing : closing < b → leb b 126 ≡ inC (between opening closing) b
-  above-closing h =
-      rw (
-        above 32 (opening - 1) b (omega arith),
-        above (opening + 1) (closing - 1) b (omega arith),
-        from (closing + 1) 126 b (omega arith),
-      )
-      (sym (or-false (leb b 126)))
+-- `[` opens a bracket and `]` closes one
+pub open-by : (d b : ℕ) → b < 256 → openBehind nameBrackets d b ≡ cond (eqb b 91) (d + 1) (cond (eqb b 93) (d - 1) d)
+open-by d b h =
+    ap₂ (λ (x y : Bool). cond x (d + 1) (cond y (d - 1) d))
+    (agree (inC (nameBrackets .opens)) (λ b. eqb b 91) tt b h)
+    (agree (inC (nameBrackets .closes)) (λ b. eqb b 93) tt b h)

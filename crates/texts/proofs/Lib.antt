@@ -1,4 +1,5 @@
 pub mod Classes
 pub mod LeadingLoop
-pub mod Whole
+pub mod NameLoop
 pub mod LeadingBytes
+pub mod NameEnds

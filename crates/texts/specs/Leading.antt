@@ -1,12 +1,13 @@
 -- What bytes begin with. Assumes nothing.
-use Prim.Native.Nat.{ℕ, suc, _+_, _-_}
+use Prim.Native.Nat.{ℕ, suc}
 use mathlib.Core.Bool.{cond}
 use mathlib.Core.List.{List, [], _∷_}
-use Rattle.lang.specs.Re.{Rng, rng, inC}
+use Rattle.lang.specs.Re.{Rng, inC}
+use Rattle.rules.specs.Bytes.{_to_}
 
--- 0x20 to 0x7E without an opening and a closing byte: textByte for { and }, nameByte for [ and ]
-abbrev pub between : ℕ → ℕ → List Rng
-between opening closing = rng 32 (opening - 1) ∷ rng (opening + 1) (closing - 1) ∷ rng (closing + 1) 126 ∷ []
+-- 0x20 to 0x7E, of which texts and names are made
+abbrev pub printable : List Rng
+printable = " " to "~" ∷ []
 
 -- how many bytes of a class
 unfoldable pub leadingIn : List Rng → List ℕ → ℕ

@@ -1,0 +1,20 @@
+-- `scan_line::step` meets its contract: the table in a state that is not deep, and else what `step_inside` promises. Assumes nothing.
+use borrow.Author.Needs.{needs}
+use Rattle.scan_line.proofs.Moves.{flat-step}
+use Rattle.scan_line.proofs.step.Statement.{statement}
+use Rattle.scan_line.proofs.step.Tie as tie
+
+next-requires : tie.Need-next-requires
+next-requires c κs = search needs
+
+returns : tie.Need-returns
+returns c = let a = c .before .before .before .args in flat-step (a .machine .now) (a .q) (a .d) (a .b) (c .before .if1 .taken) (c .next .ensures)
+
+step-inside-requires : tie.Need-step-inside-requires
+step-inside-requires c κs = search needs
+
+returns-2 : tie.Need-returns-2
+returns-2 c = search needs
+
+pub step-spec : {M : Type 1} → statement M
+step-spec = tie.close (tie.spec next-requires returns step-inside-requires returns-2)
