@@ -13,9 +13,14 @@
  *
  *   number  0 done; 1 longer than 4,096 bytes (a row: 4,160); 2 a stray byte; 3 could still become a line; 4 a number past its bound;
  *           5 too many; 6 a rule for one annotation is broken; 7 the confidences exceed 1; 8 too short a buffer; 9 the bytes are no
- *           table or stored row; 12 a bad m/z; 13 a bad intensity. docs/REFUSALS.md says each in plain words.
+ *           table or stored row; 11 a sequence in braces is not of the plain form; 12 a bad m/z; 13 a bad intensity.
+ *           docs/REFUSALS.md says each in plain words.
  *   place   the byte of in that the number speaks of, counted from 0; for 8 the bytes needed; 0 for 0 and 9.
  *   length  how many bytes of out the result has; 0 unless the number is 0.
+ *
+ * Editions: a table begins with the number of its edition. Reading gives edition 2, in which an annotation has 38 bytes; the last two
+ * are the count of residues of its sequence. Writing takes editions 1 and 2. A table of edition 1, in which an annotation has 36 bytes
+ * and no such count, is written if the edition 2 table of the same fields is a table too; the line that it gives reads to that one.
  *
  * Who owns what: the caller owns every buffer, and may free or reuse it once the call has returned. Nothing is allocated, kept or
  * written but out, answer and the machine that is prepared. All bytes of out and answer are written by every call, so they need not
@@ -42,25 +47,26 @@ extern "C" {
 #define MZPAF_MACHINE_SIZE 18688  /* bytes of a machine */
 #define MZPAF_MAX_LINE 4096       /* bytes of a line, and enough for every result of mzpaf_write and mzpaf_relabel */
 #define MZPAF_MAX_ROW 4160        /* bytes of a row, and enough for every result of mzpaf_write_row and mzpaf_relabel_row */
-#define MZPAF_MAX_TABLE 21340     /* enough for every result of mzpaf_read */
-#define MZPAF_MAX_STORED_ROW 21360  /* enough for every result of mzpaf_read_row */
+#define MZPAF_MAX_TABLE 21372     /* enough for every result of mzpaf_read */
+#define MZPAF_MAX_STORED_ROW 21392  /* enough for every result of mzpaf_read_row */
 
 /* ---- one line, one table, one row of a peak list. These make the machine at each call, which takes some 12 microseconds; whoever has
  *      many should prepare one and use the calls below. */
 
-/* The table that a line spells. docs/TABLE.md has its bytes. */
+/* The table that a line spells, of edition 2. docs/TABLE.md has its bytes. */
 uint16_t mzpaf_read(const uint8_t *line, size_t line_len, uint8_t *out, size_t out_len, uint8_t *answer, size_t answer_len);
 
-/* The line that spells a table, in preferred spelling. */
+/* The line that spells a table of edition 1 or 2, in preferred spelling. */
 uint16_t mzpaf_write(const uint8_t *table, size_t table_len, uint8_t *out, size_t out_len, uint8_t *answer, size_t answer_len);
 
 /* A line in preferred spelling: what mzpaf_write gives for what mzpaf_read gives. */
 uint16_t mzpaf_relabel(const uint8_t *line, size_t line_len, uint8_t *out, size_t out_len, uint8_t *answer, size_t answer_len);
 
-/* The stored form of a row: m/z, a tab, intensity, and perhaps a tab and a line; no line feed. It is 20 bytes and a table. */
+/* The stored form of a row: m/z, a tab, intensity, and perhaps a tab and a line; no line feed. It is 20 bytes and a table of
+ * edition 2. */
 uint16_t mzpaf_read_row(const uint8_t *row, size_t row_len, uint8_t *out, size_t out_len, uint8_t *answer, size_t answer_len);
 
-/* The row of a stored row, in preferred spelling, without a line feed. */
+/* The row of a stored row, whose table may have either edition, in preferred spelling, without a line feed. */
 uint16_t mzpaf_write_row(const uint8_t *stored, size_t stored_len, uint8_t *out, size_t out_len, uint8_t *answer, size_t answer_len);
 
 /* A row in preferred spelling. */

@@ -21,10 +21,13 @@ sys.dont_write_bytecode = True
 import decode
 
 # The flags of the other implementation for the requests that have landed here and change answers.
-LANDED = ("--m100", "--m102")
+LANDED = ("--m100", "--m102", "--m105")
 
 ROOT = os.path.join(os.path.dirname(os.path.abspath(__file__)), "..", "crates")
-ROOM, MAX_LINE = 21340, 4096
+ROOM, MAX_LINE = 21372, 4096
+# Bytes of a header, and of an annotation's record in the edition that lines are read to.
+HEADER, RECORD = 28, 38
+CAPITALS = b"ABCDEFGHIJKLMNOPQRSTUVWXYZ"
 # What document 01 gives the relabel program; its input begins so.
 SHOWN = (b"y5-NH3-H2O/0.20ppm", b"y1^1")
 
@@ -36,6 +39,7 @@ unequal = []  # lines that read to two
 spelled = {}  # line: its preferred spelling
 texts = {}    # line: the bytes of its text section
 units = {}    # line: its units, (nucleons, atomic number, count)
+residue_counts = {}  # line: for each annotation how many residues its sequence has, 0 without one
 
 
 def raw(line):
@@ -100,6 +104,43 @@ def made_of(line, *expected):
     units[raw(line)] = list(expected)
 
 
+def held(line, *expected):
+    """Read, to a table whose annotations have so many residues, and given back as it stands."""
+    yes(line)
+    residue_counts[raw(line)] = list(expected)
+    spelled[raw(line)] = raw(line)
+
+
+def name_end(text, at):
+    """Where the name whose bracket stands at a place ends, behind its closing bracket; none where nothing stands inside, or it is not closed."""
+    depth = 0
+    for i in range(at, len(text)):
+        depth += (text[i] == 91) - (text[i] == 93)
+        if depth == 0:
+            return i + 1 if i > at + 1 else None
+    return None
+
+
+def residues(text):
+    """How many residues a text has that is a sequence (document 02, M-105), none where it is no sequence: perhaps a name and `-`, one or more
+    residues A to Z, each with any number of names, perhaps `-` and a name."""
+    at = count = 0
+    if text[:1] == b"[":
+        at = name_end(text, 0)
+        if at is None or text[at:at + 1] != b"-":
+            return None
+        at += 1
+    while at < len(text) and text[at] in CAPITALS:
+        count, at = count + 1, at + 1
+        while text[at:at + 1] == b"[":
+            at = name_end(text, at)
+            if at is None:
+                return None
+    if count == 0 or text[at:] and not (text[at:at + 2] == b"-[" and name_end(text, at + 1) == len(text)):
+        return None
+    return count
+
+
 def joined(n, annotation):
     return ",".join([annotation] * n)
 
@@ -113,17 +154,17 @@ def rotations(head, parts, tail=""):
 def examples():
     """Lines that document 01 names, in its order."""
     yes("", 28)
-    yes("y1", 64)
+    yes("y1", 66)
     same("y5-H2O-NH3", "y5-NH3-H2O")
     same("y2+i", "y2+1i")
     no("y2+1H", 2, 4)
-    yes("IC[M+H]", 28 + 36 + 6 + 6)
+    yes("IC[M+H]", HEADER + RECORD + 6 + 6)
     text("IC[M2]", "M2")
     no("y7-H2O+i^2[M+NH4]", 2, 10)
     yes("y7-H2O+i[M+NH4]^2")
     no("y1,", 3, 3)
     no("y1, y2", 2, 3)
-    yes("y1,y2", 28 + 72)
+    yes("y1,y2", HEADER + 2 * RECORD)
     no("y1^1", 3, 4)
     yes("y1^12")
     yes("y1*0.7,b2*0.2,z3*0.1")
@@ -219,7 +260,7 @@ def specification():
 def lengths():
     """The line's own bound; what stands in a longer line plays no part."""
     full = ["_{" + "x" * 252 + "}"] * 15 + ["_{" + "x" * 253 + "}"]
-    yes(",".join(full), 28 + 16 * 36 + 4033)
+    yes(",".join(full), HEADER + 16 * RECORD + 4033)
     no(",".join(full[:-1] + ["_{" + "x" * 254 + "}"]), 1, 4096)
     no("_{" + "x" * 4093 + "}", 5, 257)
     no("_{" + "x" * 4093 + "\x7f", 2, 4095)
@@ -232,7 +273,7 @@ def lengths():
 
 def counted():
     """So many of each, and one more."""
-    yes(joined(16, "p"), 28 + 16 * 36)
+    yes(joined(16, "p"), HEADER + 16 * RECORD)
     no(joined(17, "p"), 5, 32)
     no(joined(16, "p") + ",&p", 5, 32)
     no(joined(40, "y1"), 5, 48)
@@ -253,11 +294,15 @@ def counted():
         no("y1-" + unit * 13, 5, 3 + 12 * n)
         yes("y1[M+" + unit * 12 + "]")
         no("y1[M+" + unit * 13 + "]", 5, 5 + 12 * n)
-    yes("f{" + "H" * 12 + "}" + ("-" + "H" * 12) * 8 + "[M" + ("+" + "H" * 12) * 4 + "]", 28 + 36 + 8 * 6 + 4 * 6 + 13 * 12 * 6)
+    yes("f{" + "H" * 12 + "}" + ("-" + "H" * 12) * 8 + "[M" + ("+" + "H" * 12) * 4 + "]", HEADER + RECORD + 8 * 6 + 4 * 6 + 13 * 12 * 6)
     no("y1" + ("-" + "H" * 12) * 7 + "-" + "H" * 13, 5, 2 + 7 * 13 + 1 + 12)
     for head, tail in (("_{", "}"), ("s{", "}[M+H]"), ("y1{", "}"), ("m2:3{", "}"), ("IC[", "]"), ("r[", "]"), ("y1-[", "]"), ("y1+2[", "]")):
-        text(head + "x" * 255 + tail, "x" * 255)
+        byte = "A" if head in ("y1{", "m2:3{") else "x"
+        text(head + byte * 255 + tail, byte * 255)
+        no(head + byte * 256 + tail, 5, len(head) + 255)
         no(head + "x" * 256 + tail, 5, len(head) + 255)
+        if byte == "A":
+            no(head + "x" * 255 + tail, 11, 0)
     yes(joined(15, "y1"))
 
 
@@ -343,9 +388,9 @@ def together():
     no("y1/-0.0,m1:3", 6, 0)
     no("p,&2@s{C}*0.1,m1:3", 6, 2)
     # each rule alone, and its nearest kept neighbour
-    for broken in ("m1:1", "m1:3", "m3:2", "m2:1", "m65535:2", "m1:3{AB}", "m1:65535", "&m1:3", "0@m3:2"):
+    for broken in ("m1:1", "m1:3", "m3:2", "m2:1", "m65535:2", "m1:3{AB}", "m1:65535", "&m1:3", "0@m3:2", "m2:65535{AB}"):
         no(broken, 6, 0)
-    for kept in ("m2:2", "m2:3", "m65535:65535", "m2:65535{AB}", "m10:11"):
+    for kept in ("m2:2", "m2:3", "m65535:65535", "m65534:65535{AB}", "m10:11"):
         yes(kept)
     for zero in ("0", "0.0", "0.00", "0.000000000"):
         for unit in ("", "ppm"):
@@ -540,7 +585,7 @@ def several_names():
     text("r[a[b]][M+[2H1]],r[c]", "a[b]" "c")
     text("y1-[a[M+H]][M+H]", "a[M+H]")
     made_of("y1-[H[2H1]]-H[2H1]", (0, 1, 1), (2, 1, 1))
-    yes(joined(16, "r[a[b]]"), 28 + 16 * 36 + 16 * 4)
+    yes(joined(16, "r[a[b]]"), HEADER + 16 * RECORD + 16 * 4)
     no(joined(17, "r[a[b]]"), 5, 16 * 8)
     no("r[a[b]],r[c]]", 2, 12)
     no("r[a[b]],r[c[d]", 3, 14)
@@ -558,7 +603,7 @@ def several_names():
     no("r[a[b]]/-0.0", 6, 0)
     no("r[a[b]]*.7,IC[[M+]]*.31", 7, 11)
     no("y1" + "-[a[b]]" * 9, 5, 2 + 8 * 7)
-    yes("y1" + "-[a[b]]" * 8, 28 + 36 + 8 * 6 + 8 * 4)
+    yes("y1" + "-[a[b]]" * 8, HEADER + RECORD + 8 * 6 + 8 * 4)
 
 
 def orders_of_names():
@@ -596,13 +641,13 @@ def long_names(heads):
             assert len(past) == 256
             no(head + past + "]", 5, len(head) + 255)
     whole = "r[" + "[]" * 127 + "x]"
-    yes(joined(15, whole), 28 + 15 * (36 + 255))
+    yes(joined(15, whole), HEADER + 15 * (RECORD + 255))
     no("r[" + "[]" * 128 + "]^256", 5, 257)
     no("y65536,r[" + "[]" * 128 + "]", 4, 1)
     no("y1-[x" + "[]" * 128 + "],r[" + "[]" * 128 + "]", 5, 4 + 255)
     # 4,096 bytes of names, and one more
     full = ["r[" + "[]" * 126 + "]"] * 15
-    yes(",".join(full + ["r[" + "[]" * 126 + "x]"]), 28 + 16 * 36 + 4033)
+    yes(",".join(full + ["r[" + "[]" * 126 + "x]"]), HEADER + 16 * RECORD + 4033)
     no(",".join(full + ["r[" + "[]" * 127 + "]"]), 1, 4096)
 
 
@@ -631,6 +676,207 @@ def deep_names(heads):
                 no(begun + "]" * (depth + 1), 5, len(head) + 255)
             else:
                 text(begun + "]" * (depth + 1), "x" + "[" * depth + "]" * depth)
+
+
+def sequences():
+    """Sequences in the braces of series and internal ions. Document 02, M-105."""
+    held("y3{PEP}", 3)
+    yes("y3{PEP}", HEADER + RECORD + 3)
+    no("y4{PEP}", 6, 0)
+    held("y2{[Ac]-M[[X]]K-[am]}", 2)
+    no("y2{M[K]}", 6, 0)
+    for foreign in ("[A]-[B]-M", "M[]", "M]", "[O]M", "M-"):
+        no("y1{" + foreign + "}", 11, 0)
+    no("m1:1,y1{x}", 11, 5)
+    no("y1{x},y70000", 4, 7)
+    no("y1{" + "A" * 256 + "}", 5, 258)
+    no("m3:6{PEP}", 6, 0)
+    no("m6:3{P}", 6, 0)
+    held("m3:5{PEP}", 3)
+    held("y1", 0)
+    held("p,y5{PEPTIDE},y5,m3:4{AB},IC[PEP],r[PEP],_{PEP},f{P},s{PEP}[M+H],?", 0, 7, 0, 2, 0, 0, 0, 0, 0, 0)
+    forms()
+    foreign_forms()
+    enough()
+    long_sequences()
+    beside_other_faults()
+    # each text of up to four of these bytes
+    for n in range(1, 5):
+        for made in itertools.product("Ax[]-", repeat=n):
+            short = "".join(made)
+            count = residues(short.encode())
+            if count is None:
+                no("y1{" + short + "}", 11, 0)
+            else:
+                held("y1{" + short + "}", count)
+
+
+def forms():
+    """Sound sequences, and what their names may hold."""
+    for letter in "ABCDEFGHIJKLMNOPQRSTUVWXYZ":
+        held("y1{" + letter + "}", 1)
+    for sound, count in (
+        ("PEPTIDE", 7), ("LL", 2), ("LC[Carbamidomethyl]", 2), ("[Acetyl]-M", 1), ("M[Oxidation]ACK", 4), ("K-[Amidated]", 1), ("[a]-K-[b]", 1),
+        ("[iTRAQ4plex]-EM[Oxidation]EVNES[Phospho]PEK-[Methyl]", 10), ("M[a][b]", 1), ("M[a][b][c]K[d][e]", 2), ("M[[]]", 1), ("M[[][]]", 1), ("M[[[x]]]", 1),
+        ("M[a[b]c]", 1), ("[[]]-M-[[]]", 1), ("[a[b]]-M[c[d]]-[e[f]]", 1), ("M[-]", 1), ("M[--]K", 2), ("M[a-b]K", 2), ("[a-]-M", 1), ("[-]-M-[-]", 1),
+        ("M[A]", 1), ("[ABC]-M", 1), ("M-[ABC]", 1), ("M[K[L]]N", 2), ("M[M+]", 1), ("M[M-H]", 1), ("M[+79.966]", 1), ("M[-18]", 1), ("M[2H1]", 1), ("[2H1]-M", 1),
+        ("M[ ]", 1), ("M[,]", 1), ("M[/]", 1), ("M[*0.5]", 1), ("M[y1,y2]", 1), ("M[U:Oxidation|x#1]", 1), ("M[(a)<b>]", 1), ("M[^2&@?~!]", 1), ("AAAAAAAAAA", 10), ("ZJBXOU", 6),
+    ):
+        assert residues(sound.encode()) == count
+        for head, tail in (("y1{", "}"), ("m2:2{", "}"), ("&0@wb1{", "}-H2O+i[M+Na]^2/-0.5ppm*0.5")):
+            held(head + sound + tail, count)
+    for byte in (b for b in range(32, 127) if b not in b"[]{}"):
+        held("y1{M[" + chr(byte) + "]K}", 2)
+    held("y1{K},m2:2{K[a,b]},y2{AB},b1{[x]-K}", 1, 1, 2, 1)
+    no("y1{K},m2:2{K[a],b}", 11, 6)
+    # a brace ends a text, in a name too
+    no("y1{K[a}],b1{L]}", 2, 7)
+    no("y1{M[{]}", 2, 5)
+    no("y1{M[}]}", 2, 6)
+    no("y1{M", 3, 4)
+    no("y1{M[a", 3, 6)
+    no("y1{}", 2, 3)
+    no("y1{M\x7f}", 2, 4)
+    no("y1{M[\t]}", 2, 5)
+
+
+def foreign_forms():
+    """Each way in which a text is no sequence: 11 at the first byte of its annotation."""
+    for text in (
+        "x", "xA", "Ax", "PEp", "pep", "PeP", "a", "P E P", " PEP", "PEP ", "P,E", "PEP/2", "PEP/TIDE", "1", "PEP1", "P1E", "PEP.", ".PEP", "K.PEP.R", "PEP*", "PEP?", "_PEP", "PEP^2",
+        "PEP(+80)TIDE", "PEP(Oxidation)", "(PE)P", "(?PE)P", "<15N>PEP", "<[a]@M>PEP", "PEP+PEP", "PEP//PEP", "PEP\\PEP", "PEP,PEP", "PEP:TIDE", "PEP#1", "P@E", "p[a]", "x[a]",
+        "-", "-M", "M-", "M--", "--M", "M-K", "A-B-C", "M-x", "M-[a]-", "M-[a]x", "M-[a]K", "M-[a][b]", "M-[a]-[b]", "M-[a]-K", "M--[a]", "M-[]", "M-[a", "M-a]", "M-[a]]", "M-[[a]",
+        "[a]", "[a]-", "[a]-[b]", "[a]--M", "[a]M", "[O]M", "[a][b]-M", "[a]-[b]-M", "[A]-[B]-M", "[]-M", "[]M", "[", "]", "[]", "[a]-x", "[a]x-M", "[a-M", "a]-M", "[[a]-M", "[a]]-M", "-[a]-M", "?[a]-M",
+        "[a]?M", "[a]^2-M", "M[]", "M[", "M]", "M[a", "Ma]", "M[a]]", "M[[a]", "M[a][", "M[a]]K", "M[a][]", "M[][a]", "M][", "M[a]x", "M[a]1", "M[a] ", "M[[]", "M[]]", "M[a]]b[", "A]B[C",
+    ):
+        assert residues(text.encode()) is None, text
+        no("y1{" + text + "}", 11, 0)
+        no("m2:2{" + text + "}", 11, 0)
+        no("p,&3@b1{" + text + "}-H2O,y1", 11, 2)
+        # the texts of other ions are not looked at
+        kept("_{" + text + "}", text)
+        kept("s{" + text + "}[M+H]", text)
+    for byte in (b for b in range(32, 127) if b not in b"[]{}" and not 65 <= b <= 90):
+        no("y1{" + chr(byte) + "}", 11, 0)
+        no("y1{M" + chr(byte) + "K}", 11, 0)
+    for series in "a b c d v w x y z da db wa wb".split():
+        no(series + "1{k}", 11, 0)
+        held(series + "1{K}", 1)
+
+
+def enough():
+    """As many residues as the position asks for, and one fewer: 6. More are fine."""
+    for count in (1, 2, 3, 9, 10, 99, 100, 200, 254):
+        sequence = "A" * count
+        for head in ("y%d{", "&1@wb%d{"):
+            held(head % count + sequence + "}", count)
+            no(head % (count + 1) + sequence + "}", 6, 0)
+        held("y1{" + sequence + "}", count)
+        no("y65535{" + sequence + "}", 6, 0)
+        # internal: end minus start plus 1
+        for start in (2, 3, 700, 65535 - count):
+            held("m%d:%d{" % (start, start + count - 1) + sequence + "}", count)
+            no("m%d:%d{" % (start, start + count) + sequence + "}", 6, 0)
+        held("m2:2{" + sequence + "}", count)
+        held("m65535:65535{" + sequence + "}", count)
+    # of a start past its end nothing is taken away, and 6 it is in any case; so it is from 1 on
+    for ends in ("m3:2", "m65535:1", "m65535:2", "m2:1", "m300:1", "m1:1", "m1:3", "m1:2"):
+        for sequence in ("A", "AAA", "A" * 255):
+            no(ends + "{" + sequence + "}", 6, 0)
+    # what stands in names is not counted
+    for sequence, count in (("M[KKK]", 1), ("[KKK]-M", 1), ("M-[KKK]", 1), ("[AA]-M[BB][CC]K[D[E]F]-[GG]", 2)):
+        held("y%d{" % count + sequence + "}", count)
+        no("y%d{" % (count + 1) + sequence + "}", 6, 0)
+        no("m2:%d{" % (count + 2) + sequence + "}", 6, 0)
+    held("y2{AB},y1{A},m2:4{ABC}", 2, 1, 3)
+    no("y2{AB},y1{A},m2:4{AB}", 6, 13)
+    no("y2{AB},y2{A},m2:4{AB}", 6, 7)
+    no("p,y4{PEP}", 6, 2)
+    # a position alone, a text that is no sequence's, and 0 without one
+    held("y65535", 0)
+    held("m2:65535", 0)
+    held("_{A}", 0)
+
+
+def long_sequences():
+    """255 bytes and one more; the limit goes before the form."""
+    for sequence, count in (("A" * 255, 255), ("AB" * 127 + "C", 255), ("M[" + "x" * 252 + "]", 1), ("[" + "x" * 251 + "]-M", 1), ("M-[" + "x" * 251 + "]", 1),
+                            ("M" + "[a]" * 84 + "KL", 3), ("M" + "[" * 126 + "xy" + "]" * 126, 1), ("M" + "[" * 127 + "x" + "]" * 126, None), ("A" * 254 + "x", None)):
+        assert len(sequence) == 255 and residues(sequence.encode()) == count, (len(sequence), sequence)
+        if count is None:
+            no("y1{" + sequence + "}", 11, 0)
+        else:
+            held("y1{" + sequence + "}", count)
+            held("y%d{" % count + sequence + "}", count)
+            no("y%d{" % (count + 1) + sequence + "}", 6, 0)
+        no("y1{" + sequence + "A}", 5, 258)
+        no("m2:2{" + sequence + "A}", 5, 260)
+    no("y255{" + "a" * 256 + "}", 5, 260)
+    no("y256{" + "A" * 255 + "}", 6, 0)
+    no("y256{" + "A" * 256 + "}", 5, 260)
+    held("y255{" + "A" * 255 + "}," + "m2:256{" + "B" * 255 + "}", 255, 255)
+    # 4,096 bytes of sequences, and one more
+    full = ["y1{" + "A" * 251 + "}"] * 15
+    held(",".join(full + ["y1{" + "A" * 252 + "}"]), *[251] * 15, 252)
+    no(",".join(full + ["y1{" + "A" * 253 + "}"]), 1, 4096)
+    no(",".join(full + ["y1{" + "a" * 252 + "}"]), 11, 15 * 256)
+    no(",".join(full + ["y253{" + "A" * 250 + "}"]), 6, 15 * 256)
+
+
+def beside_other_faults():
+    """11 goes behind 4 and 5 and before 6 and 7, wherever they stand in the line; 2, 3 and 1 go before all."""
+    no("y1{x}", 11, 0)
+    no("p,y1{x}", 11, 2)
+    no("y1{x},y1{x}", 11, 0)
+    no("y1{K},y1{x},y1{x}", 11, 6)
+    no("y2{K},y1{x}", 11, 6)
+    no("y1{x},y2{K}", 11, 0)
+    no("y2{x}", 11, 0)
+    no("m1:3{x}", 11, 0)
+    no("m3:2{x}", 11, 0)
+    no("y1{x}/-0.0", 11, 0)
+    no("s{C},y1{x}", 11, 5)
+    no("y1{x},s{C}", 11, 0)
+    no("m1:1,m2:2{x}", 11, 5)
+    no("y1/-0.0,p*2,y1{x}", 11, 12)
+    no("p*0.7,p*0.7,y1{x}", 11, 12)
+    no("y1{x}*0.7,p*0.7", 11, 0)
+    no("y1{x}*2", 11, 0)
+    no("y1{K}*0.7,p*0.7", 7, 10)
+    no("y2{K}*0.7,p*0.7", 6, 0)
+    no("p*0.7,y2{K}*0.7", 6, 6)
+    no("p*0.7,p*0.7,y2{K}", 6, 12)
+    no("y2{K},m1:1", 6, 0)
+    no("m1:1,y2{K}", 6, 0)
+    for past, place in (("y65536", 1), ("y1^256", 3), ("p-1000H", 2), ("y1/0.1234567890", 3), ("f{" + "H" * 13 + "}", 14), ("_{" + "x" * 256 + "}", 257), ("y65536{K}", 1)):
+        number = 5 if place in (14, 257) else 4
+        no("y1{x}," + past, number, 6 + place)
+        no(past + ",y1{x}", number, place)
+        no("y2{K}," + past, number, 6 + place)
+    no("y65536{x}", 4, 1)
+    no("m2:65536{x}", 4, 3)
+    no("y1{x}^256", 4, 6)
+    no("y1{x}" + "-H" * 9, 5, 5 + 16)
+    no("y1{" + "x" * 256 + "},y1{x}", 5, 258)
+    no("y1{x},y1{" + "A" * 256 + "}", 5, 6 + 258)
+    no(joined(16, "y1{x}") + ",p", 5, 96)
+    no(joined(16, "y1{x}"), 11, 0)
+    no(joined(15, "y1{K}") + ",y1{x}", 11, 90)
+    held(joined(16, "y1{K}"), *[1] * 16)
+    no(joined(15, "y1{K}") + ",y2{K}", 6, 90)
+    no("y1{x} ", 2, 5)
+    no("y1{x},", 3, 6)
+    no("y1{x}^1", 3, 7)
+    no("y1{x}{x}", 2, 5)
+    no("y1{x}" + "y" * 4092, 1, 4096)
+    # one table, several spellings
+    best("y1{PE[a]P}-H2O-NH3", "y1{PE[a]P}-NH3-H2O", "y1{PE[a]P}-H2O1-NH3")
+    best("m2:3{AB}*0.5", "m2:3{AB}*.5")
+    differ("y1{A}", "y1{B}")
+    differ("y1{A}", "y1")
+    differ("y1{A}", "y1{A[a]}")
+    differ("y1{A}", "y1{AA}")
+    differ("m2:2{A}", "m2:3{AA}")
 
 
 def filled(size, zeros):
@@ -747,7 +993,7 @@ def orders():
 def kinds():
     """Every kind and series, with everything an annotation may have."""
     ions = [s + "7" for s in "a b c d v w x y z da db wa wb".split()]
-    ions += ["y7{PEP/TI,DE}", "m2:5", "m3:7{EPT}", "IC", "IZ[Oxidation]", "p", "r[TMT127N]", "_{Urocanic Acid}", "f{C16H22O}", "f{C15[13C1]H22}", "?", "?17"]
+    ions += ["y7{PEPT[/,]IDE}", "m2:5", "m3:5{EPT}", "IC", "IZ[Oxidation]", "p", "r[TMT127N]", "_{Urocanic Acid}", "f{C16H22O}", "f{C15[13C1]H22}", "?", "?17"]
     for ion in ions:
         for head in ("", "&", "3@", "&0@"):
             yes(head + ion)
@@ -755,10 +1001,12 @@ def kinds():
         yes(ion + "+i")
         yes(ion + "-iA[M+H]")
         yes(ion + "^2/1.5,p")
+    no("y7{PEP/TI,DE}", 11, 0)
+    no("m3:7{EPT}", 6, 0)
     yes("s{CN=C=O}[M+H]/-0.55ppm")
     yes("&1@s{C(=O)[O-]}-H2O[M+NH4]^2")
     for letter in "ABCDEFGHIJKLMNOPQRSTUVWXYZ":
-        yes("I" + letter, 64)
+        yes("I" + letter, 66)
     for element, number in (("H", 1), ("He", 2), ("C", 6), ("Fe", 26), ("U", 92), ("Lr", 103), ("Cn", 112), ("Nh", 113), ("Og", 118)):
         made_of("f{" + element + "2}", (0, number, 2))
     for none in ("J", "Hx", "D", "M", "Aa", "Q"):
@@ -774,10 +1022,11 @@ def unfinished():
         "y1[M+[13C1] y1^ y1^1 y1/ y1/- y1/0. y1/-0. y1/0.2p y1/0.2pp y1* y1*0. y1, y1,& y1,b y1-1 y1+1 y1+i13C+ y1+i13C+i y1+i13C+2i"
     ).split(" "):
         no(line, 3, len(line))
-    long = "&12@y7{ab}-2H2O+[Hex]+2i13C-i15N[M+Na-e]^23/-0.20ppm*0.50,IC[M+H]"
+    long = "&12@y7{[a]-PEPTID[b]E-[c]}-2H2O+[Hex]+2i13C-i15N[M+Na-e]^23/-0.20ppm*0.50,IC[M+H]"
     for n in range(len(long)):
         ask(long[:n])
     yes(long)
+    no(long.replace("[a]-PEPTID[b]E-[c]", "ab"), 11, 0)
 
 
 def strays():
@@ -811,7 +1060,7 @@ def strays():
 
 
 def rooms():
-    """Lines of several kinds, and the bytes of their tables: the header, and 36, 6, 8, 6, 6 and 1 for what the six sections count."""
+    """Lines of several kinds, and the bytes of their tables: the header, and 38, 6, 8, 6, 6 and 1 for what the six sections count."""
     counted_lines = [
         ("", (0, 0, 0, 0, 0, 0)),
         ("y1", (1, 0, 0, 0, 0, 0)),
@@ -825,6 +1074,9 @@ def rooms():
         ("&1@y7{PEPTIDE}-H2O+[Hex]+2i13C-i15N[M+Na-2e]^3/-0.20ppm*0.50", (1, 2, 2, 2, 3, 10)),
         ("_{" + "x" * 255 + "}," + "r[" + "y" * 255 + "]", (2, 0, 0, 0, 0, 510)),
         ("r[[]]", (1, 0, 0, 0, 0, 2)),
+        ("y3{PEP}", (1, 0, 0, 0, 0, 3)),
+        ("m3:5{[Ac]-PE[[x]]P-[am]},y1{K}", (2, 0, 0, 0, 0, 19)),
+        ("y255{" + "A" * 255 + "}", (1, 0, 0, 0, 0, 255)),
         ("IC[M[+]]-[Hexa]-[Hex[x]][M+H]", (1, 2, 0, 1, 1, 14)),
         ("r[" + "[]" * 127 + "x]", (1, 0, 0, 0, 0, 255)),
         ("f{" + "H" * 12 + "}" + ("-" + "H" * 12) * 8 + "[M" + ("+" + "H" * 12) * 4 + "]", (1, 8, 0, 4, 156, 0)),
@@ -833,12 +1085,13 @@ def rooms():
     ]
     made = []
     for line, counts in counted_lines:
-        size = 28 + sum(n * width for n, width in zip(counts, (36, 6, 8, 6, 6, 1)))
-        for room in (size, size - 1, size + 1, 0, 27, ROOM):
+        size = HEADER + sum(n * width for n, width in zip(counts, (RECORD, 6, 8, 6, 6, 1)))
+        for room in dict.fromkeys((size, size - 1, size + 1, size - 2 * counts[0], 0, 27, ROOM)):
             made.append((room, raw(line), (0, 0, size) if size <= room else (8, size, 0)))
     # refusals by other numbers go before 8
     for line, number, place in (("y1^1", 3, 4), ("y1 ", 2, 2), ("y65536", 4, 1), (joined(17, "p"), 5, 32), ("m1:3", 6, 0), ("y1*0.7,b2*0.7", 7, 7),
-                                ("x" * 4097, 1, 4096), ("r[a[b]", 3, 6), ("r[a]]", 2, 4), ("r[" + "[]" * 128 + "]", 5, 257)):
+                                ("x" * 4097, 1, 4096), ("r[a[b]", 3, 6), ("r[a]]", 2, 4), ("r[" + "[]" * 128 + "]", 5, 257), ("m1:1,y1{x}", 11, 5),
+                                ("p,y4{PEP}", 6, 2)):
         for room in (0, 1, 28, ROOM):
             made.append((room, raw(line), (number, place, 0)))
     return made
@@ -870,6 +1123,11 @@ def checked_reads(answers):
         count, offset = pair(found[line][3], 24)
         if found[line][3][offset:offset + count] != expected:
             yield line, expected, found[line][3].hex()
+    for line, expected in residue_counts.items():
+        table = found[line][3]
+        got = [pair(table, HEADER + RECORD * i + 36, 1)[0] for i in range(pair(table, 4)[0])]
+        if got != expected:
+            yield line, expected, got
     for line, expected in units.items():
         table = found[line][3]
         count, offset = pair(table, 20)
@@ -930,7 +1188,7 @@ def answers_by(folder, name, given, *words):
 
 
 def main(words):
-    for part in (examples, readings, specification, lengths, counted, numbered, together, sums, points, nested, spellings, orders, kinds,
+    for part in (examples, readings, specification, lengths, counted, numbered, together, sums, points, nested, sequences, spellings, orders, kinds,
                  unfinished, strays):
         part()
     made = rooms()

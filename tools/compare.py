@@ -7,7 +7,8 @@ OURS and OTHER are programs that read lines from standard input and print one an
 or "tools/run relabel" and another relabel program. Each is a path, or words between quotes.
 N (100,000 unless said) lines are made from good ones by damage: bytes and whole parts deleted, inserted, swapped, repeated; numbers
 moved to their bounds; parts repeated past their limits; long lines. Some names have brackets inside, of a depth up to 6; brackets are put
-in, dropped, turned and moved, at times some thousands of them. FILE holds the good lines, one a line; without it the inputs of
+in, dropped, turned and moved, at times some thousands of them. The braces of series and internal ions mostly hold a sequence with residues
+enough, and at times one too few, one with a byte changed, or another text. FILE holds the good lines, one a line; without it the inputs of
 the program `reads` and lines made here serve. The same S makes the same lines. Prints each difference (K of them, 20 unless said)
 and how often each number was answered; the exit status is 1 where the answers differ.
 """
@@ -30,6 +31,7 @@ DECIMALS = ["0", "0.0", "0.1", "0.05", "0.01", "0.02", "0.5", "0.25", "1", "1.0"
 # What stands before the first bracket inside a name that need not begin with a letter; between brackets, or beside them.
 BEFORE = ["", "", "M", "x", "2"]
 INSIDE = ["", "", "", "a", "x", "Hex", "M+", "M-H", "2H1", "13C", ",", "/0.5", "{", "}", "+i", "*.5", " ", "^2", "II"]
+RESIDUES = "ACDEFGHIKLMNPQRSTVWYXBZJOU"
 ALPHABET = b"yb12350m:I[]{}()+-^/*,.@&?_fsrpM HCNOeiAa\x00\x7f\xff\r~"
 
 
@@ -40,6 +42,23 @@ def nested(chance, depth):
         inner = nested(chance, depth - 1) if depth > 1 and chance.random() < 0.5 else chance.choice(INSIDE)
         made += "[" + inner + "]" + chance.choice(INSIDE)
     return made
+
+
+def sequence(chance, name):
+    """A sequence of the plain form, and how many residues it has; `name` makes a name."""
+    count = chance.choice([1, 1, 2, 2, 3, 4, 5, 7, 9, 12, 30]) if chance.random() < 0.97 else chance.choice([100, 200, 254, 255, 256])
+    made = "[" + name() + "]-" if chance.random() < 0.2 else ""
+    for _ in range(count):
+        made += chance.choice(RESIDUES)
+        while chance.random() < (0.2 if count < 20 else 0.005):
+            made += "[" + name() + "]"
+    return made + ("-[" + name() + "]" if chance.random() < 0.2 else ""), count
+
+
+def sequence_changed(chance, text):
+    """A byte of a sequence dropped, put in, turned into another, or swapped with its neighbour."""
+    at, byte = chance.randint(0, len(text)), chance.choice("AKx[]--[]a1 ")
+    return chance.choice([text[:at] + text[at + 1:], text[:at] + byte + text[at:], text[:at] + byte + text[at + 1:], text[:at] + text[at + 1:at + 2] + text[at:at + 1] + text[at + 2:]])
 
 
 def brackets_changed(chance, text):
@@ -112,14 +131,31 @@ class Maker:
     def item(self):
         return self.random.choice("+-") + self.count() + ("e" if self.random.random() < 0.2 else self.formula())
 
+    def braces(self):
+        """What stands in the braces of a series or an internal ion, braces included, and how many residues the ion is to cover, one more than there
+        are now and then."""
+        made, count = sequence(self.random, lambda: self.name(BEFORE).replace("{", "").replace("}", "") or "a")
+        chance = self.random.random()
+        if chance < 0.08:
+            made = sequence_changed(self.random, made)
+        elif chance < 0.12:
+            made = self.random.choice(TEXTS)
+        many = self.random.randint(1, count) if self.random.random() < 0.6 else count
+        return "{" + made + "}", count + 1 if self.random.random() < 0.06 else many
+
     def ion(self):
         kind = self.random.randrange(9)
         text = self.random.choice(TEXTS)
         if kind == 0:
-            return self.random.choice(SERIES) + self.number() + ("{" + text + "}" if self.random.random() < 0.2 else "")
+            braces, many = self.braces() if self.random.random() < 0.4 else ("", self.number())
+            return self.random.choice(SERIES) + str(many) + braces
         if kind == 1:
             start = self.random.choice([1, 2, 2, 3, 4, 5, 6, 7, 8, 9, 9])
-            return "m%s:%s" % (start, self.number(start, 30)) + ("{" + text + "}" if self.random.random() < 0.2 else "")
+            if self.random.random() < 0.4:
+                braces, many = self.braces()
+                start = start if self.random.random() < 0.95 else self.random.choice([65535 - many, 65536 - many, 65535])
+                return "m%d:%d" % (start, start + many - 1) + braces
+            return "m%s:%s" % (start, self.number(start, 30))
         if kind == 2:
             return "I" + self.random.choice("ACDKMRZ") + ("[" + self.name(BEFORE) + "]" if self.random.random() < 0.5 else "")
         if kind == 6:
@@ -172,9 +208,21 @@ class Maker:
             b = a + self.random.choice([1, 1, 2, 5, 20])
         return min(a, b), min(max(a, b), len(line))
 
+    def text_changed(self, line):
+        """What stands in some braces changed as a sequence."""
+        places = [i for i, b in enumerate(line) if b == 123]
+        if not places:
+            return line
+        at = self.random.choice(places) + 1
+        end = line.find(b"}", at)
+        end = end if end >= 0 else len(line)
+        return line[:at] + sequence_changed(self.random, line[at:end].decode("latin-1")).encode("latin-1") + line[end:]
+
     def damaged(self, line):
         a, b = self.piece(line)
-        how = self.random.randrange(12)
+        how = self.random.randrange(13)
+        if how == 12:
+            return self.text_changed(line)
         if how > 9:
             return brackets_changed(self.random, line)
         if how == 0:
@@ -217,7 +265,7 @@ def answers(program, given):
 
 def answered(answer):
     """The number of an answer; a spelling, which no number and blank begin, is none."""
-    number = re.match(rb"!?[0-9] ", answer)
+    number = re.match(rb"!?[0-9]+ ", answer)
     return number.group()[:-1].decode() if number else "spelled"
 
 

@@ -10,8 +10,8 @@ stored rows in hexadecimal digits, one a line: "tools/run row_writes" and anothe
 N (100,000 unless said, 20,000 with --stored) rows are made: two decimals, some of them at or past their bounds, and a line behind them.
 The line is one of FILE, one of those that tools/compare.py makes, good or damaged, or there is none; without FILE the inputs of the program
 `reads` serve. Then, in any column, bytes are changed, put in and dropped, tabs moved, doubled and dropped, columns swapped and repeated, rows
-cut, rows and lines made as long as they may be or longer, and confidences begun with their point. Stored rows are such decimals and a table,
-one of the stored output of `reads` or of those that tools/compare_tables.py makes; then bytes of the front are changed, and rows are cut,
+cut, rows and lines made as long as they may be or longer, and confidences begun with their point. Stored rows are such decimals and a table
+of edition 2 or 1, one of the stored output of `reads` or of those that tools/compare_tables.py makes; then bytes of the front are changed, and rows are cut,
 shifted and made longer.
 The same S makes the same rows. Prints each difference (K of them, 20 unless said) and how often each number was answered; the exit status is
 1 where the answers differ.
@@ -160,8 +160,8 @@ class StoredMaker:
         """Good, or good or damaged; or of a line around its bound."""
         chance = self.random.random()
         if chance < 0.02:
-            return texts(*[252] * 15, self.random.randint(250, 256))
-        return self.random.choice(self.good) if chance < 0.6 else self.tables.table()
+            return texts(*[252] * 15, self.random.randint(250, 256), edition=self.random.choice([1, 2]))
+        return self.tables.good_table() if chance < 0.6 else self.tables.table()
 
     def damaged(self, row):
         how = self.random.randrange(8)
@@ -177,7 +177,7 @@ class StoredMaker:
             return row[:at] + bytes([self.random.choice([0, 1])]) + row[at:]
         if how == 6:
             return row[:self.random.choice([at, len(row) - 1, self.random.randrange(len(row) + 1)])]
-        return row + bytes(self.random.choice([1, 2, 20, 36]))
+        return row + bytes(self.random.choice([1, 2, 20, 36, 38]))
 
     def row(self):
         made = stored_row(self.decimal(), self.decimal(), self.table(), self.random.choice([1, 256, 65535]) if self.random.random() < 0.02 else 0)

@@ -5,9 +5,10 @@
 
 OURS is "tools/run writes", a path or words between quotes; OTHER is another writer, with its words behind it: both read stored tables in
 hexadecimal digits from standard input, one a line, and print one answer a line. N (20,000 unless said) tables are made: from fields, with
-each field at or past its bound now and then, or from the stored output of the program `reads`; then bytes, words and whole records are
-changed, swapped, repeated and cut, with the header set right again or not; some have long texts, for lines around their bound, and some
-names have brackets inside, which mostly pair up. The same S makes the same tables. With R, OURS is "tools/run try_write_sized", given an
+each field at or past its bound now and then, or from the stored output of the program `reads`, of edition 2 or 1; then bytes, words and whole
+records are changed, swapped, repeated and cut, with the header set right again or not, the edition is changed, with the records or without
+them, and counts of residues are; some have long texts, for lines around their bound, some names have brackets inside, which mostly pair up,
+and the texts of series and internal ions are mostly sequences with residues enough. The same S makes the same tables. With R, OURS is "tools/run try_write_sized", given an
 output of R bytes for each, and OTHER's words have to say the same. Prints each difference (K of them, 20 unless said) and how often each
 number was answered; the exit status is 1 where the answers differ.
 """
@@ -20,10 +21,9 @@ import subprocess
 import sys
 
 sys.dont_write_bytecode = True
-from compare import brackets_changed, nested
-from table_cases import annotation, framed, little, number, table
+from compare import brackets_changed, nested, sequence, sequence_changed
+from table_cases import WIDTH, annotation, first_edition, framed, little, number, table
 
-WIDTHS = (36, 6, 8, 6, 6, 1)
 COUNTS = [1, 1, 1, 1, 2, 2, 3, 9, 10, 99, 999]
 EDGES = [0, 1, 2, 12, 13, 118, 119, 255, 256, 998, 999, 1000, 65535]
 NAMES = [b"Hex", b"HexNAc", b"Hexose", b"M", b"M2", b"a", b"Z~", b"He", b"C", b"x,y/z"]
@@ -102,6 +102,20 @@ class Maker:
             return b"[%d%s%d]" % (nucleons, symbol, count)
         return symbol + (b"%d" % count if count > 1 else b"")
 
+    def sequenced(self, fields):
+        """A text that is mostly a sequence, a position that it mostly has residues enough for, and now and then another count of them."""
+        made, count = sequence(self.random, lambda: self.random.choice(NAMES).decode() if self.random.random() < 0.7 else self.random.choice(["", "a"]) + nested(self.random, 3).replace("{", "").replace("}", ""))
+        if self.random.random() < 0.06:
+            made = sequence_changed(self.random, made)
+        many = self.rarely(self.random.randint(1, count), [count, count + 1, 65535], 0.2)
+        fields = dict(position=many) if fields["kind"] == 1 else dict(end=min(fields["position"] + many - 1, 65535))
+        made = made.encode()
+        if self.random.random() < 0.03:
+            made = self.name()
+        if self.random.random() < 0.03:
+            fields.update(residues=self.random.choice([0, 1, max(count - 1, 0), count, count + 1, count + 256, 65535]))
+        return dict(text=made, **fields)
+
     def ion(self):
         chance = self.random.random
         kind = self.random.choice([1, 1, 1, 2, 3, 4, 5, 6, 7, 8, 9])
@@ -111,11 +125,14 @@ class Maker:
         if kind == 2:
             start = self.rarely(self.random.randint(2, 9), [0, 1])
             fields.update(position=start, end=self.rarely(self.random.randint(start, 30), [0, 65535]))
+        if kind in (1, 2) and chance() < 0.5:
+            fields.update(self.sequenced(fields))
+            return fields
         if kind == 3:
             fields.update(series=self.rarely(self.random.randint(65, 90), [64, 91, 97, 0]))
         if kind == 9 and chance() < 0.5:
             fields.update(position=self.random.choice([1, 17, 65535]))
-        if kind in (5, 6, 8) or (kind in (1, 2, 3) and chance() < 0.3):
+        if kind in (5, 6, 8) or (kind == 3 and chance() < 0.3):
             fields.update(text=self.bracketed() if kind in (3, 5) else self.name())
         if kind == 7:
             fields.update(units=self.units())
@@ -146,32 +163,53 @@ class Maker:
 
     def fresh(self):
         self.long = self.random.random() < 0.03
+        edition = self.random.choice([2, 2, 1])
         if self.long:
-            return table(*[self.fresh_annotation() for _ in range(self.random.choice([2, 3, 4, 5, 6, 7, 8]))])
+            return table(*[self.fresh_annotation() for _ in range(self.random.choice([2, 3, 4, 5, 6, 7, 8]))], edition=edition)
         n = self.random.choice([0, 1, 1, 1, 1, 1, 1, 1, 2, 2, 3, 5, 16]) if self.random.random() < 0.995 else 17
-        return table(*[self.fresh_annotation() for _ in range(n)])
+        return table(*[self.fresh_annotation() for _ in range(n)], edition=edition)
+
+    def widths(self, made):
+        """Of the records of each section; by the edition where there is one."""
+        return (WIDTH.get(number(made, 0), 38), 6, 8, 6, 6, 1)
 
     def sections(self, made):
         pairs = [(number(made, 4 + 4 * i), number(made, 6 + 4 * i)) for i in range(6)]
-        return [made[at:at + n * width] for (n, at), width in zip(pairs, WIDTHS)]
+        return [made[at:at + n * width] for (n, at), width in zip(pairs, self.widths(made))]
+
+    def edition_changed(self, made):
+        """The number of the header alone, or the records with it; or a count of residues."""
+        edition = number(made, 0)
+        if self.random.random() < 0.4 and edition == 2 and number(made, 4):
+            at = 28 + 38 * self.random.randrange(min(number(made, 4), 16)) + 36
+            count = number(made, at)
+            return made[:at] + little(self.random.choice([0, 1, count + 1, count - 1, count + 256, 255, 65535]), 2) + made[at + 2:]
+        if self.random.random() < 0.4:
+            return little(self.random.choice([0, 1, 1, 2, 2, 3, 257, 258, 513, 65535]), 2) + made[2:]
+        sections = self.sections(made)
+        old, new = WIDTH.get(edition, 38), self.random.choice([36, 38])
+        sections[0] = b"".join((sections[0][i:i + old] + b"\0\0")[:new] for i in range(0, len(sections[0]), old))
+        if 28 + sum(len(s) for s in sections) > 65535:
+            return made
+        return framed([number(made, 4 + 4 * i) for i in range(6)], sections, self.random.choice([1, 2]) if self.random.random() < 0.2 else 1 + (new == 38))
 
     def records_changed(self, made):
         """A record is repeated, dropped or swapped with its neighbour; the header is set right again, mostly."""
         sections = self.sections(made)
         k = self.random.choice([k for k in range(6) if sections[k]] or [0])
-        width = WIDTHS[k]
+        width = self.widths(made)[k]
         parts = [sections[k][i:i + width] for i in range(0, len(sections[k]), width)]
         if parts:
             i = self.random.randrange(len(parts))
             how = self.random.randrange(3)
             parts = parts[:i] + ([parts[i]] * 2 if how == 0 else []) + (parts[i:i + 2][::-1] if how == 2 else []) + parts[i + (2 if how == 2 else 1):]
         sections[k] = b"".join(parts)
-        counts = [len(s) // w for s, w in zip(sections, WIDTHS)]
+        counts = [len(s) // w for s, w in zip(sections, self.widths(made))]
         if self.random.random() < 0.1:
             counts[self.random.randrange(6)] += self.random.choice([1, -1])
         if max(counts) > 65535 or min(counts) < 0 or 28 + sum(len(s) for s in sections) > 65535:
             return made
-        return framed(counts, sections)
+        return framed(counts, sections, number(made, 0))
 
     def text_changed(self, made):
         """A bracket of the text turned, or swapped with another byte of it."""
@@ -187,7 +225,9 @@ class Maker:
         return bytes(changed)
 
     def damaged(self, made):
-        how = self.random.randrange(11)
+        how = self.random.randrange(12)
+        if how == 11 and len(made) >= 28:
+            return self.edition_changed(made)
         if how == 10:
             return self.text_changed(made)
         if how < 4 or len(made) < 28:
@@ -203,11 +243,16 @@ class Maker:
         if how == 6 and self.random.random() < 0.3:
             return made[:self.random.randrange(len(made) + 1)]
         if how == 7 and self.random.random() < 0.3:
-            return made + bytes(self.random.choice([1, 2, 6, 8, 36, 1000]))
+            return made + bytes(self.random.choice([1, 2, 6, 8, 36, 38, 1000]))
         return self.records_changed(made)
 
+    def good_table(self):
+        """One of those that `reads` gave, or the edition 1 table of its fields."""
+        made = self.random.choice(self.good)
+        return made if self.random.random() < 0.6 else first_edition(made)
+
     def table(self):
-        made = self.random.choice(self.good) if self.random.random() < 0.3 else self.fresh()
+        made = self.good_table() if self.random.random() < 0.3 else self.fresh()
         for _ in range(self.random.choice([0, 0, 0, 1, 1, 1, 2])):
             made = self.damaged(made)
         return made

@@ -6,7 +6,8 @@
 
 A line holds the digits alone, as the program `writes` takes them, or NUMBER PLACE LENGTH DIGITS, as the program `reads` prints them;
 of a refusal its number and place are printed. With --line the preferred spelling of each table is printed, and `!NUMBER PLACE` of a
-refusal, which is what the program `relabel` prints. The layout is told in docs/TABLE.md.
+refusal, which is what the program `relabel` prints. The layout is told in docs/TABLE.md. Tables of both editions are decoded: in edition 2,
+which `reads` gives, an annotation has the count of residues of its sequence behind its other fields.
 
 This decodes sound tables: those that `reads` made, or that `writes` accepts. It is not a checker. Of bytes that are no table it may
 print something all the same; whether they are one is what `writes` tells.
@@ -24,7 +25,7 @@ KINDS = ["", "series", "internal", "immonium", "precursor", "reference", "named"
 SIGNS = "-+"
 
 HEADER = struct.Struct("<14H")
-ANNOTATION = struct.Struct("<4B3H6BqI2H4B")
+ANNOTATIONS = {1: struct.Struct("<4B3H6BqI2H4B"), 2: struct.Struct("<4B3H6BqI2H4BH")}  # by edition
 LOSS = struct.Struct("<2B2H")
 ISOTOPE = struct.Struct("<2B3H")
 ITEM = struct.Struct("<2B2H")
@@ -65,20 +66,20 @@ class Text:
 def decoded(table):
     """The annotations of a table, each a dictionary of its fields."""
     edition, length, *pairs = HEADER.unpack_from(table)
-    if edition != 1 or length != len(table):
-        raise ValueError("not a table of edition 1 with this length")
+    if edition not in ANNOTATIONS or length != len(table):
+        raise ValueError("not a table of edition 1 or 2 with this length")
     (annotations, at), losses, isotopes, items, units, text = zip(pairs[0::2], pairs[1::2])
     losses, isotopes, items, units = Row(table, LOSS, *losses), Row(table, ISOTOPE, *isotopes), Row(table, ITEM, *items), Row(table, UNIT, *units)
     text = Text(table, *text)
-    return [annotation(record, losses, isotopes, items, units, text) for record in Row(table, ANNOTATION, annotations, at).take(annotations)]
+    return [annotation(record, losses, isotopes, items, units, text) for record in Row(table, ANNOTATIONS[edition], annotations, at).take(annotations)]
 
 
 def annotation(record, losses, isotopes, items, units, text):
     """One annotation, with what the other sections hold of it: the ion's units and text, then each loss's, then each adduct item's units."""
     (kind, auxiliary, has_analyte, letter, analyte, first, last, charge, deviation, deviation_decimals, has_confidence, confidence_decimals, _,
-     deviation_value, confidence_value, text_length, unit_count, loss_count, isotope_count, item_count, _) = record
+     deviation_value, confidence_value, text_length, unit_count, loss_count, isotope_count, item_count, _, *residues) = record
     a = {"kind": kind, "auxiliary": auxiliary == 1, "analyte": analyte if has_analyte else None, "letter": letter, "first": first, "last": last,
-         "charge": charge, "deviation": None, "confidence": None, "losses": [], "items": []}
+         "charge": charge, "deviation": None, "confidence": None, "losses": [], "items": [], "residues": residues[0] if residues else 0}
     if deviation:
         a["deviation"] = (decimal(deviation_value, deviation_decimals), deviation == 2)
     if has_confidence:
@@ -156,6 +157,8 @@ def fields(a):
     """What an annotation says, in lines of text."""
     kind, said = a["kind"], []
     said.append("ion: %s, %s" % (KINDS[kind], ion_text(a)))
+    if a["residues"]:
+        said.append("residues: %d" % a["residues"])
     if a["auxiliary"]:
         said.append("auxiliary: yes")
     if a["analyte"] is not None:

@@ -75,6 +75,7 @@ WORDS = {
     6: "An annotation is well formed and breaks a rule",
     7: "The confidences of the line sum to more than 1",
     8: "The output buffer is too small",
+    11: "The sequence in the braces of an annotation is not of the plain form",
     12: "The m/z column " + DECIMAL_RULE,
     13: "The intensity column " + DECIMAL_RULE,
 }

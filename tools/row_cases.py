@@ -27,10 +27,10 @@ sys.dont_write_bytecode = True
 import cases
 import table_cases
 from cases import LANDED, MAX_LINE, ROOT, raw, store, stored
-from table_cases import C, H, H2O, annotation, changed, decimal, framed, is_pairs, largest, little, number, other, record, rich, spelled, table, texts
+from table_cases import C, H, H2O, annotation, changed, decimal, first_edition, is_pairs, largest, little, number, other, rich, spelled, table, texts
 
 MAX_ROW, FRONT = 4160, 20
-ROOM = FRONT + 21340
+ROOM = FRONT + cases.ROOM
 FULL = ",".join(["_{" + "x" * 252 + "}"] * 15 + ["_{" + "x" * 253 + "}"])
 # The shortest columns, some of middle length and the longest, each with the tab behind it, and the two numbers.
 FRONTS = [("1\t1\t", (1, 0), (1, 0)), ("100.5\t7\t", (1005, 1), (7, 0)), ("677.2980\t0.25\t", (6772980, 4), (25, 2)),
@@ -226,7 +226,7 @@ def of_lines():
         for line in dict.fromkeys(cases.lines[before:]):
             if line in cases.stated:
                 in_a_row(line, *cases.stated[line], tables)
-    each = (("y1 ", 2, 2), ("y1^1", 3, 4), ("y65536", 4, 1), ("y1" + "-H" * 9, 5, 18), ("y1,m1:3", 6, 3), ("y1*0.7,b2*0.301", 7, 7))
+    each = (("y1 ", 2, 2), ("y1^1", 3, 4), ("y65536", 4, 1), ("y1" + "-H" * 9, 5, 18), ("y1,m1:3", 6, 3), ("y1,y2{K}", 6, 3), ("m1:1,y1{x}", 11, 5), ("y1*0.7,b2*0.301", 7, 7))
     for front, _, _ in FRONTS:
         for line, refusal, place in each:
             no(front + line, refusal, len(front) + place)
@@ -296,7 +296,7 @@ def of_neighbours():
     """Bad rows between good ones: each row is answered as it would be alone."""
     good = ("677.300\t5681\ty7/0.000*0.95", "1\t1", "100.5\t7\ty1-N-C", "123456789012\t123456789012\ty1")
     bad = (("", 12, 0), ("1", 13, 1), ("1\t", 13, 2), ("\t", 12, 0), ("x", 12, 0), ("1\t1\t\t", 2, 4), ("1\t1\ty1 ", 2, 6), ("1\t1\ty1^1", 3, 8),
-           ("1\t1\ty65536", 4, 5), ("1\t1\tm1:3", 6, 4), ("1\t1\ty1*0.7,b2*0.301", 7, 11), ("1\t1\t" + "x" * (MAX_LINE + 1), 1, MAX_LINE + 4),
+           ("1\t1\ty65536", 4, 5), ("1\t1\ty1{x}", 11, 4), ("1\t1\tm1:3", 6, 4), ("1\t1\ty2{K}", 6, 4), ("1\t1\ty1*0.7,b2*0.301", 7, 11), ("1\t1\t" + "x" * (MAX_LINE + 1), 1, MAX_LINE + 4),
            ("x" * (MAX_ROW + 1), 1, MAX_ROW), ("01\t1", 12, 0), ("1\t0.1234567890", 13, 2))
     for i, (row, refusal, place) in enumerate(bad):
         again(good[i % len(good)])
@@ -367,6 +367,29 @@ def of_names():
         yes(front + "r[c],r[" + "[]" * 127 + "x]", mz, intensity, annotation(5, text=b"c"), annotation(5, text=b"[]" * 127 + b"x"))
 
 
+def of_sequences():
+    """Sequences in the braces of series and internal ions (M-105): places counted from the row's start."""
+    one, pep = (1, 0), dict(text=b"PEP")
+    yes("1\t1\ty3{PEP}", one, one, annotation(position=3, **pep))
+    yes("1\t1\tm3:5{PEP}", one, one, annotation(2, position=3, end=5, **pep))
+    yes("1\t1\ty2{[Ac]-M[[X]]K-[am]}", one, one, annotation(position=2, text=b"[Ac]-M[[X]]K-[am]", residues=2))
+    yes("1\t1\ty1{" + "A" * 255 + "}", one, one, annotation(text=b"A" * 255, residues=255))
+    yes("100.5\t7\tp,y5{PEPTIDE}-N-C,_{x}", (1005, 1), (7, 0), annotation(4), annotation(position=5, text=b"PEPTIDE", losses=[(0, 0, 1, C), (0, 0, 1, [(0, 7, 1)])]), annotation(6, text=b"x"))
+    for front, _, _ in FRONTS:
+        n = len(front)
+        for line, refusal, place in (
+            ("y1{x}", 11, 0), ("p,y1{x}", 11, 2), ("m1:1,y1{x}", 11, 5), ("y2{K},y1{x}", 11, 6), ("y1{x},y2{K}", 11, 0), ("y1*0.7,b2*0.7,y1{x}", 11, 14), ("y4{PEP}", 6, 0), ("p,y4{PEP}", 6, 2),
+            ("y2{M[K]}", 6, 0), ("m3:6{PEP}", 6, 0), ("m6:3{P}", 6, 0), ("y1{K}*0.7,p*0.7", 7, 10), ("y1{x},y70000", 4, 7), ("y1{x}^256", 4, 6), ("y1{" + "A" * 256 + "}", 5, 258),
+            ("y1{x}" + ",p" * 16, 5, 36), ("y1{[A]-[B]-M}", 11, 0), ("y1{M[]}", 11, 0), ("y1{M]}", 11, 0), ("y1{[O]M}", 11, 0), ("y1{M-}", 11, 0), ("y1{M\t}", 2, 4), ("y1{x}\t", 2, 5), ("y1{x}^1", 3, 7),
+            ("y1{x", 3, 4), ("y1{x}" + "x" * MAX_LINE, 1, MAX_LINE),
+        ):
+            no(front + line, refusal, n + place)
+        again("1\t1\ty3{PEP}")
+    # 12 and 13 go before the line's own
+    no("x\t1\ty1{x}", 12, 0)
+    no("1\tx\ty1{x}", 13, 2)
+
+
 # ---- stored rows
 
 def small():
@@ -419,13 +442,13 @@ def stored_lengths():
         front, rest = row[:FRONT], row[FRONT:]
         for n in range(len(row)):
             unsound(row[:n])
-        for tail in (b"\0", b"\1", b"\n", b"\0" * FRONT, b"\0" * 36, rest, row):
+        for tail in (b"\0", b"\1", b"\n", b"\0" * FRONT, b"\0" * 36, b"\0" * 38, rest, row):
             unsound(row + tail)
             unsound(changed(row + tail, FRONT + 2, len(rest + tail), 2))
         unsound(changed(row, FRONT + 2, len(row), 2))
         for made in (rest, rest + front, front + front, front + row, row[1:], b"\0" + row, front[:18] + rest, front[:19] + rest):
             unsound(made)
-    for n in (0, 1, 19, 20, 21, 47, 48, 84, 70000):
+    for n in (0, 1, 19, 20, 21, 47, 48, 84, 86, 70000):
         unsound(b"\0" * n)
     unsound(b"\xff" * 48)
 
@@ -433,7 +456,8 @@ def stored_lengths():
 def stored_tables_behind():
     """Tables and what is none, as tools/table_cases.py states of them: behind a sound front they are answered the same."""
     answers = {(0, 0): sound, (1, MAX_LINE): too_long, (9, 0): unsound}
-    for part in (table_cases.fields, table_cases.kinds, table_cases.sums, table_cases.ordered, table_cases.nested):
+    for part in (table_cases.fields, table_cases.kinds, table_cases.sums, table_cases.ordered, table_cases.nested, table_cases.editions, table_cases.counts,
+                 table_cases.sequences):
         before = len(table_cases.cases)
         part()
         for digits in dict.fromkeys(table_cases.cases[before:]):
@@ -443,34 +467,34 @@ def stored_tables_behind():
     for row in (small(), large(), empty()):
         for at in range(0, 28, 2):
             for value in (0, 1, 27, 28, 29, 65535):
-                if value != number(row, FRONT + at):
+                # the empty table is one in both editions
+                if value != number(row, FRONT + at) and not (row == empty() and at == 0 and value == 1):
                     unsound(changed(row, FRONT + at, value, 2))
 
 
-def second_edition(*annotations):
-    """A table with records of 38 bytes, the residue count behind each (M-105)."""
-    one = table(*annotations)
-    sections = [one[number(one, 6 + 4 * i):][:number(one, 4 + 4 * i) * width] for i, width in enumerate((36, 6, 8, 6, 6, 1))]
-    sections[0] = b"".join(record(a) + little(len(a["text"]) if a["kind"] < 3 else 0, 2) for a in annotations)
-    return changed(framed([number(one, 4 + 4 * i) for i in range(6)], sections), 0, 2, 2)
-
-
 def stored_editions():
-    """Tables of edition 2, and tables that name other editions, are none until M-105."""
-    unsound(stored_row((1005, 1), (7, 0), second_edition()))
-    for made in (second_edition(annotation()), second_edition(rich()), second_edition(annotation(), rich(), other()[1])):
-        unsound(stored_row((1005, 1), (7, 0), made))
-        unsound(stored_row((1005, 1), (7, 0), changed(made, 0, 1, 2)))
-    for edition in (0, 2, 3, 256, 257, 513, 65535):
-        for row in (small(), large(), empty()):
+    """Rows with tables of either edition, and with tables that name others."""
+    for row in (small(), large(), empty()):
+        old = row[:FRONT] + first_edition(row[FRONT:])
+        sound(row)
+        sound(old)
+        for n in range(FRONT, len(old)):
+            unsound(old[:n])
+        for tail in (b"\0", b"\0\0", b"\0" * 36, old[FRONT:], old):
+            unsound(old + tail)
+        for edition in (0, 3, 256, 257, 258, 513, 65535):
             unsound(changed(row, FRONT, edition, 2))
+            unsound(changed(old, FRONT, edition, 2))
+        if row != empty():
+            unsound(changed(row, FRONT, 1, 2))
+            unsound(changed(old, FRONT, 2, 2))
 
 
 def stored_long():
     """Lines at their bound and past it: 1 at 4096 is by the line, whatever the columns; 9 goes before it."""
-    for _, mz, intensity in FRONTS:
+    for i, (_, mz, intensity) in enumerate(FRONTS):
         for last, answer in ((252, sound), (253, sound), (254, too_long), (255, too_long), (256, unsound)):
-            answer(stored_row(mz, intensity, texts(*[252] * 15, last)))
+            answer(stored_row(mz, intensity, texts(*[252] * 15, last, edition=2 - i % 2)))
     over = stored_row((1, 0), (1, 0), texts(*[252] * 15, 254))
     for at, value in ((5, 1), (13, 1), (16, 10), (17, 10), (18, 1), (19, 1)):
         unsound(changed(over, at, value))
@@ -480,8 +504,9 @@ def stored_long():
     sound(stored_row((10**12 - 1, 9), (10**12 - 1, 9), table(largest())))
     # the largest stored row of all, and with one byte more
     most = stored_row((10**12 - 1, 9), (10**12 - 1, 9), table(*[largest()] * 16))
-    assert len(most) == FRONT + 43596
+    assert len(most) == FRONT + 43628
     too_long(most)
+    too_long(most[:FRONT] + first_edition(most[FRONT:]))
     unsound(most + b"\0")
 
 
@@ -531,12 +556,12 @@ def sizes_around(need, *others):
 
 def read_rooms():
     """Outputs around the bytes that a row needs: 20 and its table's. Refusals by other numbers go before 8."""
-    for row in (b"1\t1", b"1\t1\t", b"1\t1\ty1", b"100.5\t7\ty1-N-C", b"677.303\t34\tb6-H2O/-0.005,&y7/0.003", b"1\t1\tr[[]]", raw("1\t1\t" + FULL)):
+    for row in (b"1\t1", b"1\t1\t", b"1\t1\ty1", b"100.5\t7\ty1-N-C", b"677.303\t34\tb6-H2O/-0.005,&y7/0.003", b"1\t1\tr[[]]", b"1\t1\ty3{PEP}", raw("1\t1\t" + FULL)):
         data = row_answers[row][2]
         for room in sizes_around(len(data), 19, 20, 21, 47, 48, 49, len(data) - FRONT, ROOM):
             yield room, row, (0, 0, data) if len(data) <= room else (8, len(data), b"")
     over = (b"x" * (MAX_ROW + 1), raw("1\t1\t" + FULL + "x"))
-    for row in (b"", b"1", b"1\t", b"x", b"1\t1\t\t", b"1\t1\ty1^1", b"1\t1\ty65536", b"1\t1\ty1*0.7,b2*0.301", b"1\t1\tr[a[b]", *over):
+    for row in (b"", b"1", b"1\t", b"x", b"1\t1\t\t", b"1\t1\ty1^1", b"1\t1\ty65536", b"1\t1\ty1*0.7,b2*0.301", b"1\t1\tr[a[b]", b"1\t1\ty1{x}", b"1\t1\ty4{PEP}", *over):
         for room in (0, 1, 20, 48, ROOM):
             yield room, row, row_answers[row]
 
@@ -546,13 +571,15 @@ def write_rooms():
     full, most = texts(*[252] * 15, 253), (10**12 - 1, 9)
     at_bound = (stored_row((1, 0), (1, 0), full), stored_row(most, most, full))
     nested = stored_row((1, 0), (1, 0), table(annotation(3, series=67, text=b"[M+]", losses=[(0, 1, 1, b"a[b]")])))
-    for row in (empty(), small(), large(), stored_row(most, most, table(annotation(4))), nested, *at_bound):
+    old = [row[:FRONT] + first_edition(row[FRONT:]) for row in (empty(), small(), large())]
+    for row in (empty(), small(), large(), stored_row(most, most, table(annotation(4))), nested, *old, *at_bound):
         text = row_text(row)
         for room in sizes_around(len(text), 3, 4, 27, 28, MAX_LINE, MAX_ROW):
             yield room, row.hex().encode(), (0, 0, text) if len(text) <= room else (8, len(text), b"")
     over = stored_row((1, 0), (1, 0), texts(*[252] * 15, 254))
     unpaired = stored_row((1, 0), (1, 0), table(annotation(5, text=b"a[b")))
-    for row, refusal, place in ((b"", 9, 0), (small()[:-1], 9, 0), (changed(small(), 18, 1), 9, 0), (unpaired, 9, 0), (over, 1, MAX_LINE)):
+    short = stored_row((1, 0), (1, 0), table(annotation(position=4, text=b"PEP"), edition=1))
+    for row, refusal, place in ((b"", 9, 0), (small()[:-1], 9, 0), (changed(small(), 18, 1), 9, 0), (unpaired, 9, 0), (short, 9, 0), (over, 1, MAX_LINE)):
         for room in (0, 1, 20, MAX_ROW):
             yield room, row.hex().encode(), (refusal, place, b"")
 
@@ -682,7 +709,7 @@ def check_lists(programs):
 
 
 def main(words):
-    for part in (of_specification, of_request, of_columns, of_tabs, of_lines, of_lengths, of_neighbours, of_bytes, of_points, of_names):
+    for part in (of_specification, of_request, of_columns, of_tabs, of_lines, of_lengths, of_neighbours, of_bytes, of_points, of_names, of_sequences):
         part()
     for part in (stored_fronts, stored_numbers, stored_lengths, stored_tables_behind, stored_editions, stored_long, stored_digits):
         part()

@@ -8,15 +8,16 @@
 `cross`, with `--write --hex`, reads tables in hexadecimal digits from standard input, one a line, and prints `NUMBER PLACE LENGTH HEX`
 for each, HEX being the line, `-` where it is none or empty; with `--out N` too it does so with an output of N bytes. It is a writer
 other than this repository's, so that two agree on the stored outputs. Lines that are no pairs of digits are not asked of it: they are
-no table. Tables are made here from fields, by the section "The stored table" of document 01; those of the program `reads` come from
-its stored output, so tools/cases.py goes first. Where a table is written, its line is held to the fields that its bytes have.
+no table. Tables are made here from fields, by the section "The stored table" of document 01 and by request M-105 of document 02, in edition 2
+unless edition 1 is asked for; those of the program `reads` come from its stored output, so tools/cases.py goes first. Where a table is
+written, its line is held to the fields that its bytes have.
 """
 import copy
 import os
 import sys
 
 sys.dont_write_bytecode = True
-from cases import ROOT, answers_by, store, stored
+from cases import ROOT, answers_by, residues, store, stored
 
 SERIES = "a b c d v w x y z da db wa wb".split()
 SYMBOLS = (
@@ -24,6 +25,8 @@ SYMBOLS = (
     "Cs Ba La Ce Pr Nd Pm Sm Eu Gd Tb Dy Ho Er Tm Yb Lu Hf Ta W Re Os Ir Pt Au Hg Tl Pb Bi Po At Rn Fr Ra Ac Th Pa U Np Pu Am Cm Bk Cf Es Fm Md No Lr "
     "Rf Db Sg Bh Hs Mt Ds Rg Cn Nh Fl Mc Lv Ts Og"
 ).split()
+# Bytes of an annotation's record, by edition.
+WIDTH = {1: 36, 2: 38}
 C, H, H2O, NA = [(0, 6, 1)], [(0, 1, 1)], [(0, 1, 2), (0, 8, 1)], [(0, 11, 1)]
 
 
@@ -36,22 +39,26 @@ def number(table, at, width=2):
 
 
 # ---- an annotation's fields, and its bytes. A loss is (sign, kind, count, units or name), an isotope (sign, kind, n, nucleons, atomic
-# number), an adduct item (sign, kind, count, units), a unit (nucleons, atomic number, count).
+# number), an adduct item (sign, kind, count, units), a unit (nucleons, atomic number, count). The residues are those of the text, where it is
+# a sequence and the kind has sequences, unless another count is given.
 
 def annotation(kind=1, **fields):
     made = dict(kind=kind, also=0, has_analyte=0, series=8 if kind == 1 else 0, analyte=0, position=1 if kind == 1 else 0, end=0, charge=1, deviation=0, decimals=0,
-                sure=0, sure_decimals=0, zero=0, off=0, confidence=0, text=b"", units=[], losses=[], isotopes=[], items=[], last=0)
+                sure=0, sure_decimals=0, zero=0, off=0, confidence=0, text=b"", units=[], losses=[], isotopes=[], items=[], last=0, residues=None)
     assert set(fields) <= set(made), fields
     made.update(copy.deepcopy(fields))
+    if made["residues"] is None:
+        made["residues"] = residues(made["text"]) or 0 if made["kind"] in (1, 2) else 0
     return made
 
 
-def record(a):
+def record(a, edition=2):
     one = bytes([a["kind"], a["also"], a["has_analyte"], a["series"]])
     two = little(a["analyte"], 2) + little(a["position"], 2) + little(a["end"], 2)
     three = bytes([a["charge"], a["deviation"], a["decimals"], a["sure"], a["sure_decimals"], a["zero"]])
     four = little(a["off"], 8) + little(a["confidence"], 4) + little(len(a["text"]), 2) + little(len(a["units"]), 2)
-    return one + two + three + four + bytes([len(a["losses"]), len(a["isotopes"]), len(a["items"]), a["last"]])
+    five = bytes([len(a["losses"]), len(a["isotopes"]), len(a["items"]), a["last"]])
+    return one + two + three + four + five + (little(a["residues"], 2) if edition == 2 else b"")
 
 
 def stored_unit(unit):
@@ -62,14 +69,14 @@ def stored_item(sign, kind, count, what):
     return bytes([sign, kind]) + little(count, 2) + little(len(what), 2)
 
 
-def framed(counts, sections):
+def framed(counts, sections, edition=2):
     """The header, and the sections behind it."""
     offsets = [28 + sum(len(s) for s in sections[:i]) for i in range(6)]
-    head = little(1, 2) + little(28 + sum(len(s) for s in sections), 2)
+    head = little(edition, 2) + little(28 + sum(len(s) for s in sections), 2)
     return head + b"".join(little(n, 2) + little(o, 2) for n, o in zip(counts, offsets)) + b"".join(sections)
 
 
-def table(*annotations):
+def table(*annotations, edition=2):
     losses = [loss for a in annotations for loss in a["losses"]]
     isotopes = [isotope for a in annotations for isotope in a["isotopes"]]
     items = [item for a in annotations for item in a["items"]]
@@ -79,9 +86,23 @@ def table(*annotations):
         text += a["text"] + b"".join(loss[3] for loss in a["losses"] if loss[1] == 1)
     return framed(
         (len(annotations), len(losses), len(isotopes), len(items), len(units), len(text)),
-        [b"".join(record(a) for a in annotations), b"".join(stored_item(*loss) for loss in losses),
+        [b"".join(record(a, edition) for a in annotations), b"".join(stored_item(*loss) for loss in losses),
          b"".join(bytes(i[:2]) + b"".join(little(n, 2) for n in i[2:]) for i in isotopes),
-         b"".join(stored_item(*item) for item in items), b"".join(stored_unit(u) for u in units), text])
+         b"".join(stored_item(*item) for item in items), b"".join(stored_unit(u) for u in units), text], edition)
+
+
+def sections_of(table):
+    """How many records each section of a sound table has, and their bytes."""
+    pairs = [(number(table, 4 + 4 * i), number(table, 6 + 4 * i)) for i in range(6)]
+    widths = (WIDTH[number(table, 0)], 6, 8, 6, 6, 1)
+    return [n for n, _ in pairs], [table[at:at + n * width] for (n, at), width in zip(pairs, widths)]
+
+
+def first_edition(table):
+    """The edition 1 table of the same fields as one of edition 2."""
+    counts, sections = sections_of(table)
+    records = sections[0]
+    return framed(counts, [b"".join(records[i:i + 36] for i in range(0, len(records), 38)), *sections[1:]], 1)
 
 
 # ---- a sound table's line
@@ -123,7 +144,7 @@ def spelled(table):
 
 
 def spelled_annotation(table, c):
-    at = c.take(0, 36)
+    at = c.take(0, WIDTH[number(table, 0)])
     r = table[at:at + 36]
     text, units = c.text(number(r, 28)), c.formula(number(r, 30))
     braced = "{" + text + "}" if text else ""
@@ -175,12 +196,18 @@ def yes(data):
     state(data, 0, 0)
 
 
+def both(answer, *annotations):
+    """One answer to the tables of both editions."""
+    for edition in (2, 1):
+        answer(table(*annotations, edition=edition))
+
+
 def bad(**fields):
-    no(table(annotation(**fields)))
+    both(no, annotation(**fields))
 
 
 def good(**fields):
-    yes(table(annotation(**fields)))
+    both(yes, annotation(**fields))
 
 
 def changed(data, at, value, width=1):
@@ -193,59 +220,169 @@ def rich():
 
 
 def other():
-    return [annotation(2, position=2, end=5, text=b"AB", deviation=1, decimals=1, off=5, losses=[(0, 0, 1, C)]),
+    return [annotation(2, position=4, end=5, text=b"AB", deviation=1, decimals=1, off=5, losses=[(0, 0, 1, C)]),
             annotation(7, units=[(0, 6, 2), (13, 6, 1)], isotopes=[(0, 1, 3, 0, 0)], items=[(1, 0, 1, H)], sure=1, sure_decimals=1, confidence=5)]
 
 
 def of_lines():
-    """The tables of short readable lines, among them those of document 01."""
+    """The tables of short readable lines, among them those of document 01, in both editions."""
     with open(os.path.join(ROOT, "reads", "stdin"), "rb") as lines, open(os.path.join(ROOT, "reads", "stdout"), "rb") as answers:
         pairs = zip(lines.read().split(b"\n"), answers.read().split(b"\n"))
     for made in dict.fromkeys(bytes.fromhex(a.split(b" ")[3].decode()) for line, a in pairs if a.startswith(b"0 ") and len(line) <= 40):
         yes(made)
+        yes(first_edition(made))
 
 
 def bytes_changed():
-    """Each byte of two tables with all sections, changed: mostly no table, now and then another."""
-    made = table(rich())
-    yes(made)
-    for i, b in enumerate(made):
-        for value in dict.fromkeys(((b + 1) % 256, (b + 255) % 256, 0, 255)):
-            if value != b:
-                ask(changed(made, i, value))
-    made = table(*other())
-    yes(made)
-    for i, b in enumerate(made):
-        ask(changed(made, i, (b + 1) % 256))
-        ask(changed(made, i, (b + 128) % 256))
+    """Each byte of two tables with all sections, of both editions, changed: mostly no table, now and then another."""
+    for edition in (2, 1):
+        made = table(rich(), edition=edition)
+        yes(made)
+        for i, b in enumerate(made):
+            for value in dict.fromkeys(((b + 1) % 256, (b + 255) % 256, 0, 255)):
+                if value != b:
+                    ask(changed(made, i, value))
+        made = table(*other(), edition=edition)
+        yes(made)
+        for i, b in enumerate(made):
+            ask(changed(made, i, (b + 1) % 256))
+            ask(changed(made, i, (b + 128) % 256))
 
 
 def cut_and_longer():
     """A table ends where its header says."""
-    small, made = table(annotation()), table(rich())
-    for whole in (small, made, table()):
-        for n in range(len(whole)):
-            no(whole[:n])
-        for tail in (b"\0", b"\1", b"\0" * 36, whole):
-            no(whole + tail)
-            no(changed(whole + tail, 2, len(whole + tail), 2))
-    for n in (1, 27, 28, 29, 36, 64, 70000):
+    for edition in (2, 1):
+        small, made = table(annotation(), edition=edition), table(rich(), edition=edition)
+        for whole in (small, made, table(edition=edition)):
+            for n in range(len(whole)):
+                no(whole[:n])
+            for tail in (b"\0", b"\1", b"\0\0", b"\0" * 36, b"\0" * 38, whole):
+                no(whole + tail)
+                no(changed(whole + tail, 2, len(whole + tail), 2))
+        for at in range(4, 28, 2):
+            for value in (0, 1, 27, 28, 63, 64, 65, 66, 67, 1000, 65535):
+                if value != number(small, at):
+                    no(changed(small, at, value, 2))
+        # sections with bytes that no annotation counts
+        for width, section in ((6, 1), (8, 2), (6, 3), (6, 4), (1, 5)):
+            sections = [record(annotation(), edition)] + [b""] * 5
+            sections[section] = (b"\0\0\1\0\1\0\1\0" if width == 8 else b"\0\0\1\0\1\0")[:width]
+            no(framed([1] + [int(k == section) for k in range(1, 6)], sections, edition))
+        # a section before its place, and a gap
+        no(changed(made, 6, 27, 2))
+        no(changed(made, 6, 29, 2))
+    for n in (1, 27, 28, 29, 36, 38, 64, 66, 70000):
         no(b"\0" * n)
     no(b"\xff" * 28)
-    for at in range(4, 28, 2):
-        for value in (0, 1, 27, 28, 63, 65, 1000, 65535):
-            if value != number(small, at):
-                no(changed(small, at, value, 2))
-    for edition in (0, 2, 256, 257, 65535):
-        no(changed(small, 0, edition, 2))
-    # sections with bytes that no annotation counts
-    for width, section in ((6, 1), (8, 2), (6, 3), (6, 4), (1, 5)):
-        sections = [record(annotation())] + [b""] * 5
-        sections[section] = (b"\0\0\1\0\1\0\1\0" if width == 8 else b"\0\0\1\0\1\0")[:width]
-        no(framed([1] + [int(k == section) for k in range(1, 6)], sections))
-    # a section before its place, and a gap
-    no(changed(made, 6, 27, 2))
-    no(changed(made, 6, 29, 2))
+
+
+def editions():
+    """Editions 1 and 2, and no other. The record's width goes by the number in the header."""
+    tables = [(annotation(),), (rich(),), tuple(other()), (annotation(4),) * 16, (annotation(), rich(), *other()), (annotation(position=3, text=b"PEP"),)]
+    for annotations in tables:
+        first, second = table(*annotations, edition=1), table(*annotations)
+        yes(first)
+        yes(second)
+        # the bytes of one marked as the other, and marked as what is no edition
+        no(changed(first, 0, 2, 2))
+        no(changed(second, 0, 1, 2))
+        for made in (first, second):
+            for edition in (0, 3, 4, 255, 256, 257, 258, 512, 513, 514, 32769, 65535):
+                no(changed(made, 0, edition, 2))
+        # the records of one under the header of the other, with its offsets
+        counts, sections = sections_of(first)
+        no(framed(counts, sections, 2))
+        counts, sections = sections_of(second)
+        no(framed(counts, sections, 1))
+    for edition in (1, 2):
+        yes(table(edition=edition))
+    for edition in (0, 3, 256, 257, 513, 65535):
+        no(changed(table(), 0, edition, 2))
+    # records of both widths in one table
+    one, three = annotation(), annotation(position=3, text=b"PEP")
+    for annotations in ((one, one), (one, three), (three, one), (three, three), (one, one, one)):
+        text = b"".join(a["text"] for a in annotations)
+        for turn in (0, 1):
+            records = b"".join(record(a, 1 + (i + turn) % 2) for i, a in enumerate(annotations))
+            for edition in (1, 2):
+                no(framed((len(annotations), 0, 0, 0, 0, len(text)), [records, b"", b"", b"", b"", text], edition))
+    # as many records of the other width, or one fewer
+    for annotations in ((annotation(4),) * 16, (annotation(9),) * 2):
+        records = b"".join(record(a, 1) for a in annotations)
+        for count in (len(annotations), len(annotations) - 1):
+            no(framed((count, 0, 0, 0, 0, 0), [records, b"", b"", b"", b"", b""], 2))
+
+
+def counts():
+    """The count of residues, which the writer verifies."""
+    for kind, more in ((1, dict(position=1)), (2, dict(position=2, end=2)), (3, dict(series=67)), (4, {}), (5, {}), (6, {}), (7, dict(units=C)), (8, dict(items=[(1, 0, 1, H)])), (9, {})):
+        texts = {1: (b"", b"K", b"PEP", b"[a]-K[LL]M-[b]", b"A" * 255), 2: (b"", b"K", b"PEP", b"A" * 255), 3: (b"", b"PEP"), 5: (b"PEP",), 6: (b"PEP", b"A" * 255), 8: (b"PEP",)}.get(kind, (b"",))
+        for text in texts:
+            count = annotation(kind, text=text, **more)["residues"]
+            yes(table(annotation(kind, text=text, **more)))
+            for wrong in dict.fromkeys((0, 1, 2, 3, 4, count + 1, count - 1, len(text), 255, 256, count + 256, 256 * count, 65535)):
+                if wrong != count:
+                    no(table(annotation(kind, text=text, residues=wrong % 65536, **more)))
+    no(table(annotation(position=3, text=b"PEP", residues=2)))
+    # in one annotation of several
+    for at in range(3):
+        for wrong in (0, 2, 4, 259):
+            made = [annotation(position=3, text=b"PEP") for _ in range(3)]
+            made[at] = annotation(position=3, text=b"PEP", residues=wrong)
+            no(table(*made))
+    no(table(annotation(position=3, text=b"PEP", residues=1), annotation(text=b"K", residues=3)))
+    # every small table with its count one more, and one less
+    for digits in list(cases[:400]):
+        made = bytes.fromhex(digits.decode())
+        if number(made, 0) == 2 and number(made, 4):
+            count = number(made, 64)
+            no(changed(made, 64, count + 1, 2))
+            no(changed(made, 64, count - 1, 2))
+
+
+def sequences():
+    """Sequences in the braces of series and internal ions. Document 02, M-105. What breaks their rules is no table, of either edition."""
+    internal = dict(kind=2, position=2, end=2)
+    for text in (b"A", b"PEPTIDE", b"M[Oxidation]ACK", b"[Acetyl]-M", b"K-[am]", b"[a]-K-[b]", b"M[a][b]", b"M[[]]", b"M[a[b]c]", b"M[-]", b"M[K]", b"[KK]-M", b"M[M+]", b"M[,/*0.5]", b"A" * 255,
+                 b"M[" + b"x" * 252 + b"]", b"[" + b"x" * 251 + b"]-M", b"M" + b"[" * 127 + b"]" * 127):
+        answer = good if residues(text) else bad
+        answer(text=text)
+        answer(text=text, **internal)
+        good(kind=6, text=text)
+    foreign = (b"x", b"Ax", b"xA", b"a", b"PEp", b" A", b"A ", b"A,B", b"A/B", b"A1", b"P(a)", b"-", b"-A", b"A-", b"A-B", b"[a]", b"[a]-", b"[a]A", b"[]-A", b"A-[]", b"A[]", b"A[", b"A]", b"A[a", b"A[a]]", b"A[[a]",
+               b"[A]-[B]-M", b"A-[a]-[b]", b"A-[a]B", b"[", b"]", b"[]", b"][", b"A[a]x", b"x" * 255, b"A" * 254 + b"x")
+    for text in foreign:
+        assert residues(text) is None
+        for count in (0, 1, len(text)):
+            no(table(annotation(text=text, residues=count)))
+            no(table(annotation(text=text, residues=count, **internal)))
+        bad(text=text)
+        bad(text=text, **internal)
+        good(kind=6, text=text)
+        good(kind=8, text=text, items=[(1, 0, 1, H)])
+    # as many as the position asks for, and one fewer
+    for count in (1, 2, 3, 10, 100, 255):
+        text = b"A" * count
+        for position, answer in ((1, good), (count, good), (count + 1, bad), (65535, bad)):
+            answer(position=position, text=text)
+        for start, end, answer in ((2, 2, good), (2, count + 1, good), (2, count + 2, bad), (2, 65535, bad), (65536 - count, 65535, good), (65535 - count, 65535, bad), (65535, 65535, good), (3, 2, bad),
+                                   (65535, 2, bad), (1, 1, bad), (1, count, bad)):
+            answer(kind=2, position=start, end=end, text=text)
+    for text, count in ((b"M[KKK]", 1), (b"[KK]-MN-[KK]", 2)):
+        good(position=count, text=text)
+        bad(position=count + 1, text=text)
+    both(no, annotation(4), annotation(position=4, text=b"PEP"))
+    both(no, annotation(text=b"x"), annotation(4))
+    both(yes, annotation(position=3, text=b"PEP"), annotation(4), annotation(2, position=3, end=5, text=b"PEP"))
+    # lines of 4,096 bytes, and longer ones, which are 1 unless they are no tables
+    full = [annotation(text=b"A" * 251)] * 15
+    for last, answer in ((b"A" * 252, (0, 0)), (b"A" * 253, (1, 4096)), (b"A" * 255, (1, 4096)), (b"A" * 256, (9, 0)), (b"a" * 252, (9, 0)), (b"a" * 253, (9, 0))):
+        for edition in (2, 1):
+            state(table(*full, annotation(text=last), edition=edition), *answer)
+    for edition in (2, 1):
+        state(table(*full, annotation(text=b"A" * 252), annotation(4), edition=edition), 9, 0)
+        state(table(*full, annotation(position=254, text=b"A" * 253), edition=edition), 9, 0)
+        state(table(*full, annotation(position=253, text=b"A" * 253), edition=edition), 1, 4096)
 
 
 def ordered():
@@ -274,8 +411,8 @@ def ordered():
     good(items=[(0, 2, 1, [])] * 4)
     for free in (dict(isotopes=[(1, 2, 1, 13, 6), (1, 2, 1, 15, 7)]), dict(isotopes=[(1, 2, 1, 15, 7), (1, 2, 1, 13, 6)]), dict(kind=7, units=C + H), dict(kind=7, units=H + C)):
         good(**free)
-    yes(table(rich(), *other()))
-    yes(table(*other(), rich()))
+    both(yes, rich(), *other())
+    both(yes, *other(), rich())
 
 
 def fields():
@@ -329,7 +466,7 @@ def fields():
     for mixed in ([(0, 0, 1, 0, 0)] * 2, [(0, 1, 1, 0, 0)] * 2, [(0, 2, 1, 13, 6), (0, 0, 1, 0, 0)], [(0, 0, 1, 0, 0), (0, 1, 1, 0, 0)]):
         bad(isotopes=mixed)
     for n, answer in ((0, yes), (1, yes), (16, yes), (17, no), (255, no)):
-        answer(table(*[annotation(4)] * n))
+        both(answer, *[annotation(4)] * n)
 
 
 def kinds():
@@ -337,7 +474,7 @@ def kinds():
     own = {1: {}, 2: dict(position=2, end=3), 3: dict(series=67), 4: {}, 5: dict(text=b"TMT"), 6: dict(text=b"a b"), 7: dict(units=C), 8: dict(text=b"CN", items=[(1, 0, 1, H)]), 9: {}}
     for kind, more in own.items():
         good(kind=kind, **more)
-        for name, value, holders in (("position", 5, (1, 9)), ("end", 7, (2,)), ("series", 3, (1,)), ("series", 70, (3,)), ("text", b"Ab", (1, 2, 3, 5, 6, 8)), ("units", C, (7,)), ("text", b"", (1, 2, 3, 4, 7, 9)), ("units", [], (1, 2, 3, 4, 5, 6, 8, 9))):
+        for name, value, holders in (("position", 5, (1, 9)), ("end", 7, (2,)), ("series", 3, (1,)), ("series", 70, (3,)), ("text", b"Ab", (3, 5, 6, 8)), ("text", b"AB", (1, 2, 3, 5, 6, 8)), ("units", C, (7,)), ("text", b"", (1, 2, 3, 4, 7, 9)), ("units", [], (1, 2, 3, 4, 5, 6, 8, 9))):
             if name == "position" and kind == 2:
                 continue
             (good if kind in holders else bad)(**{**more, "kind": kind, name: value})
@@ -350,9 +487,9 @@ def kinds():
         answer(kind=3, series=67, text=name)
     for name, answer in ((b"M+H", good), (b"2H1", bad), (b"Z", good), (b"a", good), (b" a", bad), (b"[a", bad), (b"a]", bad), (b"a{", good), (b"", bad), (b"a\n", bad), (b"a" * 255, good), (b"a" * 256, bad)):
         answer(losses=[(0, 1, 1, name)])
-    for kind in (1, 6):
-        good(kind=kind, text=b"x" * 255)
-        bad(kind=kind, text=b"x" * 256)
+    for kind, byte in ((1, b"A"), (6, b"x")):
+        good(kind=kind, text=byte * 255)
+        bad(kind=kind, text=byte * 256)
     good(kind=7, units=C * 12)
     bad(kind=7, units=C * 13)
 
@@ -380,13 +517,16 @@ def nested():
     for first, second in ((b"a[", b"b]"), (b"a]", b"b["), (b"a[b", b"c]d"), (b"a[[", b"b]]"), (b"a[b]", b"c]"), (b"a[", b"b"), (b"a", b"b]")):
         bad(kind=5, text=first, losses=[(0, 1, 1, second)])
         bad(losses=[(0, 1, 1, first), (1, 1, 1, second)])
-        no(table(annotation(5, text=first), annotation(5, text=second)))
+        both(no, annotation(5, text=first), annotation(5, text=second))
     good(kind=5, text=b"a[b]", losses=[(0, 1, 1, b"c[d]")])
-    yes(table(annotation(5, text=b"[a]"), annotation(3, series=67, text=b"[M+]", items=[(1, 0, 1, H)]), annotation(6, text=b"[")))
-    # texts in braces count none
-    for kind, more in ((1, {}), (2, dict(position=2, end=3)), (6, {}), (8, dict(items=[(1, 0, 1, H)]))):
+    both(yes, annotation(5, text=b"[a]"), annotation(3, series=67, text=b"[M+]", items=[(1, 0, 1, H)]), annotation(6, text=b"["))
+    # texts in braces count none; those of series and internal ions are sequences, whose names pair up
+    for kind, more in ((6, {}), (8, dict(items=[(1, 0, 1, H)]))):
         for text in (b"[", b"]", b"][", b"a]", b"[[a]", b"[a]"):
             good(kind=kind, text=text, **more)
+    for more in ({}, dict(kind=2, position=2, end=2)):
+        for text in (b"[", b"]", b"][", b"a]", b"[[a]", b"[a]"):
+            bad(text=text, **more)
     for byte in (b"\0", b"\n", b"\x1f", b"\x7f", b"\x80", b"\xff"):
         named(b"a[" + byte + b"]", bad, bad, bad)
     for name in (b"x" + b"[]" * 127, b"x" + b"[" * 127 + b"]" * 127, b"x" * 253 + b"[]"):
@@ -410,83 +550,94 @@ def nested():
     bad(losses=[(0, 1, 1, b"H[a]"), (0, 0, 1, [(2, 1, 1)])])
     # 4,096 bytes of such names, and one more
     full = [annotation(5, text=b"[]" * 126)] * 15
-    yes(table(*full, annotation(5, text=b"[]" * 126 + b"x")))
-    state(table(*full, annotation(5, text=b"[]" * 127)), 1, 4096)
-    no(table(*full, annotation(5, text=b"[]" * 126 + b"x]")))
+    for edition in (2, 1):
+        yes(table(*full, annotation(5, text=b"[]" * 126 + b"x"), edition=edition))
+        state(table(*full, annotation(5, text=b"[]" * 127), edition=edition), 1, 4096)
+        no(table(*full, annotation(5, text=b"[]" * 126 + b"x]"), edition=edition))
 
 
 def sums():
     """Confidences over the line."""
     def share(confidence, decimals):
         return annotation(sure=1, sure_decimals=decimals, confidence=confidence)
-    yes(table(*[share(1, 1)] * 10))
-    no(table(*[share(1, 1)] * 11))
-    yes(table(share(999999999, 9), share(1, 9), share(0, 3)))
-    no(table(share(999999999, 9), share(2, 9)))
-    yes(table(share(1, 0), share(0, 0)))
-    no(table(share(1, 0), share(1, 9)))
-    yes(table(*[share(625, 4)] * 16))
+    both(yes, *[share(1, 1)] * 10)
+    both(no, *[share(1, 1)] * 11)
+    both(yes, share(999999999, 9), share(1, 9), share(0, 3))
+    both(no, share(999999999, 9), share(2, 9))
+    both(yes, share(1, 0), share(0, 0))
+    both(no, share(1, 0), share(1, 9))
+    both(yes, *[share(625, 4)] * 16)
 
 
 def largest():
     """The most that one annotation may have, and a line of any length."""
     names = [(0, 1, 999, b"x" * 255)] * 8
     items = [(0, 0, 999, [(999, 118, 999)] * 12)] * 4
-    return annotation(also=1, has_analyte=1, analyte=65535, position=65535, series=13, charge=255, deviation=2, decimals=9, off=-999999999999, sure=1, sure_decimals=9, confidence=1,
-                      text=b"x" * 255, losses=names, isotopes=[(1, 2, 999, 999, 118)] * 4, items=items)
+    return annotation(also=1, has_analyte=1, analyte=65535, position=255, series=13, charge=255, deviation=2, decimals=9, off=-999999999999, sure=1, sure_decimals=9, confidence=1,
+                      text=b"A" * 255, losses=names, isotopes=[(1, 2, 999, 999, 118)] * 4, items=items)
 
 
-def texts(*lengths):
-    return table(*[annotation(6, text=b"x" * n) for n in lengths])
+def texts(*lengths, edition=2):
+    return table(*[annotation(6, text=b"x" * n) for n in lengths], edition=edition)
 
 
 def long():
     """Lines at their bound, and tables whose lines are longer: 1, unless they are no tables."""
     full = [252] * 15
-    for last, answer in ((252, (0, 0)), (253, (0, 0)), (254, (1, 4096)), (255, (1, 4096)), (256, (9, 0))):
-        state(texts(*full, last), *answer)
-    two = table(largest(), largest())
-    state(two, 1, 4096)
-    no(two + b"\0")
-    no(two[:-1])
-    no(changed(two, len(two) - 1, 10))
-    no(changed(two, 28 + 15, 1))
-    yes(table(largest()))
-    # the largest table of all, with one byte more, and with its last adduct item out of order
-    most = table(*[largest()] * 16)
-    assert len(most) == 43596
-    state(most, 1, 4096)
-    no(most + b"\0")
-    last = largest()
-    last["items"] = last["items"][:3] + [(0, 0, 998, last["items"][0][3])]
-    no(table(*[largest()] * 15, last))
-    # lines and tables around 1,024 bytes
-    for n in (249, 250, 251):
-        yes(texts(253, 253, 253, n))
-    for n in (95, 96, 97):
-        yes(texts(252, 252, 252, n))
-    for n in (3, 4, 5):
-        yes(table(*[annotation(7, units=C * 6)] * 13, annotation(7, units=C * n)))
+    for edition in (2, 1):
+        for last, answer in ((252, (0, 0)), (253, (0, 0)), (254, (1, 4096)), (255, (1, 4096)), (256, (9, 0))):
+            state(texts(*full, last, edition=edition), *answer)
+        two = table(largest(), largest(), edition=edition)
+        state(two, 1, 4096)
+        no(two + b"\0")
+        no(two[:-1])
+        no(changed(two, len(two) - 1, 10))
+        no(changed(two, 28 + 15, 1))
+        yes(table(largest(), edition=edition))
+        # the largest table of all, with one byte more, and with its last adduct item out of order
+        most = table(*[largest()] * 16, edition=edition)
+        assert len(most) == {1: 43596, 2: 43628}[edition]
+        state(most, 1, 4096)
+        no(most + b"\0")
+        last = largest()
+        last["items"] = last["items"][:3] + [(0, 0, 998, last["items"][0][3])]
+        no(table(*[largest()] * 15, last, edition=edition))
+        # lines and tables around 1,024 bytes
+        for n in (249, 250, 251):
+            yes(texts(253, 253, 253, n, edition=edition))
+        for n in (87, 88, 89, 95, 96, 97):
+            made = texts(252, 252, 252, n, edition=edition)
+            assert (len(made) == 1024) == (n == {1: 96, 2: 88}[edition])
+            yes(made)
+        # the same of tables of many units: of edition 2, and of edition 1
+        for whole, each, several in ((11, 8, (1, 2, 3)), (13, 6, (3, 4, 5))):
+            for n in several:
+                yes(table(*[annotation(7, units=C * each)] * whole, annotation(7, units=C * n), edition=edition))
 
 
 def digits():
     """Lines that are no pairs of digits, and capitals, which are digits."""
     made = table(annotation()).hex().encode()
-    for line in (b"0", made[:-1], made + b"0", made + b" ", b" " + made, made[:-1] + b"g", b"g" + made[1:], made + b"\r", b"0x" + made, b"zz", b"/0", b":0", b"@0", b"G0", b"`0", b"0\xff", b"0" * 87193):
+    for line in (b"0", made[:-1], made + b"0", made + b" ", b" " + made, made[:-1] + b"g", b"g" + made[1:], made + b"\r", b"0x" + made, b"zz", b"/0", b":0", b"@0", b"G0", b"`0", b"0\xff", b"0" * 87257):
         cases.append(line)
         stated[line] = (9, 0)
-    cases.append(table(rich()).hex().upper().encode())
-    stated[cases[-1]] = (0, 0)
+    for edition in (2, 1):
+        cases.append(table(rich(), edition=edition).hex().upper().encode())
+        stated[cases[-1]] = (0, 0)
 
 
 def rooms():
     """Outputs around the length of a line."""
     for made in (table(), table(annotation()), table(annotation(4), annotation(4)), table(rich()), table(*other()), table(rich(), *other()), table(*[annotation(4)] * 16), table(annotation(9)), texts(252, 252),
-                 table(annotation(3, series=90, items=[(1, 0, 1, H)])), table(annotation(3, series=67, text=b"[M+]", losses=[(0, 1, 1, b"a[b]")])), texts(255, 255, 255, 255), texts(*[252] * 15, 250), texts(*[252] * 15, 253), table(largest())):
+                 table(annotation(3, series=90, items=[(1, 0, 1, H)])), table(annotation(3, series=67, text=b"[M+]", losses=[(0, 1, 1, b"a[b]")])), texts(255, 255, 255, 255), texts(*[252] * 15, 250), texts(*[252] * 15, 253), table(largest()),
+                 table(edition=1), table(annotation(), edition=1), table(rich(), *other(), edition=1), table(largest(), edition=1), table(annotation(position=3, text=b"PEP")),
+                 table(annotation(position=3, text=b"PEP"), edition=1)):
         n = len(spelled(made))
         for room in dict.fromkeys((n, max(n - 1, 0), min(n + 1, 4096), 0) + (() if n > 1000 else (1, 28, 4096))):
             spare.append((room, made, (0, 0, n) if n <= room else (8, n, 0)))
-    for made, answer in ((b"", (9, 0, 0)), (b"\0", (9, 0, 0)), (table(annotation()) + b"\0", (9, 0, 0)), (table(annotation(4, position=1)), (9, 0, 0)), (texts(*[252] * 15, 254), (1, 4096, 0)), (table(largest(), largest()), (1, 4096, 0))):
+    for made, answer in ((b"", (9, 0, 0)), (b"\0", (9, 0, 0)), (table(annotation()) + b"\0", (9, 0, 0)), (table(annotation(4, position=1)), (9, 0, 0)), (texts(*[252] * 15, 254), (1, 4096, 0)), (table(largest(), largest()), (1, 4096, 0)),
+                         (changed(table(annotation()), 0, 1, 2), (9, 0, 0)), (table(annotation(position=3, text=b"PEP", residues=2)), (9, 0, 0)), (table(annotation(position=4, text=b"PEP"), edition=1), (9, 0, 0)),
+                         (table(annotation(text=b"x"), edition=1), (9, 0, 0)), (texts(*[252] * 15, 254, edition=1), (1, 4096, 0))):
         for room in (0, 1, 2, 4096):
             spare.append((room, made, answer))
 
@@ -535,8 +686,10 @@ def lines_by(folder, given, *words):
 
 
 def main(words):
-    for part in (of_lines, bytes_changed, cut_and_longer, ordered, fields, kinds, nested, sums, long, digits, rooms):
+    for part in (of_lines, bytes_changed, cut_and_longer, editions, counts, sequences, ordered, fields, kinds, nested, sums, long, digits, rooms):
         part()
+    # each once
+    cases[:] = dict.fromkeys(cases)
     if words[:1] == ["--check"]:
         return 0 if check() else 1
     # the last line lacks its line feed, as it may

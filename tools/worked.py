@@ -5,8 +5,8 @@
     python3 tools/worked.py --with PROGRAM    writes them anew, as PROGRAM has them
 
 PROGRAM reads lines from standard input and prints `NUMBER PLACE LENGTH HEX` for each, HEX being the table. It is a reader other than this
-repository's, so that the proofs hold the definitions to bytes that were not made from them. A record a line; where a record gets wider,
-tools/decode.py and PROGRAM are told so, and nothing here is written by hand.
+repository's, so that the proofs hold the definitions to bytes that were not made from them. A record a line; how wide it is goes by the
+edition of each table, as tools/decode.py has it, and nothing here is written by hand.
 """
 import re
 import subprocess
@@ -24,16 +24,19 @@ ROW = re.compile(r'(: Worked (?:"(?P<line>[^"\n]*)"|line)\n.*?\n    )(?P<size>\d
 NAMED = re.compile(r'^line = "(?P<line>[^"\n]*)"', re.M)
 TABLE = re.compile(r"(^(?P<name>\w+) =\n    )(?P<bytes>\d+ ∷ .*?)(?=∷ \[\]\n)", re.M | re.S)
 READ = re.compile(r'"(?P<line>[^"\n]*)" is read (?P<size>\d+) (?P<name>\w+) "(?P<best>[^"\n]*)"')
-# The sections: what a record is called, how long it is, how many stand on a line.
-LABELS = [("annotation", decode.ANNOTATION.size, 1), ("loss", decode.LOSS.size, 1), ("isotope", decode.ISOTOPE.size, 1),
-          ("adduct item", decode.ITEM.size, 1), ("unit", decode.UNIT.size, 1), ("text", 1, 255)]
+
+
+def labels(edition):
+    """The sections: what a record is called, how long it is, how many stand on a line."""
+    return [("annotation", decode.ANNOTATIONS[edition].size, 1), ("loss", decode.LOSS.size, 1), ("isotope", decode.ISOTOPE.size, 1),
+            ("adduct item", decode.ITEM.size, 1), ("unit", decode.UNIT.size, 1), ("text", 1, 255)]
 
 
 def records(table):
     """The table, cut into its header and its records, each with a name."""
     yield "header", table[:decode.HEADER.size]
-    pairs = decode.HEADER.unpack(table[:decode.HEADER.size])[2:]
-    for (name, size, together), count, at in zip(LABELS, pairs[::2], pairs[1::2]):
+    edition, _, *pairs = decode.HEADER.unpack(table[:decode.HEADER.size])
+    for (name, size, together), count, at in zip(labels(edition), pairs[::2], pairs[1::2]):
         # many units: six a line, by their symbols
         many = name == "unit" and count > 12
         together = 6 if many else together

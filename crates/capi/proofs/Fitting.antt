@@ -1,4 +1,4 @@
--- Two bytes hold each number of the answer to a line or a table: places lie in the line, and no table has more than 43,596 bytes.
+-- Two bytes hold each number of the answer to a line or a table: places lie in the line, and no table has more than 43,628 bytes.
 -- Assumes nothing.
 use Prim.Native.Nat.{ℕ, _≤_}
 use mathlib.Core.Path.{_≡_}
@@ -9,9 +9,9 @@ use Rattle.lang.specs.Parts.{silent}
 use Rattle.lang.specs.Mark.{Kept}
 use Rattle.rules.specs.Lines.{Spelling, stray, short}
 use Rattle.rules.specs.Limits.{lineMarks}
-use Rattle.rules.specs.House.{firstBreach}
+use Rattle.rules.specs.House.{firstForeign, firstBreach}
 use Rattle.rules.specs.Editions.{current}
-use Rattle.rules.specs.Answers.{Answer, Delivers, no-room, done, ReadsSum, ReadsRules, ReadsSpelling, Reads, Writes}
+use Rattle.rules.specs.Answers.{Answer, Delivers, no-room, done, Sound, ReadsSum, ReadsRules, ReadsForm, ReadsSpelling, Reads, Writes}
 use Rattle.rules.proofs.Rises.{line-rises}
 use Rattle.rules.proofs.Sizes.{sizes-fit}
 use Rattle.read_row.proofs.LinePlaces.{reads-place}
@@ -27,22 +27,27 @@ delivered-most h g (done l) = record { number = omega arith; place = omega arith
 
 -- a line and the largest table
 abbrev pub mostOfLine : ℕ
-mostOfLine = 47692
+mostOfLine = 47724
 
 module _ (s : Spelling) (room : ℕ) where
-  sum-most : Kept (lineMarks s) → firstBreach 0 s ≡ silent → {a : Answer} → a .place ≤ mostOfLine → ReadsSum s room a → AtMost mostOfLine a
-  sum-most k b h (ReadsSum.excess p z) = record { number = omega arith; place = h; size = omega arith }
-  sum-most k b h (ReadsSum.kept z t y d) =
-      delivered-most (omega (arith, sizes-fit current t (record { spelling = s; says = y; limits = k; rules = b; sum = z }))) (omega arith) d
+  sum-most : Kept (lineMarks s) → firstForeign current 0 s ≡ silent → firstBreach current 0 s ≡ silent → {a : Answer} → a .place ≤ mostOfLine → ReadsSum current s room a → AtMost mostOfLine a
+  sum-most k f b h (ReadsSum.excess p z) = record { number = omega arith; place = h; size = omega arith }
+  sum-most k f b h (ReadsSum.kept z t y d) =
+      let w : Sound current t = record { spelling = s; says = y; limits = k; form = f; rules = b; sum = z } in
+      delivered-most (omega (arith, sizes-fit current t w)) (omega arith) d
 
-  rules-most : Kept (lineMarks s) → {a : Answer} → a .place ≤ mostOfLine → ReadsRules s room a → AtMost mostOfLine a
-  rules-most k h (ReadsRules.breach p z) = record { number = omega arith; place = h; size = omega arith }
-  rules-most k h (ReadsRules.kept z r) = sum-most k z h r
+  rules-most : Kept (lineMarks s) → firstForeign current 0 s ≡ silent → {a : Answer} → a .place ≤ mostOfLine → ReadsRules current s room a → AtMost mostOfLine a
+  rules-most k f h (ReadsRules.breach p z) = record { number = omega arith; place = h; size = omega arith }
+  rules-most k f h (ReadsRules.kept z r) = sum-most k f z h r
 
-  spelling-most : {a : Answer} → a .place ≤ mostOfLine → ReadsSpelling s room a → AtMost mostOfLine a
+  form-most : Kept (lineMarks s) → {a : Answer} → a .place ≤ mostOfLine → ReadsForm current s room a → AtMost mostOfLine a
+  form-most k h (ReadsForm.foreign p z) = record { number = omega arith; place = h; size = omega arith }
+  form-most k h (ReadsForm.kept z r) = rules-most k z h r
+
+  spelling-most : {a : Answer} → a .place ≤ mostOfLine → ReadsSpelling current s room a → AtMost mostOfLine a
   spelling-most h (ReadsSpelling.limit m w) =
       record { number = omega (arith, line-rises s .within m (w .is-in) (w .broken) .number); place = h; size = omega arith }
-  spelling-most h (ReadsSpelling.kept k r) = rules-most k h r
+  spelling-most h (ReadsSpelling.kept k r) = form-most k h r
 
 pub reads-most : {line : List ℕ} {room : ℕ} {a : Answer} → Reads line room a → AtMost mostOfLine a
 reads-most (Reads.long h) = record { number = omega arith; place = omega arith; size = omega arith }

@@ -5,9 +5,9 @@ ghost use mathlib.Core.Path.{_≡_};
 ghost use mathlib.Core.List.{[], _∷_};
 ghost use Rattle.rules.specs.Stored.{headerSize};
 ghost use Rattle.rules.specs.Rows.{rowHeadSize};
-ghost use Rattle.rules.specs.Editions.{editionNumber};
-ghost use Rattle.layout.specs.Editions.{editionOf};
-ghost use Rattle.rules.specs.Layout.{annotationWidth, lossWidth, isotopeWidth, itemWidth, unitWidth};
+ghost use Rattle.rules.specs.Editions.{ed2, editionNumber};
+ghost use Rattle.layout.specs.Editions.{editionOf, namedEdition};
+ghost use Rattle.rules.specs.Layout.{commonWidth, annotationWidth, lossWidth, isotopeWidth, itemWidth, unitWidth, residuesAt};
 ghost use Rattle.rules.specs.Layout.{kindAt, markedAt, analytePresentAt, letterAt, analyteAt, positionAt, lastAt, chargeAt, deviationKindAt, deviationPlacesAt};
 ghost use Rattle.rules.specs.Layout.{confidencePresentAt, confidencePlacesAt, deviationAt, confidenceAt, textLengthAt, unitCountAt, lossCountAt, isotopeCountAt, itemCountAt};
 ghost use Rattle.rules.specs.Layout.{signAt, contentKindAt, countAt, contentSizeAt, isotopeSignAt, isotopeKindAt, isotopeShiftAt, isotopeNucleonsAt, isotopeElementAt};
@@ -15,9 +15,10 @@ ghost use Rattle.rules.specs.Layout.{unitNucleonsAt, unitElementAt, atomCountAt
 ghost use Rattle.rules.specs.Layout.{editionAt, lengthAt, annotationPairAt, lossPairAt, isotopePairAt, itemPairAt, unitPairAt, textPairAt};
 ghost use Rattle.rules.specs.Layout.{annotationSection, lossSection, isotopeSection, itemSection, unitSection, textSection};
 
-// The editions of a stored table: there is one, and a further one is a case more.
+// The editions of a stored table: document 01's, and that of document 02 (M-105), whose annotations have a count of residues more.
 pub enum Edition {
     First,
+    Second,
 }
 
 // The number that the header of an edition begins with.
@@ -26,6 +27,27 @@ pub fn edition_number(e: Edition) -> usize
 {
     match e {
         Edition::First => 1,
+        Edition::Second => 2,
+    }
+}
+
+// The edition that a header names; a header that names none is taken for one of the first.
+pub fn edition_named(number: usize) -> Edition
+    ensures { λ r. ⌜ r ≡ namedEdition number ⌝ }
+{
+    if number == 2 {
+        return Edition::Second;
+    }
+    Edition::First
+}
+
+// How many bytes an annotation has in an edition.
+pub fn annotation_size(e: Edition) -> usize
+    ensures { λ r. ⌜ r ≡ annotationWidth (editionOf e) ⌝ }
+{
+    match e {
+        Edition::First => COMMON_SIZE,
+        Edition::Second => ANNOTATION_SIZE,
     }
 }
 
@@ -33,7 +55,11 @@ pub fn edition_number(e: Edition) -> usize
 
 pub const HEADER_SIZE: usize = 28;
 
-pub const ANNOTATION_SIZE: usize = 36;
+// Of an annotation, what every edition has.
+pub const COMMON_SIZE: usize = 36;
+
+// Of an annotation of the second edition.
+pub const ANNOTATION_SIZE: usize = 38;
 
 pub const LOSS_SIZE: usize = 6;
 
@@ -46,7 +72,9 @@ pub const UNIT_SIZE: usize = 6;
 // Of a stored row, the bytes before its table (document 02, M-101).
 pub const ROW_HEAD_SIZE: usize = 20;
 
-// ---- where the fields of an annotation stand
+// ---- where the fields of an annotation stand; of the second edition the residues too
+
+pub const RESIDUES_AT: usize = 36;
 
 pub const KIND_AT: usize = 0;
 
@@ -150,12 +178,14 @@ pub const TEXT_SECTION: usize = 5;
 
 // ---- that these are the definitions' numbers
 
-fn sizes() -> [usize; 7]
-    ensures { λ r. ⌜ r ≡ headerSize ∷ annotationWidth ∷ lossWidth ∷ isotopeWidth ∷ itemWidth ∷ unitWidth ∷ rowHeadSize ∷ [] ⌝ }
+fn sizes() -> [usize; 9]
+    ensures { λ r. ⌜ r ≡ headerSize ∷ commonWidth ∷ annotationWidth ed2 ∷ residuesAt ∷ lossWidth ∷ isotopeWidth ∷ itemWidth ∷ unitWidth ∷ rowHeadSize ∷ [] ⌝ }
 {
     [
         HEADER_SIZE,
+        COMMON_SIZE,
         ANNOTATION_SIZE,
+        RESIDUES_AT,
         LOSS_SIZE,
         ISOTOPE_SIZE,
         ITEM_SIZE,

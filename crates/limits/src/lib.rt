@@ -48,10 +48,10 @@ pub const MAX_DIGITS: u8 = 12;
 pub const ONE: u64 = 1000000000;
 
 // The bytes of any table.
-pub const MAX_ANY_TABLE: usize = 43596;
+pub const MAX_ANY_TABLE: usize = 43628;
 
 // The bytes of the table of a line that is read: it has no texts but the line's own.
-pub const MAX_TABLE: usize = 21340;
+pub const MAX_TABLE: usize = 21372;
 
 // The bytes of a row of a peak list, its line feed not counted (document 02, M-101).
 pub const MAX_ROW: usize = 4160;

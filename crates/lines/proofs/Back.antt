@@ -9,14 +9,15 @@ use Rattle.rules.specs.Fields.{Table, Spells}
 use Rattle.rules.specs.Limits.{maxLine, maxAnnotations}
 use Rattle.rules.specs.Preferred.{preferred, preferredSpelling}
 use Rattle.rules.specs.Stored.{stored}
-use Rattle.rules.specs.Answers.{Answer, refuses, gives, Delivers, no-room, done, Sound, Holds, Reads, ReadsSpelling, ReadsRules, ReadsSum, Writes, no-table, long, fits}
+use Rattle.rules.specs.Answers.{Answer, refuses, gives, Delivers, no-room, done, Sound, Holds, Takes, Reads, ReadsSpelling, ReadsForm, ReadsRules, ReadsSum, Writes, no-table, long, fits}
 use Rattle.rules.specs.Largest.{maxTable}
 use Rattle.rules.specs.Editions.{current}
 use Rattle.rules.proofs.Bounds.{each-length, table-few}
 use Rattle.rules.proofs.PreferredSpells.{said-in-order, preferred-says}
-use Rattle.rules.proofs.WritesOne.{holds-one, writes-one}
+use Rattle.rules.proofs.WritesOne.{takes-one, writes-one}
+use Rattle.rules.proofs.SoundEditions.{takes-current}
 use Rattle.shape.proofs.Unambiguous.{reads-one}
-use Rattle.write_table.proofs.Prefers.{preferred-kept, preferred-rules, preferred-sum}
+use Rattle.write_table.proofs.Prefers.{preferred-kept, preferred-form, preferred-rules, preferred-sum}
 use Rattle.write_table.proofs.Longer.{preferred-longer}
 use Rattle.write_table.proofs.Holds.{take-given}
 use Rattle.lines.specs.Relabels.{Relabels, refused, relabelled}
@@ -26,29 +27,46 @@ use Rattle.lines.proofs.Right.{reads-table, bytes-read}
 -- ---- reading what was written
 
 -- the preferred line of a sound table, within its bound, reads to the table
-reads-preferred : (t : Table) → Sound t → length (preferred t) ≤ maxLine → (room : ℕ) → length (stored current t) ≤ room → Reads (preferred t) room (gives room (stored current t))
+pub reads-preferred : (t : Table) → Sound current t → length (preferred t) ≤ maxLine → (room : ℕ) → length (stored current t) ≤ room → Reads (preferred t) room (gives room (stored current t))
 reads-preferred t s l room h =
     Reads.spelled l (preferredSpelling t) refl
     (ReadsSpelling.kept (preferred-kept t s)
-    (ReadsRules.kept (preferred-rules t s) (ReadsSum.kept (preferred-sum t s) t (preferred-says (said-in-order (s .says))) (done h))))
+    (ReadsForm.kept (preferred-form current t s)
+    (ReadsRules.kept (preferred-rules current t s) (ReadsSum.kept (preferred-sum t s) t (preferred-says (said-in-order (s .says))) (done h)))))
 
-delivered-back : (t : Table) → Sound t → length (preferred t) ≤ maxLine → {room : ℕ} {a : Answer} → Delivers room (preferred t) a → a .number ≡ 0
+delivered-back : (t : Table) → Sound current t → length (preferred t) ≤ maxLine → {room : ℕ} {a : Answer} → Delivers room (preferred t) a → a .number ≡ 0
     → (room′ : ℕ) → length (stored current t) ≤ room′ → Reads (take (a .size) (a .out)) room′ (gives room′ (stored current t))
 delivered-back t s l (no-room h) e room′ g = absurd (omega arith)
 delivered-back t s l {room} (done h) e room′ g =
     subst (λ (w : List ℕ). Reads w room′ (gives room′ (stored current t))) (sym (take-given room (preferred t))) (reads-preferred t s l room′ g)
 
--- some answer of reading, and so every one, is the table that was written
-pub read-back : {table : List ℕ} {room : ℕ} {a : Answer} → Writes table room a → a .number ≡ 0 → (room′ : ℕ) → length table ≤ room′
-    → Reads (take (a .size) (a .out)) room′ (gives room′ table)
-read-back (no-table n) e room′ g = absurd (omega arith)
-read-back (long t h l) e room′ g = absurd (omega arith)
-read-back {table} {a = a} (fits t h l d) e room′ g =
-    subst (λ (w : List ℕ). Reads (take (a .size) (a .out)) room′ (gives room′ w)) (h .is) (delivered-back t (h .sound) l d e room′ (omega (arith, ap length (h .is))))
+-- what was written is the line of a table that the bytes are; reading it gives the current edition's table of the same fields
+pub record ReadsBack (bytes line : List ℕ) : Type 0 where
+  pub table : Table
+  pub takes : Takes bytes table
+  pub reads : (room′ : ℕ) → length (stored current table) ≤ room′ → Reads line room′ (gives room′ (stored current table))
 
-pub read-back-one : {table : List ℕ} {room room′ : ℕ} {a b : Answer} → Writes table room a → a .number ≡ 0 → length table ≤ room′
-    → Reads (take (a .size) (a .out)) room′ b → b ≡ gives room′ table
-read-back-one {room′ = room′} w e g r = reads-one r (read-back w e room′ g)
+pub read-back : {bytes : List ℕ} {room : ℕ} {a : Answer} → Writes bytes room a → a .number ≡ 0 → ReadsBack bytes (take (a .size) (a .out))
+read-back (no-table n) e = absurd (omega arith)
+read-back (long t h l) e = absurd (omega arith)
+read-back (fits t h l d) e = record { table = t; takes = h; reads = λ room′ g. delivered-back t (h .also) l d e room′ g }
+
+-- so from bytes of the current edition reading gives these very bytes, in some answer, and so in every one
+pub read-back-one : {bytes : List ℕ} {t : Table} {room room′ : ℕ} {a b : Answer} → Writes bytes room a → a .number ≡ 0 → Holds current bytes t → length bytes ≤ room′
+    → Reads (take (a .size) (a .out)) room′ b → b ≡ gives room′ bytes
+read-back-one {t = t} {room′ = room′} w e h g r =
+    let x = read-back w e in
+    let y = takes-current t (h .sound) (h .is) in
+    let q : stored current (x .table) ≡ _ = ap (stored current) (takes-one (x .takes) y) ∙ h .is in
+    reads-one r (x .reads room′ (omega (arith, ap length q))) ∙ ap (gives room′) q
+
+-- and from bytes of any edition the current edition's of the same fields
+pub read-back-any : {bytes : List ℕ} {t : Table} {room room′ : ℕ} {a b : Answer} → Writes bytes room a → a .number ≡ 0 → Takes bytes t → length (stored current t) ≤ room′
+    → Reads (take (a .size) (a .out)) room′ b → b ≡ gives room′ (stored current t)
+read-back-any {t = t} {room′ = room′} w e h g r =
+    let x = read-back w e in
+    let q : stored current (x .table) ≡ stored current t = ap (stored current) (takes-one (x .takes) h) in
+    reads-one r (x .reads room′ (omega (arith, ap length q))) ∙ ap (gives room′) q
 
 -- ---- writing what was read
 
@@ -58,10 +76,10 @@ pub data HandsOver (room : ℕ) (line : List ℕ) : Answer → Type 0 where
   within : length line ≤ maxLine → {b : Answer} → Delivers room line b → HandsOver room line b
 
 -- the bytes are this table's: every answer of writing hands over its preferred line
-hands-over : {bytes : List ℕ} (t : Table) → Holds current bytes t → {room : ℕ} {b : Answer} → Writes bytes room b → HandsOver room (preferred t) b
+hands-over : {bytes : List ℕ} (t : Table) → Takes bytes t → {room : ℕ} {b : Answer} → Writes bytes room b → HandsOver room (preferred t) b
 hands-over t h (no-table n) = absurd (n t h)
-hands-over t h {room} (long u g k) = subst (λ (x : Table). HandsOver room (preferred x) (refuses room 1 maxLine)) (holds-one g h) (past k)
-hands-over t h {room} {b} (fits u g k d) = subst (λ (x : Table). HandsOver room (preferred x) b) (holds-one g h) (within k d)
+hands-over t h {room} (long u g k) = subst (λ (x : Table). HandsOver room (preferred x) (refuses room 1 maxLine)) (takes-one g h) (past k)
+hands-over t h {room} {b} (fits u g k d) = subst (λ (x : Table). HandsOver room (preferred x) b) (takes-one g h) (within k d)
 
 -- what was read, and what it is written as
 pub record Written (line bytes : List ℕ) : Type 0 where
@@ -78,7 +96,7 @@ write-back line {room} {a} r e =
     let q = bytes-read line room x in
     let k : length (preferred t) ≤ length line + maxAnnotations =
     omega (arith, preferred-longer (x .says), ap length (x .text), each-length (x .says), table-few t (x .sound)) in
-    let h : Holds current (take (a .size) (a .out)) t = record { sound = x .sound; is = sym q } in
+    let h : Takes (take (a .size) (a .out)) t = takes-current t (x .sound) (sym q) in
     record { table = t; spells = record { spelling = x .spelling; text = x .text; says = x .says }; is = sym q; longer = k; writes = λ room b w. hands-over t h w }
 
 -- ---- both

@@ -8,8 +8,9 @@ use Rattle.lang.specs.Parts.{silent}
 use Rattle.lang.specs.Mark.{Kept}
 use Rattle.rules.specs.Lines.{Spelling, lineText, Misshapen}
 use Rattle.rules.specs.Limits.{maxLine, lineMarks}
-use Rattle.rules.specs.House.{firstBreach}
-use Rattle.rules.specs.Answers.{Answer, Delivers, no-room, done, Reads, ReadsSpelling, ReadsRules, ReadsSum}
+use Rattle.rules.specs.Editions.{current}
+use Rattle.rules.specs.House.{firstForeign, firstBreach}
+use Rattle.rules.specs.Answers.{Answer, Delivers, no-room, done, Reads, ReadsSpelling, ReadsForm, ReadsRules, ReadsSum}
 use Rattle.rules.specs.Largest.{maxTable}
 use Rattle.rules.proofs.Rises.{line-rises}
 use Rattle.lines.proofs.Small.{table-small}
@@ -21,20 +22,24 @@ delivers-enough (done h) g e = omega arith
 -- ---- a table
 
 module _ (s : Spelling) (room : ℕ) (short : length (lineText s) ≤ maxLine) (enough : maxTable ≤ room) where
-  sum-enough : Kept (lineMarks s) → firstBreach 0 s ≡ silent → {a : Answer} → ReadsSum s room a → a .number ≡ 8 → ⊥
-  sum-enough k r (ReadsSum.excess p z) e = omega arith
-  sum-enough k r (ReadsSum.kept z t y d) e =
-      let small = table-small y (record { spelling = s; says = y; limits = k; rules = r; sum = z }) short in
+  sum-enough : Kept (lineMarks s) → firstForeign current 0 s ≡ silent → firstBreach current 0 s ≡ silent → {a : Answer} → ReadsSum current s room a → a .number ≡ 8 → ⊥
+  sum-enough k f r (ReadsSum.excess p z) e = omega arith
+  sum-enough k f r (ReadsSum.kept z t y d) e =
+      let small = table-small y {e = current} (record { spelling = s; says = y; limits = k; form = f; rules = r; sum = z }) short in
       delivers-enough d (omega arith) e
 
-  rules-enough : Kept (lineMarks s) → {a : Answer} → ReadsRules s room a → a .number ≡ 8 → ⊥
-  rules-enough k (ReadsRules.breach p z) e = omega arith
-  rules-enough k (ReadsRules.kept z r) e = sum-enough k z r e
+  rules-enough : Kept (lineMarks s) → firstForeign current 0 s ≡ silent → {a : Answer} → ReadsRules current s room a → a .number ≡ 8 → ⊥
+  rules-enough k f (ReadsRules.breach p z) e = omega arith
+  rules-enough k f (ReadsRules.kept z r) e = sum-enough k f z r e
+
+  form-enough : Kept (lineMarks s) → {a : Answer} → ReadsForm current s room a → a .number ≡ 8 → ⊥
+  form-enough k (ReadsForm.foreign p z) e = omega arith
+  form-enough k (ReadsForm.kept z r) e = rules-enough k z r e
 
   -- the number of a limit is 5 at most
-  spelling-enough : {a : Answer} → ReadsSpelling s room a → a .number ≡ 8 → ⊥
+  spelling-enough : {a : Answer} → ReadsSpelling current s room a → a .number ≡ 8 → ⊥
   spelling-enough (ReadsSpelling.limit m w) e = omega (arith, line-rises s .within m (w .is-in) (w .broken) .number)
-  spelling-enough (ReadsSpelling.kept k r) e = rules-enough k r e
+  spelling-enough (ReadsSpelling.kept k r) e = form-enough k r e
 
 misshapen-enough : {line : List ℕ} {n p : ℕ} → Misshapen line n p → n ≡ 8 → ⊥
 misshapen-enough (Misshapen.stray p x) e = omega arith

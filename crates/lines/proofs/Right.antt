@@ -15,9 +15,10 @@ use Rattle.rules.specs.Fields.{Table, Says}
 use Rattle.rules.specs.Limits.{maxLine, lineMarks}
 use Rattle.rules.specs.Preferred.{preferred}
 use Rattle.rules.specs.Stored.{stored}
-use Rattle.rules.specs.Answers.{Answer, refuses, gives, Sound, Holds, Reads}
+use Rattle.rules.specs.Answers.{Answer, refuses, gives, Sound, Takes, Reads}
 use Rattle.rules.specs.Largest.{maxTable}
 use Rattle.rules.specs.Editions.{current}
+use Rattle.rules.proofs.SoundEditions.{takes-current}
 use Rattle.scan_line.specs.declared.Verdict.{Verdict}
 use Rattle.scan_line.specs.declared.Verdict.the-variants.{Fine, Short, Stray}
 use Rattle.scan_line.specs.Steps.{machineBytes, scannedBy}
@@ -48,7 +49,7 @@ pub record Read (line : List ℕ) (room : ℕ) (a : Answer) : Type 0 where
   pub short : length line ≤ maxLine
   pub says : Each Says spelling table
   pub limits : Kept (lineMarks spelling)
-  pub sound : Sound table
+  pub sound : Sound current table
   pub is : a ≡ gives room (stored current table)
 
 pub reads-table : (line : List ℕ) (room : ℕ) {a : Answer} → Reads line room a → a .number ≡ 0 → Read line room a
@@ -62,8 +63,8 @@ reads-table line room (Reads.spelled h s q r) e =
 pub bytes-read : (line : List ℕ) (room : ℕ) {a : Answer} (x : Read line room a) → take (a .size) (a .out) ≡ stored current (x .table)
 bytes-read line room {a} x = ap (λ (y : Answer). take (y .size) (y .out)) (x .is) ∙ take-given room (stored current (x .table))
 
-holds-read : (line : List ℕ) (room : ℕ) {a : Answer} (x : Read line room a) → Holds current (take (a .size) (a .out)) (x .table)
-holds-read line room x = record { sound = x .sound; is = sym (bytes-read line room x) }
+holds-read : (line : List ℕ) (room : ℕ) {a : Answer} (x : Read line room a) → Takes (take (a .size) (a .out)) (x .table)
+holds-read line room x = takes-current (x .table) (x .sound) (sym (bytes-read line room x))
 
 -- what is spelled for it
 spelled-read : (line : List ℕ) (room : ℕ) {a : Answer} (x : Read line room a) → spellingOf line (totalsOf line) (partsAt line 0) ≡ preferred (x .table)
@@ -86,20 +87,20 @@ module _ (line : List ℕ) (room : ℕ) where
   abbrev t : Totals
   t = totalsOf line
 
-  over-is : (spelledOver zeros line .number ≡ 8 → ⊥) → relabelledOver line room ≡ answerBy line room (spelledOver zeros line)
+  over-is : (spelledOver current zeros line .number ≡ 8 → ⊥) → relabelledOver line room ≡ answerBy line room (spelledOver current zeros line)
   unfolding relabelledOver spelledOver
-  over-is h = by (eqb (firstOf t .number) 0) refl (ltb (length zeros) (endAt (t .counts))) refl h
+  over-is h = by (eqb (firstOf t .number) 0) refl (ltb (length zeros) (endAt current (t .counts))) refl h
     where
       w : Answer
       w = lineOver (spellingOf line t (partsAt line 0)) room
 
       stored-by : Bool → Answer
-      stored-by c = cond c (record { number = 8; place = endAt (t .counts); size = 0; out = zeros }) (record { number = 0; place = 0; size = endAt (t .counts); out = tableOver zeros line (t .counts) })
+      stored-by c = cond c (record { number = 8; place = endAt current (t .counts); size = 0; out = zeros }) (record { number = 0; place = 0; size = endAt current (t .counts); out = tableOver current zeros line (t .counts) })
 
       read-by : Bool → Bool → Answer
       read-by b c = cond b (stored-by c) (record { number = firstOf t .number; place = firstOf t .place; size = 0; out = zeros })
 
-      by : (b : Bool) → eqb (firstOf t .number) 0 ≡ b → (c : Bool) → ltb (length zeros) (endAt (t .counts)) ≡ c → (read-by b c .number ≡ 8 → ⊥)
+      by : (b : Bool) → eqb (firstOf t .number) 0 ≡ b → (c : Bool) → ltb (length zeros) (endAt current (t .counts)) ≡ c → (read-by b c .number ≡ 8 → ⊥)
           → cond b w (refuses room (firstOf t .number) (firstOf t .place)) ≡ answerBy line room (read-by b c)
       by true e true f n = absurd (n refl)
       by true e false f n = refl
@@ -109,8 +110,8 @@ module _ (line : List ℕ) (room : ℕ) where
   unfolding relabelledOf readOf
   any-is v h = by (ltb maxLine (length line)) v h
     where
-      by : (b : Bool) (v : Verdict) → (cond b (refuses maxTable 1 maxLine) (anyOver zeros v line) .number ≡ 8 → ⊥)
-          → cond b (refuses room 1 maxLine) (relabelledAs v line room) ≡ answerBy line room (cond b (refuses maxTable 1 maxLine) (anyOver zeros v line))
+      by : (b : Bool) (v : Verdict) → (cond b (refuses maxTable 1 maxLine) (anyOver current zeros v line) .number ≡ 8 → ⊥)
+          → cond b (refuses room 1 maxLine) (relabelledAs v line room) ≡ answerBy line room (cond b (refuses maxTable 1 maxLine) (anyOver current zeros v line))
       by true v n = refl
       by false Fine n = over-is n
       by false Short n = refl

@@ -1,4 +1,4 @@
--- The table of a line within its bound has at most 21,340 bytes: an annotation has so many besides its texts, and the texts of all have
+-- The table of a line within its bound has at most 21,372 bytes: an annotation has so many besides its texts, and the texts of all have
 -- no more bytes than the line. Assumes nothing.
 use Prim.Native.Nat.{ℕ, _+_, _*_, _≤_}
 use mathlib.Core.Path.{ap}
@@ -23,7 +23,7 @@ use Rattle.rules.specs.Limits.{maxLine, maxUnits}
 use Rattle.rules.specs.Stored.{ionFields, lostUnits, lostName, addedUnits, annotationTexts, stored}
 use Rattle.rules.specs.Answers.{Sound}
 use Rattle.rules.specs.Largest.{maxPlainBytes, maxTable}
-use Rattle.rules.specs.Editions.{current}
+use Rattle.rules.specs.Editions.{Edition, current}
 use Rattle.rules.proofs.Totals.{total, length-flat, total-le, perm-flat}
 use Rattle.rules.proofs.Bounds.{Bounded, table-few, table-bounded}
 use Rattle.rules.proofs.Lengths.{weight, stored-weight}
@@ -31,7 +31,7 @@ use Rattle.read_annotation.proofs.Sizes.{ion-long, losses-long}
 
 -- ---- an annotation, besides its texts
 
-pub weight-plain : (a : TableAnnotation) → Bounded a → weight a ≤ maxPlainBytes + length (annotationTexts a)
+pub weight-plain : (a : TableAnnotation) → Bounded a → weight current a ≤ maxPlainBytes + length (annotationTexts a)
 weight-plain a h =
     let u = ionFields (a .ion) .units in
     let lu = flat (λ l. lostUnits (l .what)) (a .losses) in
@@ -90,12 +90,12 @@ total-over : {A : Type 0} (v w : A → ℕ) (n : ℕ) (xs : List A) → ((x : A)
 total-over v w n [] h = omega arith
 total-over v w n (x ∷ xs) h = omega (arith, h x here, total-over v w n xs (λ y i. h y (later i)), mul-suc n (length xs))
 
-pub table-small : {s : Spelling} {t : Table} → Each Says s t → Sound t → length (lineText s) ≤ maxLine → length (stored current t) ≤ maxTable
+pub table-small : {s : Spelling} {t : Table} → Each Says s t → {e : Edition} → Sound e t → length (lineText s) ≤ maxLine → length (stored current t) ≤ maxTable
 table-small {t = t} e h short =
     omega (
       arith,
       stored-weight current t,
-      total-over weight (λ a. length (annotationTexts a)) maxPlainBytes t (λ a i. weight-plain a (table-bounded t h a i)),
+      total-over (weight current) (λ a. length (annotationTexts a)) maxPlainBytes t (λ a i. weight-plain a (table-bounded t h a i)),
       table-few t h,
       texts-long e,
     )

@@ -30,15 +30,15 @@ measured-fits s p e =
     let q = ap (λ (m : Measured). m .counts) e in ap (plus noCounts) q ∙ none-plus (ownCounts (p .front .ion)) (p .middle .counts) ∙ sym q
 
 -- the first annotation, of which m was measured: a sum with nothing is what was measured
-pub first-added : (line : List ℕ) (p : Parts) {m : Measured} {breach excess : Fault} {at : ℕ} → m ≡ measuredOf line p
+pub first-added : (line : List ℕ) (p : Parts) {m : Measured} {form breach excess : Fault} {at : ℕ} → m ≡ measuredOf line p
     → m .share ≤ largest
-    → breach ≡ noted (fault 0 0) 6 0 (m .kept) → excess ≡ noted (fault 0 0) 7 0 (leb (m .share) one) → at ≡ min (0 + m .len) (length line)
-    → record { counts = m .counts; free = m .free; sum = m .share; limit = m .fault; breach = breach; excess = excess; at = at } ≡ addedBy line nothing 0 p
-first-added line p {m} pm hs pb pe pa =
+    → form ≡ noted (fault 0 0) 11 0 (m .formed) → breach ≡ noted (fault 0 0) 6 0 (m .kept) → excess ≡ noted (fault 0 0) 7 0 (leb (m .share) one) → at ≡ min (0 + m .len) (length line)
+    → record { counts = m .counts; free = m .free; sum = m .share; limit = m .fault; form = form; breach = breach; excess = excess; at = at } ≡ addedBy line nothing 0 p
+first-added line p {m} pm hs pf pb pe pa =
     let z : length line - length line ≡ 0 = omega arith in
     let c : plus noCounts (m .counts) ≡ m .counts = measured-fits line p pm in
     let s : summed 0 (m .share) ≡ m .share = omega arith in
-    rw (pb, pe, pa, ← pm, z, c, s)
+    rw (pf, pb, pe, pa, ← pm, z, c, s)
 
 -- one annotation more, behind a comma
 pub next-added : (line : List ℕ) (t : Totals) {u : Totals} {from : ℕ} {r : List ℕ} {p : Parts} → from ≡ behindComma line (t .at) → r ≡ drop from line

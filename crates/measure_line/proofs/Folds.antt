@@ -1,5 +1,5 @@
--- The first annotation that breaks a rule, and the first that takes the sum of confidences past 1, found one annotation after the other.
--- Assumes nothing.
+-- The first annotation that fails a test, and the first that takes the sum of confidences past 1, found one annotation after the other. What
+-- is said of the first is said of any test and number, and then of the form of sequences (11) and of the rules (6). Assumes nothing.
 use Prim.Native.Nat.{ℕ, _+_, _<_, _≤_, min}
 use mathlib.Core.Path.{_≡_, refl, ap, ap₂, _∙_}
 use mathlib.Core.Bool.{Bool, true, false, not}
@@ -11,7 +11,8 @@ use borrow.Author.Tests.{leb-true, leb-false, lt-leb}
 use Rattle.lang.specs.Parts.{Opt, silent, written}
 use Rattle.rules.specs.Annotations.{SpelledAnnotation, annotationText}
 use Rattle.rules.specs.Lines.{Spelling}
-use Rattle.rules.specs.House.{annotationRules, share, one, firstBreach, firstExcess}
+use Rattle.rules.specs.Editions.{current}
+use Rattle.rules.specs.House.{formed, annotationRules, share, one, firstFailing, firstForeign, firstBreach, firstExcess}
 use Rattle.numbers.specs.Shares.{largest}
 use Rattle.faults.specs.declared.Fault.{Fault}
 use Rattle.faults.specs.Faults.{fault}
@@ -22,9 +23,16 @@ use Rattle.measure_line.specs.Totals.{noted, summed}
 abbrev pub behind : ℕ → SpelledAnnotation → ℕ
 behind at a = at + length (annotationText a) + 1
 
+-- noted by a number where a test fails
+abbrev pub foldFailing : (SpelledAnnotation → Bool) → ℕ → Fault → ℕ → Spelling → Fault
+foldFailing test number f at [] = f
+foldFailing test number f at (a ∷ more) = foldFailing test number (noted f number at (test a)) (behind at a) more
+
+abbrev pub foldForm : Fault → ℕ → Spelling → Fault
+foldForm f at s = foldFailing (λ a. formed current (a .ion)) 11 f at s
+
 abbrev pub foldBreach : Fault → ℕ → Spelling → Fault
-foldBreach f at [] = f
-foldBreach f at (a ∷ more) = foldBreach (noted f 6 at (annotationRules a)) (behind at a) more
+foldBreach f at s = foldFailing (annotationRules current) 6 f at s
 
 -- a confidence as it is told
 abbrev pub shareIn : SpelledAnnotation → ℕ
@@ -40,10 +48,10 @@ foldExcess f sum at (a ∷ more) =
 kept-known : (f : Fault) (number place : ℕ) (kept : Bool) → (f .number ≡ 0 → ⊥) → noted f number place kept ≡ f
 kept-known f number place kept h = join-known f (record { place = place; number = number; broken = not kept }) h
 
-breach-known : (f : Fault) (at : ℕ) (s : Spelling) → (f .number ≡ 0 → ⊥) → foldBreach f at s ≡ f
-breach-known f at [] h = refl
-breach-known f at (a ∷ more) h =
-    ap (λ (g : Fault). foldBreach g (behind at a) more) (kept-known f 6 at (annotationRules a) h) ∙ breach-known f (behind at a) more h
+failing-known : (test : SpelledAnnotation → Bool) (number : ℕ) (f : Fault) (at : ℕ) (s : Spelling) → (f .number ≡ 0 → ⊥) → foldFailing test number f at s ≡ f
+failing-known test number f at [] h = refl
+failing-known test number f at (a ∷ more) h =
+    ap (λ (g : Fault). foldFailing test number g (behind at a) more) (kept-known f number at (test a) h) ∙ failing-known test number f (behind at a) more h
 
 excess-known : (f : Fault) (sum at : ℕ) (s : Spelling) → (f .number ≡ 0 → ⊥) → foldExcess f sum at s ≡ f
 excess-known f sum at [] h = refl
@@ -64,16 +72,25 @@ note-kept number place = join-kept (fault 0 0) (record { place = place; number =
 note-broken : (number place : ℕ) → noted (fault 0 0) number place false ≡ fault number place
 note-broken number place = join-broken (fault 0 0) (record { place = place; number = number; broken = true }) refl refl
 
-pub breach-told : (at : ℕ) (s : Spelling) → foldBreach (fault 0 0) at s ≡ told 6 (firstBreach at s)
-breach-told at [] = refl
-breach-told at (a ∷ more) = by (breach-told (behind at a) more) (annotationRules a)
+-- 0 is the number of no fault, so that any other is seen
+failing-told : (test : SpelledAnnotation → Bool) (number : ℕ) → (number ≡ 0 → ⊥) → (at : ℕ) (s : Spelling)
+    → foldFailing test number (fault 0 0) at s ≡ told number (firstFailing test at s)
+failing-told test number h at [] = refl
+failing-told test number h at (a ∷ more) = by (failing-told test number h (behind at a) more) (test a)
   where
-    by : foldBreach (fault 0 0) (behind at a) more ≡ told 6 (firstBreach (behind at a) more) → (t : Bool)
-        → foldBreach (noted (fault 0 0) 6 at t) (behind at a) more ≡ told 6 (elim t [ true ↦ firstBreach (behind at a) more | false ↦ written at ])
-    by ih true = ap (λ (g : Fault). foldBreach g (behind at a) more) (note-kept 6 at) ∙ ih
+    by : foldFailing test number (fault 0 0) (behind at a) more ≡ told number (firstFailing test (behind at a) more) → (t : Bool)
+        → foldFailing test number (noted (fault 0 0) number at t) (behind at a) more
+        ≡ told number (elim t [ true ↦ firstFailing test (behind at a) more | false ↦ written at ])
+    by ih true = ap (λ (g : Fault). foldFailing test number g (behind at a) more) (note-kept number at) ∙ ih
     by ih false =
-        ap (λ (g : Fault). foldBreach g (behind at a) more) (note-broken 6 at)
-        ∙ breach-known (fault 6 at) (behind at a) more (λ e. omega arith)
+        ap (λ (g : Fault). foldFailing test number g (behind at a) more) (note-broken number at)
+        ∙ failing-known test number (fault number at) (behind at a) more h
+
+pub form-told : (at : ℕ) (s : Spelling) → foldForm (fault 0 0) at s ≡ told 11 (firstForeign current at s)
+form-told at s = failing-told (λ (a : SpelledAnnotation). formed current (a .ion)) 11 (λ e. omega arith) at s
+
+pub breach-told : (at : ℕ) (s : Spelling) → foldBreach (fault 0 0) at s ≡ told 6 (firstBreach current at s)
+breach-told at s = failing-told (annotationRules current) 6 (λ e. omega arith) at s
 
 -- a sum that is not past 1 was told as it is
 sum-within : (sum c : ℕ) → sum + c ≤ one → summed sum (min c largest) ≡ sum + c

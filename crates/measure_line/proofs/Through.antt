@@ -33,7 +33,7 @@ use Rattle.measure_line.specs.declared.Totals.{Totals}
 use Rattle.measure_line.specs.Totals.{nothing, noted, summed, goesOn, behindComma, addOf, addNext, addedWith, totalsFrom, totalsBy, totalsOf}
 use Rattle.measure_line.proofs.Loops.{loop-on, loop-ends}
 use Rattle.measure_line.proofs.Steps.{add-falls}
-use Rattle.measure_line.proofs.Folds.{behind, shareIn, foldBreach, foldExcess}
+use Rattle.measure_line.proofs.Folds.{behind, shareIn, foldForm, foldBreach, foldExcess}
 
 -- ---- how many of each kind an annotation has, and all of a spelling
 
@@ -52,6 +52,7 @@ anyFree (a ∷ s) = zeroLeftOut (a .confidence) || anyFree s
 -- faults, where the limits ms are those of the annotations s, the first of which begins at a place
 pub record Finds (ms : List Mark) (s : Spelling) (from : ℕ) (t u : Totals) : Type 0 where
   pub limit : u .limit ≡ after (t .limit) ms
+  pub form : Kept ms → u .form ≡ foldForm (t .form) from s
   pub breach : Kept ms → u .breach ≡ foldBreach (t .breach) from s
   pub excess : Kept ms → u .excess ≡ foldExcess (t .excess) (t .sum) from s
 
@@ -104,6 +105,7 @@ module _ (line : List ℕ) (small : length line ≤ maxPlace) where
     one-finds =
         record {
           limit = h .fault;
+          form = λ k. ap₂ (noted (t .form) 11) place-is (h .formed);
           breach = λ k. ap₂ (noted (t .breach) 6) place-is (h .kept k);
           excess = λ k. ap₂ (noted (t .excess) 7) place-is (ap (λ (n : ℕ). leb n one) (one-sum k));
         }
@@ -164,6 +166,8 @@ module _ (line : List ℕ) (small : length line ≤ maxPlace) where
         let f = subst (λ (ns : List Mark). Finds ns more (next .at + 1) next u) others-are (r .finds) in
         record {
           limit = f .limit ∙ ap (λ (e : Fault). after e others) (o .limit) ∙ sym (after-append (t .limit) marks others);
+          form = λ k.
+              f .form (kept-right marks others k) ∙ ap₂ (λ (e : Fault) (n : ℕ). foldForm e n more) (o .form (kept-left marks others k)) begins-are;
           breach = λ k.
               f .breach (kept-right marks others k) ∙ ap₂ (λ (e : Fault) (n : ℕ). foldBreach e n more) (o .breach (kept-left marks others k)) begins-are;
           excess = λ k.
@@ -188,7 +192,7 @@ module _ (line : List ℕ) (small : length line ≤ maxPlace) where
       → t .counts .annotations + length (flat nextText more) ≤ maxPlace → Through more t (totalsFrom line n t)
   through [] n t s l i e r =
       let q = loop-ends (λ (t : Totals). goesOn line (t .at)) (addNext line) n t (rw e) in
-      subst (λ (u : Totals). Through [] t u) (sym q) (record { counts = s; free = sym (or-none (t .free)); finds = record { limit = refl; breach = λ k. refl; excess = λ k. refl } })
+      subst (λ (u : Totals). Through [] t u) (sym q) (record { counts = s; free = sym (or-none (t .free)); finds = record { limit = refl; form = λ k. refl; breach = λ k. refl; excess = λ k. refl } })
   through (a ∷ more) n t s l i e r =
       let w = annotationText a ++ flat nextText more in
       let d : length line - t .at ≡ suc (length w) = sym (length-drop (t .at) line) ∙ ap length e in
@@ -246,7 +250,7 @@ module _ (line : List ℕ) (small : length line ≤ maxPlace) where
 pub totals-read : (s : Spelling) → length (lineText s) ≤ maxPlace → TotalsRead s (totalsOf (lineText s))
 unfolding totalsBy addOf
 totals-read [] h =
-    record { counts = refl; free = refl; finds = record { limit = refl; breach = λ k. refl; excess = λ k. refl } }
+    record { counts = refl; free = refl; finds = record { limit = refl; form = λ k. refl; breach = λ k. refl; excess = λ k. refl } }
 totals-read (a ∷ more) h =
     let line = lineText (a ∷ more) in
     let b = annotation-some a in

@@ -4,6 +4,7 @@ use lib.Dec.{eqb}
 use Rattle.faults.specs.declared.Fault.{Fault}
 use Rattle.measure_line.specs.declared.Totals.{Totals}
 
--- 4 and 5, then 6, then 7
+-- 4 and 5, then 11, then 6, then 7
 unfoldable pub firstOf : Totals → Fault
-firstOf t = cond (eqb (t .limit .number) 0) (cond (eqb (t .breach .number) 0) (t .excess) (t .breach)) (t .limit)
+firstOf t =
+    cond (eqb (t .limit .number) 0) (cond (eqb (t .form .number) 0) (cond (eqb (t .breach .number) 0) (t .excess) (t .breach)) (t .form)) (t .limit)

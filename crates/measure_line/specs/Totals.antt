@@ -24,12 +24,13 @@ nothing =
       free = false;
       sum = 0;
       limit = fault 0 0;
+      form = fault 0 0;
       breach = fault 0 0;
       excess = fault 0 0;
       at = 0;
     }
 
--- a rule that is not kept counts where none was before it
+-- a test that is not kept counts where none was before it
 abbrev pub noted : Fault → ℕ → ℕ → Bool → Fault
 noted f number place kept = join f (record { place = place; number = number; broken = not kept })
 
@@ -47,6 +48,7 @@ addedWith line t from m =
       free = t .free || m .free;
       sum = sum;
       limit = m .fault;
+      form = noted (t .form) 11 place (m .formed);
       breach = noted (t .breach) 6 place (m .kept);
       excess = noted (t .excess) 7 place (leb sum one);
       at = min (from + m .len) (length line);

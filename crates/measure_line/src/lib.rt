@@ -1,5 +1,5 @@
-// The annotations of a line, measured one after the other: what is counted of them, and the first refusal by 4 to 7 that they give.
-// Document 01, "Numbers of refusal": 4 and 5, the lowest place winning; then 6; 7.
+// The annotations of a line, measured one after the other: what is counted of them, and the first refusal by 4 to 7 or 11 that they give.
+// Document 01, "Numbers of refusal", and document 02, M-105: 4 and 5, the lowest place winning; then 11; 6; 7.
 ghost use mathlib.Core.Path.{_≡_};
 ghost use mathlib.Core.Bool.{_||_};
 ghost use Rattle.measure_line.specs.Totals.{nothing, noted, summed, partsAt, addedBy, addNext, totalsBy};
@@ -17,12 +17,14 @@ use slices::minus_or_zero;
 use slices::rest;
 
 // What was counted of the annotations up to `at`: how many of each kind, whether one has a free spelling that no count tells of, the sum of
-// confidences in billionths, the first broken limit, the first annotation that breaks a rule, the first that takes the sum past 1.
+// confidences in billionths, the first broken limit, the first annotation whose sequence is outside the plain form, the first that breaks
+// a rule, the first that takes the sum past 1.
 pub struct Totals {
     pub counts: Counts,
     pub free: bool,
     pub sum: u64,
     pub limit: Fault,
+    pub form: Fault,
     pub breach: Fault,
     pub excess: Fault,
     pub at: usize,
@@ -40,13 +42,14 @@ fn before_all() -> Totals
         free: false,
         sum: 0,
         limit: none,
+        form: none,
         breach: none,
         excess: none,
         at: 0,
     }
 }
 
-// A broken rule counts where none was before it.
+// A test that is not kept counts where none was before it.
 fn note(f: Fault, number: usize, place: usize, kept: bool) -> Fault
     ensures { λ r. ⌜ r ≡ noted f number place kept ⌝ }
 {
@@ -97,6 +100,7 @@ fn add(t: Totals, line: &[u8], from: usize, p: Parts) -> Totals
     let s = rest(line, from);
     let place = minus_or_zero(line.len(), s.len());
     let so_far = t.counts;
+    let form = t.form;
     let breach = t.breach;
     let excess = t.excess;
     let m = measure(s, p);
@@ -108,6 +112,7 @@ fn add(t: Totals, line: &[u8], from: usize, p: Parts) -> Totals
         free: either(t.free, m.free),
         sum,
         limit: fault,
+        form: note(form, 11, place, m.formed),
         breach: note(breach, 6, place, m.kept),
         excess: note(excess, 7, place, sum <= ONE),
         at: advance(from, m.len, line.len()),
@@ -141,6 +146,7 @@ fn add_first(line: &[u8], p: Parts) -> Totals
         free: m.free,
         sum: m.share,
         limit: fault,
+        form: note(none, 11, 0, m.formed),
         breach: note(none, 6, 0, m.kept),
         excess: note(none, 7, 0, m.share <= ONE),
         at: advance(0, m.len, line.len()),
@@ -163,13 +169,17 @@ pub fn total(line: &[u8], first: Parts) -> Totals
     t
 }
 
-// The first refusal by 4 to 7 of what was counted.
+// The first refusal by 4 to 7 or 11 of what was counted.
 pub fn first_refusal(t: Totals) -> Fault
     ensures { λ r. ⌜ r ≡ firstOf t ⌝ }
 {
     let broken = t.limit;
     if broken.number != 0 {
         return broken;
+    }
+    let foreign = t.form;
+    if foreign.number != 0 {
+        return foreign;
     }
     let rule = t.breach;
     if rule.number != 0 {

@@ -1,4 +1,5 @@
--- What is printed of prefix and ion of an annotation that is stored. Assumes nothing.
+-- What is printed of prefix and ion of an annotation that is stored: field by field, by kind, and then together. What an edition adds
+-- to the record counts as what follows it, so that the laws hold for each edition. Assumes nothing.
 use Prim.Native.Nat.{ℕ, _+_, _%_, _≤_}
 use mathlib.Core.Path.{_≡_, refl, ap, ap₂, _∙_}
 use mathlib.Core.Bool.{Bool, true, false}
@@ -18,7 +19,7 @@ use Rattle.rules.specs.Formulas.{FormulaUnit, plain, labelled}
 use Rattle.rules.specs.Ions.{Series, seriesNames, Ion, series, internal, immonium, precursor, reference, named, composed, smiles, unknown, ionMap, ionText}
 use Rattle.rules.specs.Annotations.{TableAnnotation, flagText, analyteText}
 use Rattle.rules.specs.Preferred.{shortened}
-use Rattle.rules.specs.Stored.{stores, flag, present, valueOr0, number, bytesOf, ionFields, unitRecord, annotationRecord}
+use Rattle.rules.specs.Stored.{stores, flag, present, valueOr0, number, bytesOf, ionFields, unitRecord, commonFields}
 use Rattle.rules.specs.Limits.{maxUnits, maxText}
 use Rattle.rules.specs.Layout.{markedAt, analytePresentAt, letterAt, analyteAt, positionAt, lastAt, chargeAt, unitCountAt, lossCountAt}
 use Rattle.rules.proofs.FitParts.{UnitFits}
@@ -46,9 +47,9 @@ pub record FrontOk (a : TableAnnotation) : Type 0 where
   pub units : AllOf (UnitUpTo 65535) (ionFields (a .ion) .units)
   pub short : length (ionFields (a .ion) .text) ≤ maxText
 
--- the bytes of the record of an annotation, and what follows it
+-- the fields that an annotation has in every edition, and what follows them
 abbrev pub noted : TableAnnotation → List ℕ → List ℕ
-noted a k = stores (annotationRecord a) ++ k
+noted a k = stores (commonFields a) ++ k
 
 -- ---- how many units and bytes of text
 
@@ -212,7 +213,7 @@ analyte-stored a ks h = word-stored (valueOr0 (λ n. n) (a .analyte)) (drop posi
 -- ---- prefix and ion
 
 pub front-printed : (a : TableAnnotation) (ks ku kt : List ℕ) → FrontOk a
-    → frontPrinted (stores (annotationRecord a) ++ ks) (flat (λ u. stores (unitRecord u)) (ionFields (a .ion) .units) ++ ku) (ionFields (a .ion) .text ++ kt)
+    → frontPrinted (stores (commonFields a) ++ ks) (flat (λ u. stores (unitRecord u)) (ionFields (a .ion) .units) ++ ku) (ionFields (a .ion) .text ++ kt)
     ≡ flagText (bytes "&") (a .marked) ++ (optText analyteText (a .analyte) ++ ionText (ionMap shortened (a .ion)))
 front-printed a ks ku kt h =
     ap₂ (λ (x y : List ℕ). x ++ y) (flag-is (noted a ks) (a .marked) (flag-kept (a .marked)))

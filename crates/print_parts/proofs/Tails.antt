@@ -1,4 +1,5 @@
--- What is printed of charge, deviation and confidence that are stored. Assumes nothing.
+-- What is printed of charge, deviation and confidence that are stored: from the fields alone, and then from the bytes in which every
+-- edition has those fields, whatever follows them. Assumes nothing.
 use Prim.Native.Nat.{ℕ, _+_, _-_, _%_, _^_, _<_, _≤_}
 use mathlib.Core.Path.{_≡_, refl, ap, ap₂, _∙_}
 use mathlib.Core.Bool.{Bool, true, false, not, _||_, cond}
@@ -16,7 +17,7 @@ use Rattle.rules.specs.Annotations.{TableAnnotation, Deviation, flagText}
 use Rattle.rules.specs.Annotations as rules
 use Rattle.rules.specs.House.{deviationRule}
 use Rattle.rules.specs.Preferred.{countOr1}
-use Rattle.rules.specs.Stored.{stores, flag, present, valueOr0, deviationKind, signed, annotationRecord}
+use Rattle.rules.specs.Stored.{stores, flag, present, valueOr0, deviationKind, signed, commonFields}
 use Rattle.rules.specs.Limits.{maxCharge, maxPlaces, maxDigits}
 use Rattle.rules.specs.Layout.{chargeAt, deviationKindAt, deviationPlacesAt, confidencePresentAt, confidencePlacesAt, deviationAt, confidenceAt, textLengthAt}
 use Rattle.slices.specs.Numbers.{u32At, u64At}
@@ -102,10 +103,10 @@ pub byte-kept : (n : ℕ) → n ≤ 255 → n % 256 ≡ n
 byte-kept n h = omega arith
 
 pub tail-printed : (a : TableAnnotation) (k : List ℕ) → TailOk a
-    → tailPrinted (stores (annotationRecord a) ++ k)
+    → tailPrinted (stores (commonFields a) ++ k)
     ≡ optText rules.chargeText (a .charge) ++ (optText rules.deviationText (a .deviation) ++ optText confidenceText (optMap in-full (a .confidence)))
 tail-printed a k ok =
-    let s = stores (annotationRecord a) ++ k in
+    let s = stores (commonFields a) ++ k in
     let d = a .deviation in
     let c = a .confidence in
     ap₂ (λ (x y : List ℕ). x ++ y) (charge-told s (a .charge) (byte-kept (countOr1 (a .charge)) (ok .charge)))

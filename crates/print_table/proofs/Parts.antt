@@ -1,4 +1,5 @@
--- The parts of an annotation, as they are stored, and what is printed of them. Assumes nothing.
+-- The parts of an annotation, as they are stored, and what is printed of them: part by part, from the laws of those who print them.
+-- What an edition adds to the record stands behind what is printed, and is gone over with it. Assumes nothing.
 use Prim.Native.Nat.{ℕ, suc, _*_, _%_, _≤_, min}
 use mathlib.Core.Path.{_≡_, refl, sym, ap, ap₂, _∙_}
 use mathlib.Core.List.{List, [], _∷_, _++_, append-assoc, map}
@@ -16,9 +17,10 @@ use Rattle.rules.specs.Isotopes.{isotopesMap, isotopesText}
 use Rattle.rules.specs.Adducts.{Item, itemText, itemMap, adductText}
 use Rattle.rules.specs.Annotations.{TableAnnotation, flagText, analyteText, annotationText}
 use Rattle.rules.specs.Preferred.{shortenedAnnotation, shortened}
-use Rattle.rules.specs.Stored.{stores, ionFields, unitRecord, lostUnits, lostName, lossRecord, isotopeRecords, addedUnits, itemRecord, annotationRecord, annotationUnits, annotationTexts}
+use Rattle.rules.specs.Stored.{stores, ionFields, unitRecord, lostUnits, lostName, lossRecord, isotopeRecords, addedUnits, itemRecord, commonFields, addedFields, annotationUnits, annotationTexts}
 use Rattle.rules.specs.Limits.{maxLosses, maxIsotopes, maxItems}
-use Rattle.rules.specs.Layout.{lossWidth, isotopeWidth, itemWidth, unitWidth}
+use Rattle.rules.specs.Editions.{Edition, ed1, ed2}
+use Rattle.rules.specs.Layout.{annotationWidth, lossWidth, isotopeWidth, itemWidth, unitWidth}
 use Rattle.rules.proofs.Lengths.{unit-length, loss-length, each-isotope, item-length, section-length}
 use Rattle.rules.proofs.Bounds.{Bounded}
 use Rattle.rules.proofs.FitAnnotations.{InRange}
@@ -71,11 +73,15 @@ lossNames a = flat (λ l. lostName (l .what)) (a .losses)
 abbrev itemUnits : TableAnnotation → List (FormulaUnit Number)
 itemUnits a = flat (λ x. addedUnits (x .what)) (a .adduct)
 
--- the six parts of an annotation, each before what is left partsBehind it
-abbrev pub laid : TableAnnotation → StoredParts → StoredParts
-laid a q =
+-- what an edition adds to the record of an annotation, and the records behind it
+abbrev addedNotes : Edition → TableAnnotation → StoredParts → List ℕ
+addedNotes e a q = stores (addedFields e a) ++ q .notes
+
+-- the six parts of an annotation, each before what is left behind it
+abbrev pub laid : Edition → TableAnnotation → StoredParts → StoredParts
+laid e a q =
     record {
-      notes = stores (annotationRecord a) ++ q .notes;
+      notes = stores (commonFields a) ++ addedNotes e a q;
       losses = flat (λ l. stores (lossRecord l)) (a .losses) ++ q .losses;
       isotopes = flat (λ fs. stores fs) (isotopeRecords (a .isotopes)) ++ q .isotopes;
       items = flat (λ x. stores (itemRecord x)) (a .adduct) ++ q .items;
@@ -90,77 +96,82 @@ unitsAfterIon a q = unitRows (lossUnits a) ++ (unitRows (itemUnits a) ++ q .unit
 abbrev textAfterIon : TableAnnotation → StoredParts → List ℕ
 textAfterIon a q = lossNames a ++ q .text
 
-module _ (a : TableAnnotation) (q : StoredParts) where
-  units-laid : laid a q .units ≡ unitRows (ionFields (a .ion) .units) ++ unitsAfterIon a q
+module _ (e : Edition) (a : TableAnnotation) (q : StoredParts) where
+  units-laid : laid e a q .units ≡ unitRows (ionFields (a .ion) .units) ++ unitsAfterIon a q
   units-laid =
       let us = ionFields (a .ion) .units in
       let row : FormulaUnit Number → List ℕ = λ u. stores (unitRecord u) in
       rows-apart row us (lossUnits a ++ itemUnits a) (q .units) ∙ ap (λ (w : List ℕ). unitRows us ++ w) (rows-apart row (lossUnits a) (itemUnits a) (q .units))
 
-  text-laid : laid a q .text ≡ ionFields (a .ion) .text ++ textAfterIon a q
+  text-laid : laid e a q .text ≡ ionFields (a .ion) .text ++ textAfterIon a q
   text-laid = append-assoc (ionFields (a .ion) .text) (lossNames a) (q .text)
 
+-- the record of an annotation has the width that its edition says
+notes-left : (e : Edition) (a : TableAnnotation) (k : List ℕ) → drop (annotationWidth e) (stores (commonFields a) ++ (stores (addedFields e a) ++ k)) ≡ k
+notes-left ed1 a k = refl
+notes-left ed2 a k = refl
+
 -- an annotation within the limits
-module _ (a : TableAnnotation) (q : StoredParts) (b : Bounded a) (r : InRange a) where
-  losses-are : lossesIn (laid a q) ≡ length (a .losses)
+module _ (e : Edition) (a : TableAnnotation) (q : StoredParts) (b : Bounded a) (r : InRange a) where
+  losses-are : lossesIn (laid e a q) ≡ length (a .losses)
   losses-are = row-kept (length (a .losses)) maxLosses (b .losses) (omega arith)
 
-  isotopes-are : isotopesIn (laid a q) ≡ length (isotopeRecords (a .isotopes))
+  isotopes-are : isotopesIn (laid e a q) ≡ length (isotopeRecords (a .isotopes))
   isotopes-are = row-kept (length (isotopeRecords (a .isotopes))) maxIsotopes (b .isotopes) (omega arith)
 
-  items-are : itemsIn (laid a q) ≡ length (a .adduct)
+  items-are : itemsIn (laid e a q) ≡ length (a .adduct)
   items-are = row-kept (length (a .adduct)) maxItems (b .adduct) (omega arith)
 
-  -- what is left partsBehind the ion, and partsBehind the losses
-  units-after-ion : unitsBehindIon (laid a q) ≡ unitsAfterIon a q
+  -- what is left behind the ion, and behind the losses
+  units-after-ion : unitsBehindIon (laid e a q) ≡ unitsAfterIon a q
   units-after-ion =
       let us = ionFields (a .ion) .units in
-      ap₂ (λ (n : ℕ) (l : List ℕ). drop n l) (ap (λ (n : ℕ). unitWidth * n) (ion-units-stored a (q .notes) (b .ion .few)) ∙ sym (unit-rows us)) (units-laid a q)
+      ap₂ (λ (n : ℕ) (l : List ℕ). drop n l) (ap (λ (n : ℕ). unitWidth * n) (ion-units-stored a (addedNotes e a q) (b .ion .few)) ∙ sym (unit-rows us)) (units-laid e a q)
       ∙ drop-append-seam (unitRows us) (unitsAfterIon a q)
 
-  text-after-ion : textBehindIon (laid a q) ≡ textAfterIon a q
+  text-after-ion : textBehindIon (laid e a q) ≡ textAfterIon a q
   text-after-ion =
-      ap₂ (λ (n : ℕ) (l : List ℕ). drop n l) (ion-bytes-stored a (q .notes) (b .ion .short)) (text-laid a q)
+      ap₂ (λ (n : ℕ) (l : List ℕ). drop n l) (ion-bytes-stored a (addedNotes e a q) (b .ion .short)) (text-laid e a q)
       ∙ drop-append-seam (ionFields (a .ion) .text) (textAfterIon a q)
 
-  lost : Printed (length (a .losses)) (laid a q .losses) (unitsAfterIon a q) (textAfterIon a q) (lossUnits a) (lossNames a) (flat lossText (map (lossMap shortened) (a .losses)))
+  lost : Printed (length (a .losses)) (laid e a q .losses) (unitsAfterIon a q) (textAfterIon a q) (lossUnits a) (lossNames a) (flat lossText (map (lossMap shortened) (a .losses)))
   lost = losses-printed (a .losses) (q .losses) (unitRows (itemUnits a) ++ q .units) (q .text) (loss-ok a b r)
 
-  units-after-losses : unitsBehindLosses (laid a q) ≡ unitRows (itemUnits a) ++ q .units
+  units-after-losses : unitsBehindLosses (laid e a q) ≡ unitRows (itemUnits a) ++ q .units
   units-after-losses =
       ap₂ (λ (n : ℕ) (l : List ℕ). drop n l)
-      (ap (λ (n : ℕ). unitBytes n (laid a q .losses)) losses-are ∙ lost .units ∙ sym (unit-rows (lossUnits a))) units-after-ion
+      (ap (λ (n : ℕ). unitBytes n (laid e a q .losses)) losses-are ∙ lost .units ∙ sym (unit-rows (lossUnits a))) units-after-ion
       ∙ drop-append-seam (unitRows (lossUnits a)) (unitRows (itemUnits a) ++ q .units)
 
-  text-after-losses : textBehindLosses (laid a q) ≡ q .text
+  text-after-losses : textBehindLosses (laid e a q) ≡ q .text
   text-after-losses =
-      ap₂ (λ (n : ℕ) (l : List ℕ). drop n l) (ap (λ (n : ℕ). nameBytes n (laid a q .losses)) losses-are ∙ lost .names) text-after-ion
+      ap₂ (λ (n : ℕ) (l : List ℕ). drop n l) (ap (λ (n : ℕ). nameBytes n (laid e a q .losses)) losses-are ∙ lost .names) text-after-ion
       ∙ drop-append-seam (lossNames a) (q .text)
 
-  added : Printed (length (a .adduct)) (laid a q .items) (unitRows (itemUnits a) ++ q .units) (q .text) (itemUnits a) [] (flat itemText (map (itemMap shortened) (a .adduct)))
+  added : Printed (length (a .adduct)) (laid e a q .items) (unitRows (itemUnits a) ++ q .units) (q .text) (itemUnits a) [] (flat itemText (map (itemMap shortened) (a .adduct)))
   added = items-printed (a .adduct) (q .items) (q .units) (q .text) (item-ok a b r)
 
   -- the text, change by change
-  front-text : frontPrinted (laid a q .notes) (laid a q .units) (laid a q .text)
+  front-text : frontPrinted (laid e a q .notes) (laid e a q .units) (laid e a q .text)
       ≡ flagText (bytes "&") (a .marked) ++ (optText analyteText (a .analyte) ++ ionText (ionMap shortened (a .ion)))
   front-text =
-      ap₂ (λ (u t : List ℕ). frontPrinted (laid a q .notes) u t) (units-laid a q) (text-laid a q)
-      ∙ front-printed a (q .notes) (unitsAfterIon a q) (textAfterIon a q) (front-ok a r b)
+      ap₂ (λ (u t : List ℕ). frontPrinted (laid e a q .notes) u t) (units-laid e a q) (text-laid e a q)
+      ∙ front-printed a (addedNotes e a q) (unitsAfterIon a q) (textAfterIon a q) (front-ok a r b)
 
-  losses-text : changesPrinted (lossesIn (laid a q)) (laid a q .losses) (unitsBehindIon (laid a q)) (textBehindIon (laid a q))
+  losses-text : changesPrinted (lossesIn (laid e a q)) (laid e a q .losses) (unitsBehindIon (laid e a q)) (textBehindIon (laid e a q))
       ≡ flat lossText (map (lossMap shortened) (a .losses))
-  losses-text = (λ i. changesPrinted (losses-are i) (laid a q .losses) (units-after-ion i) (text-after-ion i)) ∙ lost .texts
+  losses-text = (λ i. changesPrinted (losses-are i) (laid e a q .losses) (units-after-ion i) (text-after-ion i)) ∙ lost .texts
 
-  isotopes-text : isotopesPrinted (isotopesIn (laid a q)) (laid a q .isotopes) ≡ isotopesText (isotopesMap shortened (a .isotopes))
-  isotopes-text = ap (λ (n : ℕ). isotopesPrinted n (laid a q .isotopes)) isotopes-are ∙ isotopes-printed (a .isotopes) (q .isotopes) (isotopes-ok a r)
+  isotopes-text : isotopesPrinted (isotopesIn (laid e a q)) (laid e a q .isotopes) ≡ isotopesText (isotopesMap shortened (a .isotopes))
+  isotopes-text = ap (λ (n : ℕ). isotopesPrinted n (laid e a q .isotopes)) isotopes-are ∙ isotopes-printed (a .isotopes) (q .isotopes) (isotopes-ok a r)
 
-  adduct-text : adductPrinted (itemsIn (laid a q)) (laid a q .items) (unitsBehindLosses (laid a q)) (textBehindLosses (laid a q))
+  adduct-text : adductPrinted (itemsIn (laid e a q)) (laid e a q .items) (unitsBehindLosses (laid e a q)) (textBehindLosses (laid e a q))
       ≡ adductText (map (itemMap shortened) (a .adduct))
   adduct-text =
-      (λ i. adductPrinted (items-are i) (laid a q .items) (units-after-losses i) (text-after-losses i))
-      ∙ adduct-printed (a .adduct) (laid a q .items) (unitRows (itemUnits a) ++ q .units) (q .text) (added .texts)
+      (λ i. adductPrinted (items-are i) (laid e a q .items) (units-after-losses i) (text-after-losses i))
+      ∙ adduct-printed (a .adduct) (laid e a q .items) (unitRows (itemUnits a) ++ q .units) (q .text) (added .texts)
 
-  pub annotation-laid : annotationPrinted (laid a q) ≡ annotationText (shortenedAnnotation a)
+  pub annotation-laid : annotationPrinted (laid e a q) ≡ annotationText (shortenedAnnotation a)
   unfolding annotationPrinted
   annotation-laid =
       let f = flagText (bytes "&") (a .marked) in
@@ -168,21 +179,21 @@ module _ (a : TableAnnotation) (q : StoredParts) (b : Bounded a) (r : InRange a)
       let x = ionText (ionMap shortened (a .ion)) in
       let more =
       ap₂ (λ (v w : List ℕ). v ++ w) losses-text
-      (ap₂ (λ (v w : List ℕ). v ++ w) isotopes-text (ap₂ (λ (v w : List ℕ). v ++ w) adduct-text (tail-printed a (q .notes) (tail-ok a r)))) in
+      (ap₂ (λ (v w : List ℕ). v ++ w) isotopes-text (ap₂ (λ (v w : List ℕ). v ++ w) adduct-text (tail-printed a (addedNotes e a q) (tail-ok a r)))) in
       ap₂ (λ (v w : List ℕ). v ++ w) front-text more ∙ append-assoc f (n ++ x) _ ∙ ap (λ (w : List ℕ). f ++ w) (append-assoc n x _)
 
   -- what is left
-  pub behind-laid : partsBehind (laid a q) ≡ q
+  pub behind-laid : partsBehind e (laid e a q) ≡ q
   unfolding partsBehind
   behind-laid =
       let losses-left = drop-row (length (a .losses)) (flat (λ l. stores (lossRecord l)) (a .losses)) (q .losses) lossWidth losses-are (section-length lossRecord lossWidth (a .losses) (λ l i. loss-length l)) in
       let isotopes-left = drop-row (length (isotopeRecords (a .isotopes))) (flat (λ fs. stores fs) (isotopeRecords (a .isotopes))) (q .isotopes) isotopeWidth isotopes-are
       (section-length (λ x. x) isotopeWidth (isotopeRecords (a .isotopes)) (each-isotope (a .isotopes))) in
       let items-left = drop-row (length (a .adduct)) (flat (λ x. stores (itemRecord x)) (a .adduct)) (q .items) itemWidth items-are (section-length itemRecord itemWidth (a .adduct) (λ x i. item-length x)) in
-      let units-left : drop (unitBytes (itemsIn (laid a q)) (laid a q .items)) (unitsBehindLosses (laid a q)) ≡ q .units =
+      let units-left : drop (unitBytes (itemsIn (laid e a q)) (laid e a q .items)) (unitsBehindLosses (laid e a q)) ≡ q .units =
       ap₂ (λ (n : ℕ) (l : List ℕ). drop n l)
-      (ap (λ (n : ℕ). unitBytes n (laid a q .items)) items-are ∙ added .units ∙ sym (unit-rows (itemUnits a))) units-after-losses
+      (ap (λ (n : ℕ). unitBytes n (laid e a q .items)) items-are ∙ added .units ∙ sym (unit-rows (itemUnits a))) units-after-losses
       ∙ drop-append-seam (unitRows (itemUnits a)) (q .units) in
-      let text-left : drop (nameBytes (itemsIn (laid a q)) (laid a q .items)) (textBehindLosses (laid a q)) ≡ q .text =
-      ap₂ (λ (n : ℕ) (l : List ℕ). drop n l) (ap (λ (n : ℕ). nameBytes n (laid a q .items)) items-are ∙ added .names) text-after-losses in
-      λ i. record { notes = q .notes; losses = losses-left i; isotopes = isotopes-left i; items = items-left i; units = units-left i; text = text-left i }
+      let text-left : drop (nameBytes (itemsIn (laid e a q)) (laid e a q .items)) (textBehindLosses (laid e a q)) ≡ q .text =
+      ap₂ (λ (n : ℕ) (l : List ℕ). drop n l) (ap (λ (n : ℕ). nameBytes n (laid e a q .items)) items-are ∙ added .names) text-after-losses in
+      λ i. record { notes = notes-left e a (q .notes) i; losses = losses-left i; isotopes = isotopes-left i; items = items-left i; units = units-left i; text = text-left i }

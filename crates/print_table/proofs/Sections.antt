@@ -1,4 +1,5 @@
--- The sections of a stored table are where its header says. Assumes nothing.
+-- The sections of a stored table are where its header says: the header names the edition and the counts, and these tell where each
+-- section begins. Assumes nothing.
 use Prim.Native.Nat.{ℕ, _+_}
 use mathlib.Core.Path.{_≡_, refl, sym, ap, ap₂, _∙_}
 use mathlib.Core.List.{List, [], _∷_, _++_, append-assoc, map}
@@ -10,15 +11,17 @@ use Rattle.rules.specs.Fields.{Table}
 use Rattle.rules.specs.Answers.{Sound}
 use Rattle.rules.specs.Stored.{Field, stores, lossRecord, isotopeRecords, itemRecord, unitRecord, annotationRecord, annotationUnits, annotationTexts, section, header, stored}
 use Rattle.rules.specs.Layout.{annotationPairAt, lossPairAt, isotopePairAt, itemPairAt, unitPairAt, textPairAt, annotationSection, lossSection, isotopeSection, itemSection, unitSection, textSection}
-use Rattle.rules.specs.Editions.{current}
+use Rattle.rules.specs.Editions.{Edition, ed1, ed2}
+use Rattle.layout.specs.Editions.{editionOf}
 use Rattle.rules.proofs.Lengths.{lossesOf, isotopesOf, itemsOf, unitsOf, textsOf, stored-length}
 use Rattle.rules.proofs.Sizes.{sizes-fit}
 use Rattle.store_sections.specs.Pages.{joined, begins}
 use Rattle.store_sections.specs.Headers.{startsOf, countsOf}
 use Rattle.store_sections.specs.Fills.{bytesIn}
 use Rattle.store_sections.proofs.Tables.{starts-laid}
+use Rattle.slices.specs.Numbers.{u16At}
 use Rattle.slices.proofs.StoredNumbers.{word-stored}
-use Rattle.print_table.specs.Parts.{StoredParts, storedPartsAt, countsAt}
+use Rattle.print_table.specs.Parts.{StoredParts, storedPartsAt, editionIn, countsAt}
 use Rattle.print_table.proofs.Parts.{rows-apart, laid}
 
 -- ---- lists one behind the other
@@ -48,10 +51,10 @@ partsFrom ls =
     }
 
 -- each section before what is left behind it
-abbrev pub sectioned : Table → StoredParts → StoredParts
-sectioned t q =
+abbrev pub sectioned : Edition → Table → StoredParts → StoredParts
+sectioned e t q =
     record {
-      notes = section annotationRecord t .bytes ++ q .notes;
+      notes = section (annotationRecord e) t .bytes ++ q .notes;
       losses = section lossRecord (lossesOf t) .bytes ++ q .losses;
       isotopes = section (λ x. x) (isotopesOf t) .bytes ++ q .isotopes;
       items = section itemRecord (itemsOf t) .bytes ++ q .items;
@@ -60,20 +63,20 @@ sectioned t q =
     }
 
 -- behind the last annotation: the sections behind each section
-abbrev pub others : Table → StoredParts
-others t =
-    let ls = tails (bytesIn t) in
+abbrev pub others : Edition → Table → StoredParts
+others e t =
+    let ls = tails (bytesIn e t) in
     record { notes = getD ls lossSection []; losses = getD ls isotopeSection []; isotopes = getD ls itemSection []; items = getD ls unitSection []; units = getD ls textSection []; text = [] }
 
-pub parts-stored : (t : Table) → Sound t → storedPartsAt (stored current t) (startsOf (countsOf t)) ≡ sectioned t (others t)
-parts-stored t s =
-    let l = starts-laid current t (omega (arith, sizes-fit current t s)) in
-    ap partsFrom (ap (map (λ p. drop p (stored current t))) (l .starts) ∙ from-begins (stores (header current t)) (bytesIn t))
+pub parts-stored : (e : Edition) (t : Table) → Sound e t → storedPartsAt (stored e t) (startsOf e (countsOf t)) ≡ sectioned e t (others e t)
+parts-stored e t s =
+    let l = starts-laid e t (omega (arith, sizes-fit e t s)) in
+    ap partsFrom (ap (map (λ p. drop p (stored e t))) (l .starts) ∙ from-begins (stores (header e t)) (bytesIn e t))
 
 -- the first annotation before the others
-pub first-laid : (a : TableAnnotation) (t : Table) (q : StoredParts) → sectioned (a ∷ t) q ≡ laid a (sectioned t q)
-first-laid a t q =
-    let notes = append-assoc (stores (annotationRecord a)) (section annotationRecord t .bytes) (q .notes) in
+pub first-laid : (e : Edition) (a : TableAnnotation) (t : Table) (q : StoredParts) → sectioned e (a ∷ t) q ≡ laid e a (sectioned e t q)
+first-laid e a t q =
+    let notes = append-assoc (stores (annotationRecord e a)) (section (annotationRecord e) t .bytes) (q .notes) in
     let losses = rows-apart (λ l. stores (lossRecord l)) (a .losses) (lossesOf t) (q .losses) in
     let isotopes = rows-apart (λ (fs : List Field). stores fs) (isotopeRecords (a .isotopes)) (isotopesOf t) (q .isotopes) in
     let items = rows-apart (λ x. stores (itemRecord x)) (a .adduct) (itemsOf t) (q .items) in
@@ -83,14 +86,19 @@ first-laid a t q =
 
 -- ---- the header
 
-pub counts-stored : (t : Table) → Sound t → countsAt (stored current t) ≡ countsOf t
-counts-stored t s =
-    let size = sizes-fit current t s in
-    let is = stored-length current t in
-    let annotations = word-stored (length t) (drop (annotationPairAt + 2) (stored current t)) (omega arith) in
-    let losses = word-stored (length (lossesOf t)) (drop (lossPairAt + 2) (stored current t)) (omega arith) in
-    let isotopes = word-stored (length (isotopesOf t)) (drop (isotopePairAt + 2) (stored current t)) (omega arith) in
-    let items = word-stored (length (itemsOf t)) (drop (itemPairAt + 2) (stored current t)) (omega arith) in
-    let units = word-stored (length (unitsOf t)) (drop (unitPairAt + 2) (stored current t)) (omega arith) in
-    let text = word-stored (length (textsOf t)) (drop (textPairAt + 2) (stored current t)) (omega arith) in
+pub edition-stored : (e : Edition) (t : Table) → editionOf (editionIn (stored e t)) ≡ e
+unfolding u16At
+edition-stored ed1 t = refl
+edition-stored ed2 t = refl
+
+pub counts-stored : (e : Edition) (t : Table) → Sound e t → countsAt (stored e t) ≡ countsOf t
+counts-stored e t s =
+    let size = sizes-fit e t s in
+    let is = stored-length e t in
+    let annotations = word-stored (length t) (drop (annotationPairAt + 2) (stored e t)) (omega arith) in
+    let losses = word-stored (length (lossesOf t)) (drop (lossPairAt + 2) (stored e t)) (omega arith) in
+    let isotopes = word-stored (length (isotopesOf t)) (drop (isotopePairAt + 2) (stored e t)) (omega arith) in
+    let items = word-stored (length (itemsOf t)) (drop (itemPairAt + 2) (stored e t)) (omega arith) in
+    let units = word-stored (length (unitsOf t)) (drop (unitPairAt + 2) (stored e t)) (omega arith) in
+    let text = word-stored (length (textsOf t)) (drop (textPairAt + 2) (stored e t)) (omega arith) in
     λ i. record { annotations = annotations i; losses = losses i; isotopes = isotopes i; items = items i; units = units i; text = text i }

@@ -21,6 +21,7 @@ use Rattle.rules.specs.Preferred.{shortenedAnnotation, countOr1, preferred}
 use Rattle.rules.specs.Limits.{maxPosition, maxCharge, maxAnnotations}
 use Rattle.rules.specs.Stored.{valueOr0}
 use Rattle.rules.specs.Answers.{Sound}
+use Rattle.rules.specs.Editions.{Edition}
 use Rattle.rules.proofs.Bounds.{Bounded, table-few, table-bounded}
 use Rattle.rules.proofs.FitDecimals.{DeviationFits, ConfidenceFits}
 use Rattle.rules.proofs.FitAnnotations.{InRange, table-in-range}
@@ -106,5 +107,5 @@ joined-short (a ∷ t) few h =
       row-short nextText shortenedAnnotation 4096 t (λ b i. omega (arith, h b (later i))),
     )
 
-pub line-short : (t : Table) → Sound t → length (preferred t) ≤ 65536
+pub line-short : {e : Edition} (t : Table) → Sound e t → length (preferred t) ≤ 65536
 line-short t s = joined-short t (table-few t s) (λ a i. annotation-short a (table-in-range t s a i) (table-bounded t s a i))

@@ -9,6 +9,7 @@ use borrow.Author.Tests.{eq-eqb, ne-eqb}
 use Rattle.rules.specs.Bytes.{bytes}
 use Rattle.rules.specs.Limits.{maxLosses, maxIsotopes, maxItems}
 use Rattle.rules.specs.Layout.{annotationWidth, lossWidth, isotopeWidth, itemWidth, unitWidth, lossCountAt, isotopeCountAt, itemCountAt}
+use Rattle.rules.specs.Editions.{Edition}
 use Rattle.put_bytes.specs.Puts.{maxPlace, Put}
 use Rattle.put_bytes.proofs.Putting.{put-none, put-then, put-as}
 use Rattle.put_bytes.proofs.PutLoop.{PutSoFar, begin, more, ends}
@@ -44,9 +45,9 @@ adduct-some n x u t z p q r =
 
 -- ---- annotations
 
-module _ (table : List ℕ) (c : Cursors) where
+module _ (edition : Edition) (table : List ℕ) (c : Cursors) where
   -- the parts of the annotation, one after the other, in the order of the text
-  pub annotation-printed : {s fu ft ll lu lt si xx xu xt d d1 d2 d3 d4 e : List ℕ} {to a b end nl ni nx iu ib u t v w ka kl ki kx ku kt : ℕ} {l x : PrintedTo}
+  pub annotation-printed : {s fu ft ll lu lt si xx xu xt d d1 d2 d3 d4 e : List ℕ} {to a b end nl ni nx iu ib u t v w size ka kl ki kx ku kt : ℕ} {l x : PrintedTo}
       → s ≡ drop (c .annotations) table → nl ≡ rowOf s lossCountAt maxLosses → ni ≡ rowOf s isotopeCountAt maxIsotopes → nx ≡ rowOf s itemCountAt maxItems
       → fu ≡ drop (c .units) table → ft ≡ drop (c .text) table → Put d to (frontPrinted s fu ft) d1 a
       → iu ≡ ionUnits s → u ≡ min (c .units + unitWidth * iu) (length table) → ib ≡ ionBytes s → t ≡ min (c .text + ib) (length table)
@@ -55,14 +56,14 @@ module _ (table : List ℕ) (c : Cursors) where
       → si ≡ drop (c .isotopes) table → Put d2 (l .to) (isotopesPrinted ni si) d3 b
       → xx ≡ drop (c .items) table → xu ≡ drop v table → xt ≡ drop w table → PrintsAdduct nx xx xu xt d3 b d4 x
       → Put d4 (x .to) (tailPrinted s) e end
-      → ka ≡ min (c .annotations + annotationWidth) (length table) → kl ≡ min (c .losses + lossWidth * nl) (length table)
+      → size ≡ annotationWidth edition → ka ≡ min (c .annotations + size) (length table) → kl ≡ min (c .losses + lossWidth * nl) (length table)
       → ki ≡ min (c .isotopes + isotopeWidth * ni) (length table) → kx ≡ min (c .items + itemWidth * nx) (length table)
       → ku ≡ min (v + x .units) (length table) → kt ≡ min (w + x .text) (length table)
-      → PrintsAnnotation table c d to e
+      → PrintsAnnotation edition table c d to e
       (record { to = end; cursors = record { annotations = ka; losses = kl; isotopes = ki; items = kx; units = ku; text = kt } })
   unfolding annotationPrinted cursorsBehind
   annotation-printed {s} {ll = ll} {d1 = d1} {d2 = d2} {d3 = d3} {d4 = d4} {to = to} {a = a} {b = b} {nl = nl} {ni = ni} {nx = nx} {iu = iu} {ib = ib} {u = u} {t = t} {v = v} {w = w} {l = l} {x = x}
-      notes el ei ex efu eft front eiu eu eib et ell elu elt losses ev ew esi isotopes exx exu ext adduct tail ka kl ki kx ku kt =
+      notes el ei ex efu eft front eiu eu eib et ell elu elt losses ev ew esi isotopes exx exu ext adduct tail wide ka kl ki kx ku kt =
       let p = storedPartsAt table c in
       let losses-units = unitBytes (lossesIn p) (p .losses) in
       let losses-text = nameBytes (lossesIn p) (p .losses) in
@@ -86,6 +87,7 @@ module _ (table : List ℕ) (c : Cursors) where
       let w-at =
       ahead-on table (c .text) (ionBytes (p .notes)) losses-text t-at (losses-are .text ∙ ap (λ (z : List ℕ). min losses-text (length z)) (sym t-is)) ew
       in
+      let notes-on = ka ∙ ap (λ (n : ℕ). further table (c .annotations) n) wide in
       let losses-on = kl ∙ ap (λ (n : ℕ). further table (c .losses) (lossWidth * n)) nl-is in
       let isotopes-on = ki ∙ ap (λ (n : ℕ). further table (c .isotopes) (isotopeWidth * n)) ni-is in
       let items-on = kx ∙ ap (λ (n : ℕ). further table (c .items) (itemWidth * n)) nx-is in
@@ -102,19 +104,19 @@ module _ (table : List ℕ) (c : Cursors) where
             put-then (put-as front (λ i. frontPrinted (notes i) (efu i) (eft i)))
             (put-then (losses-are .put) (put-then (put-as isotopes (ap₂ isotopesPrinted ni-is esi)) (put-then (adduct-is .put) (put-as tail (ap tailPrinted notes)))));
         cursors =
-            λ i. record { annotations = ka i; losses = losses-on i; isotopes = isotopes-on i; items = items-on i; units = units-on i; text = text-on i };
+            λ i. record { annotations = notes-on i; losses = losses-on i; isotopes = isotopes-on i; items = items-on i; units = units-on i; text = text-on i };
       }
 
--- what is left from the cursors partsBehind an annotation on is what is left partsBehind it
-pub parts-behind : (table : List ℕ) (c : Cursors) → storedPartsAt table (cursorsBehind table c) ≡ partsBehind (storedPartsAt table c)
+-- what is left from the cursors behind an annotation on is what is left behind it
+pub parts-behind : (edition : Edition) (table : List ℕ) (c : Cursors) → storedPartsAt table (cursorsBehind edition table c) ≡ partsBehind edition (storedPartsAt table c)
 unfolding partsBehind cursorsBehind
-parts-behind table c =
+parts-behind edition table c =
     let p = storedPartsAt table c in
     let losses-units = unitBytes (lossesIn p) (p .losses) in
     let losses-text = nameBytes (lossesIn p) (p .losses) in
     let items-units = unitBytes (itemsIn p) (p .items) in
     let items-text = nameBytes (itemsIn p) (p .items) in
-    let notes = ahead-drop table (c .annotations) annotationWidth refl in
+    let notes = ahead-drop table (c .annotations) (annotationWidth edition) refl in
     let losses = ahead-drop table (c .losses) (lossWidth * lossesIn p) refl in
     let isotopes = ahead-drop table (c .isotopes) (isotopeWidth * isotopesIn p) refl in
     let items = ahead-drop table (c .items) (itemWidth * itemsIn p) refl in
@@ -132,26 +134,29 @@ pub comma-next : (i : ℕ) → (i ≡ 0 → ⊥) → bytes "," ≡ commaPrinted 
 unfolding commaPrinted
 comma-next i e = rw (ne-eqb i 0 e)
 
-pub line-begins : (n : ℕ) (p : StoredParts) {d : List ℕ} {to : ℕ} → length d ≤ maxPlace → to ≤ maxPlace
-    → PutSoFar d to (annotationsPrinted 0 n p) d to (annotationsPrinted 0 (n - 0) p)
-line-begins n p h g = let e : n - 0 ≡ n = omega arith in begin h g (ap (λ (m : ℕ). annotationsPrinted 0 m p) e)
+module _ (edition : Edition) where
+  pub line-begins : (n : ℕ) (p : StoredParts) {d : List ℕ} {to : ℕ} → length d ≤ maxPlace → to ≤ maxPlace
+      → PutSoFar d to (annotationsPrinted edition 0 n p) d to (annotationsPrinted edition 0 (n - 0) p)
+  line-begins n p h g = let e : n - 0 ≡ n = omega arith in begin h g (ap (λ (m : ℕ). annotationsPrinted edition 0 m p) e)
 
-line-more : (i m : ℕ) (p q : StoredParts) → q ≡ partsBehind p
-    → annotationsPrinted i (suc m) p ≡ (commaPrinted i ++ annotationPrinted p) ++ annotationsPrinted (i + 1) m q
-unfolding annotationsPrinted
-line-more i m p q e =
-    ap₂ (λ (j : ℕ) (r : StoredParts). commaPrinted i ++ (annotationPrinted p ++ annotationsPrinted j m r)) (sym (add-one i)) (sym e)
-    ∙ sym (append-assoc (commaPrinted i) (annotationPrinted p) (annotationsPrinted (i + 1) m q))
+  line-more : (i m : ℕ) (p q : StoredParts) → q ≡ partsBehind edition p
+      → annotationsPrinted edition i (suc m) p ≡ (commaPrinted i ++ annotationPrinted p) ++ annotationsPrinted edition (i + 1) m q
+  unfolding annotationsPrinted
+  line-more i m p q e =
+      ap₂ (λ (j : ℕ) (r : StoredParts). commaPrinted i ++ (annotationPrinted p ++ annotationsPrinted edition j m r)) (sym (add-one i)) (sym e)
+      ∙ sym (append-assoc (commaPrinted i) (annotationPrinted p) (annotationsPrinted edition (i + 1) m q))
 
-pub line-turn : (n : ℕ) (table : List ℕ) {d l e f g : List ℕ} {to at b i : ℕ} {c : Cursors} {r : Printed}
-    → PutSoFar d to l e at (annotationsPrinted i (n - i) (storedPartsAt table c)) → i < n → Put e at (commaPrinted i) f b → PrintsAnnotation table c f b g r
-    → PutSoFar d to l g (r .to) (annotationsPrinted (i + 1) (n - (i + 1)) (storedPartsAt table (r .cursors)))
-line-turn n table {i = i} {c = c} {r = r} k h p q =
-    let m = n - (i + 1) in
-    let z : n - i ≡ suc m = omega arith in
-    more k (put-then p (q .put))
-    (ap (λ (j : ℕ). annotationsPrinted i j (storedPartsAt table c)) z ∙ line-more i m (storedPartsAt table c) (storedPartsAt table (r .cursors)) (ap (storedPartsAt table) (q .cursors) ∙ parts-behind table c))
+  pub line-turn : (n : ℕ) (table : List ℕ) {d l e f g : List ℕ} {to at b i : ℕ} {c : Cursors} {r : Printed}
+      → PutSoFar d to l e at (annotationsPrinted edition i (n - i) (storedPartsAt table c)) → i < n → Put e at (commaPrinted i) f b
+      → PrintsAnnotation edition table c f b g r
+      → PutSoFar d to l g (r .to) (annotationsPrinted edition (i + 1) (n - (i + 1)) (storedPartsAt table (r .cursors)))
+  line-turn n table {i = i} {c = c} {r = r} k h p q =
+      let m = n - (i + 1) in
+      let z : n - i ≡ suc m = omega arith in
+      let left : storedPartsAt table (r .cursors) ≡ partsBehind edition (storedPartsAt table c) = ap (storedPartsAt table) (q .cursors) ∙ parts-behind edition table c in
+      more k (put-then p (q .put))
+      (ap (λ (j : ℕ). annotationsPrinted edition i j (storedPartsAt table c)) z ∙ line-more i m (storedPartsAt table c) (storedPartsAt table (r .cursors)) left)
 
-pub line-ends : (n i : ℕ) (p : StoredParts) {d l e : List ℕ} {to at : ℕ} → PutSoFar d to l e at (annotationsPrinted i (n - i) p) → n ≤ i → Put d to l e at
-unfolding annotationsPrinted
-line-ends n i p k h = let z : n - i ≡ 0 = omega arith in ends k (ap (λ (j : ℕ). annotationsPrinted i j p) z)
+  pub line-ends : (n i : ℕ) (p : StoredParts) {d l e : List ℕ} {to at : ℕ} → PutSoFar d to l e at (annotationsPrinted edition i (n - i) p) → n ≤ i → Put d to l e at
+  unfolding annotationsPrinted
+  line-ends n i p k h = let z : n - i ≡ 0 = omega arith in ends k (ap (λ (j : ℕ). annotationsPrinted edition i j p) z)

@@ -1,4 +1,4 @@
--- An annotation as the parts of a stored table say. Assumes nothing.
+-- An annotation as the parts of a stored table say, and what is left behind it, which depends on the edition. Assumes nothing.
 use Prim.Native.Nat.{ℕ, _+_, _*_, min}
 use mathlib.Core.Path.{_≡_}
 use mathlib.Core.Bool.{cond}
@@ -8,6 +8,7 @@ use lib.ListN.{length, getD, drop}
 use Rattle.rules.specs.Bytes.{bytes}
 use Rattle.rules.specs.Limits.{maxLosses, maxIsotopes, maxItems}
 use Rattle.rules.specs.Layout.{annotationWidth, lossWidth, isotopeWidth, itemWidth, unitWidth, lossCountAt, isotopeCountAt, itemCountAt}
+use Rattle.rules.specs.Editions.{Edition}
 use Rattle.put_bytes.specs.Puts.{Put}
 use Rattle.store_sections.specs.declared.Cursors.{Cursors}
 use Rattle.print_parts.specs.declared.PrintedTo.{PrintedTo}
@@ -42,7 +43,7 @@ pub record PrintsAdduct (n : ℕ) (x u t d : List ℕ) (to : ℕ) (e : List ℕ)
   pub units : r .units ≡ min (unitBytes n x) (length u)
   pub text : r .text ≡ min (nameBytes n x) (length t)
 
--- units and text partsBehind those of the ion, and partsBehind those of the losses
+-- units and text behind those of the ion, and behind those of the losses
 abbrev pub unitsBehindIon : StoredParts → List ℕ
 unitsBehindIon p = drop (unitWidth * ionUnits (p .notes)) (p .units)
 
@@ -62,11 +63,11 @@ annotationPrinted p =
     ++ (isotopesPrinted (isotopesIn p) (p .isotopes)
     ++ (adductPrinted (itemsIn p) (p .items) (unitsBehindLosses p) (textBehindLosses p) ++ tailPrinted (p .notes))))
 
--- what is left partsBehind the annotation
-unfoldable pub partsBehind : StoredParts → StoredParts
-partsBehind p =
+-- what is left behind the annotation, in a table of an edition
+unfoldable pub partsBehind : Edition → StoredParts → StoredParts
+partsBehind edition p =
     record {
-      notes = drop annotationWidth (p .notes);
+      notes = drop (annotationWidth edition) (p .notes);
       losses = drop (lossWidth * lossesIn p) (p .losses);
       isotopes = drop (isotopeWidth * isotopesIn p) (p .isotopes);
       items = drop (itemWidth * itemsIn p) (p .items);
@@ -85,11 +86,11 @@ textIn p = ionBytes (p .notes) + nameBytes (lossesIn p) (p .losses) + nameBytes 
 abbrev pub further : List ℕ → ℕ → ℕ → ℕ
 further table at n = min (at + n) (length table)
 
--- the cursors partsBehind the annotation whose parts stand at c
-unfoldable pub cursorsBehind : List ℕ → Cursors → Cursors
-cursorsBehind table c =
+-- the cursors behind the annotation whose parts stand at c
+unfoldable pub cursorsBehind : Edition → List ℕ → Cursors → Cursors
+cursorsBehind edition table c =
     record {
-      annotations = further table (c .annotations) annotationWidth;
+      annotations = further table (c .annotations) (annotationWidth edition);
       losses = further table (c .losses) (lossWidth * lossesIn (storedPartsAt table c));
       isotopes = further table (c .isotopes) (isotopeWidth * isotopesIn (storedPartsAt table c));
       items = further table (c .items) (itemWidth * itemsIn (storedPartsAt table c));
@@ -97,6 +98,6 @@ cursorsBehind table c =
       text = further table (c .text) (textIn (storedPartsAt table c));
     }
 
-pub record PrintsAnnotation (table : List ℕ) (c : Cursors) (d : List ℕ) (to : ℕ) (e : List ℕ) (r : Printed) : Type 0 where
+pub record PrintsAnnotation (edition : Edition) (table : List ℕ) (c : Cursors) (d : List ℕ) (to : ℕ) (e : List ℕ) (r : Printed) : Type 0 where
   pub put : Put d to (annotationPrinted (storedPartsAt table c)) e (r .to)
-  pub cursors : r .cursors ≡ cursorsBehind table c
+  pub cursors : r .cursors ≡ cursorsBehind edition table c

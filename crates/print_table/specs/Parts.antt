@@ -1,8 +1,10 @@
--- The parts of a stored table that stand at six cursors. Assumes nothing.
+-- What the header of a stored table tells, and the parts of the table that stand at six cursors. Assumes nothing.
 use Prim.Native.Nat.{ℕ}
 use mathlib.Core.List.{List}
 use lib.ListN.{drop}
-use Rattle.rules.specs.Layout.{annotationPairAt, lossPairAt, isotopePairAt, itemPairAt, unitPairAt, textPairAt}
+use Rattle.rules.specs.Layout.{editionAt, annotationPairAt, lossPairAt, isotopePairAt, itemPairAt, unitPairAt, textPairAt}
+use Rattle.layout.specs.declared.Edition.{Edition}
+use Rattle.layout.specs.Editions.{namedEdition}
 use Rattle.slices.specs.Numbers.{u16At}
 use Rattle.counts.specs.declared.Counts.{Counts}
 use Rattle.store_sections.specs.declared.Cursors.{Cursors}
@@ -26,6 +28,10 @@ storedPartsAt table c =
       units = drop (c .units) table;
       text = drop (c .text) table;
     }
+
+-- the edition that the header names; the first where it names none
+abbrev pub editionIn : List ℕ → Edition
+editionIn table = namedEdition (u16At (drop editionAt table))
 
 -- how many there are in each section, as the header tells
 abbrev pub countsAt : List ℕ → Counts

@@ -1,13 +1,15 @@
 // The line of a stored table, in preferred spelling: one annotation after the other, each from the six sections at their cursors. The
-// bytes are printed as they stand: whether they are a table is told by reading what was printed.
+// bytes are printed as they stand, by the edition that their header names: whether they are a table is told by reading what was printed.
 ghost use mathlib.Core.Path.{_≡_};
 ghost use Rattle.put_bytes.specs.Puts.{Put};
-ghost use Rattle.print_table.specs.Parts.{countsAt};
+ghost use Rattle.layout.specs.Editions.{editionOf};
+ghost use Rattle.print_table.specs.Parts.{editionIn, countsAt};
 ghost use Rattle.print_table.specs.Annotations.{rowOf, PrintsAdduct, PrintsAnnotation};
 ghost use Rattle.print_table.specs.Tables.{commaPrinted, printedTable};
 use counts::Counts;
 use layout::ANNOTATION_PAIR_AT;
-use layout::ANNOTATION_SIZE;
+use layout::EDITION_AT;
+use layout::Edition;
 use layout::ISOTOPE_COUNT_AT;
 use layout::ISOTOPE_PAIR_AT;
 use layout::ISOTOPE_SIZE;
@@ -20,6 +22,8 @@ use layout::LOSS_SIZE;
 use layout::TEXT_PAIR_AT;
 use layout::UNIT_PAIR_AT;
 use layout::UNIT_SIZE;
+use layout::annotation_size;
+use layout::edition_named;
 use limits::MAX_ANNOTATIONS;
 use limits::MAX_ISOTOPES;
 use limits::MAX_ITEMS;
@@ -76,9 +80,16 @@ fn print_adduct(out: &mut [u8], to: usize, x: &[u8], u: &[u8], t: &[u8], n: usiz
     }
 }
 
-// The annotation whose parts stand at the cursors.
-pub fn print_annotation(out: &mut [u8], to: usize, table: &[u8], c: Cursors) -> Printed
-    ensures { λ r. ⌜ PrintsAnnotation (now (table .entry)) c (now (out .entry)) to (now (out .exit)) r ⌝ }
+// The annotation whose parts stand at the cursors. Of its record only the fields that every edition has are looked at: how far the next
+// record is depends on the edition, what is printed does not.
+pub fn print_annotation(
+    out: &mut [u8],
+    to: usize,
+    table: &[u8],
+    edition: Edition,
+    c: Cursors,
+) -> Printed
+    ensures { λ r. ⌜ PrintsAnnotation (editionOf edition) (now (table .entry)) c (now (out .entry)) to (now (out .exit)) r ⌝ }
 {
     let all = table.len();
     let s = rest(table, c.annotations);
@@ -108,10 +119,11 @@ pub fn print_annotation(out: &mut [u8], to: usize, table: &[u8], c: Cursors) -> 
         items,
     );
     let end = print_tail(out, x.to, s);
+    let size = annotation_size(edition);
     Printed {
         to: end,
         cursors: Cursors {
-            annotations: advance(c.annotations, ANNOTATION_SIZE, all),
+            annotations: advance(c.annotations, size, all),
             losses: advance(c.losses, LOSS_SIZE * losses, all),
             isotopes: advance(c.isotopes, ISOTOPE_SIZE * isotopes, all),
             items: advance(c.items, ITEM_SIZE * items, all),
@@ -129,6 +141,13 @@ fn put_comma(out: &mut [u8], to: usize, i: usize) -> usize
         return to;
     }
     put8(out, to, b',')
+}
+
+// The edition that the header names.
+pub fn edition_at(table: &[u8]) -> Edition
+    ensures { λ r. ⌜ r ≡ editionIn (now (table .entry)) ⌝ }
+{
+    edition_named(u16_at(rest(table, EDITION_AT)) as usize)
 }
 
 // How many there are in each section, as the header tells.
@@ -149,13 +168,14 @@ pub fn counts_at(table: &[u8]) -> Counts
 pub fn print_table(out: &mut [u8], to: usize, table: &[u8]) -> usize
     ensures { λ r. ⌜ Put (now (out .entry)) to (printedTable (now (table .entry))) (now (out .exit)) r ⌝ }
 {
+    let edition = edition_at(table);
     let n = number_at(table, ANNOTATION_PAIR_AT, MAX_ANNOTATIONS);
-    let mut c = starts(counts_at(table));
+    let mut c = starts(edition, counts_at(table));
     let mut at = to;
     let mut i: usize = 0;
     while i < n {
         let begin = put_comma(out, at, i);
-        let p = print_annotation(out, begin, table, c);
+        let p = print_annotation(out, begin, table, edition, c);
         at = p.to;
         let next = p.cursors;
         c = next;

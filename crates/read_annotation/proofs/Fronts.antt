@@ -12,7 +12,9 @@ use Rattle.rules.specs.Formulas.{Written}
 use Rattle.rules.specs.Ions.{Ion, ionText}
 use Rattle.rules.specs.Annotations.{flagText, analyteText}
 use Rattle.rules.specs.Limits.{optPart, analytePart, ionParts}
-use Rattle.rules.specs.Stored.{flag, present, valueOr0}
+use Rattle.rules.specs.Editions.{current}
+use Rattle.rules.specs.House.{formed}
+use Rattle.rules.specs.Stored.{flag, present, valueOr0, residueCount}
 use Rattle.faults.specs.declared.Fault.{Fault}
 use Rattle.faults.specs.Faults.{after}
 use Rattle.read_formula.proofs.Spelled.{capped}
@@ -24,6 +26,7 @@ use Rattle.read_annotation.proofs.Groups.{front-is}
 use Rattle.read_annotation.proofs.Chains.{drop-is, inside}
 use Rattle.read_annotation.proofs.Begins.{ion-begins-apart, ion-no-mark}
 use Rattle.read_annotation.proofs.Ions.{ion-told}
+use Rattle.read_annotation.proofs.Sequences.{sequence-read}
 use Rattle.read_annotation.proofs.Prefixes.{prefixLength, prefix-read}
 
 module _ (m : Bool) (n : Opt ℕ) (x : Ion Written) (k : List ℕ) where
@@ -48,7 +51,16 @@ module _ (m : Bool) (n : Opt ℕ) (x : Ion Written) (k : List ℕ) where
 
     abbrev pub frontRead : IonRead → Front
     frontRead r =
-        record { marked = flag m; present = present n; analyte = valueOr0 capped n; at = prefixLength m n; ion = r; len = prefixLength m n + length (ionText x) }
+        record {
+          marked = flag m;
+          present = present n;
+          analyte = valueOr0 capped n;
+          at = prefixLength m n;
+          ion = r;
+          formed = formed current x;
+          residues = residueCount x;
+          len = prefixLength m n + length (ionText x);
+        }
 
     pub front-read : EndsIon k → length frontText ≤ end → frontOf end frontText f ≡ frontRead (ionRead x ionFault)
     front-read e h =
@@ -56,4 +68,4 @@ module _ (m : Bool) (n : Opt ℕ) (x : Ion Written) (k : List ℕ) where
         let q : prefixLength m n + length (ionText x) ≡ length frontText - length k =
         omega (arith, length-append (flagText (bytes "&") m) behindFlag, length-append (optText analyteText n) (ionText x ++ k), length-append (ionText x) k) in
         sym (front-is end frontText f (sym (prefix-read (ionText x ++ k) (ion-no-mark x k) (ion-begins-apart x k) m n end f h)) (sym behind-prefix)
-        (sym (ion-read x k end prefixFault e hx)) (sym (drop-is (ionText x) k (ion-told x ionFault .len))) q)
+        (sym (ion-read x k end prefixFault e hx)) (sequence-read x k ionFault) (sym (drop-is (ionText x) k (ion-told x ionFault .len))) q)

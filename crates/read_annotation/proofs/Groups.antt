@@ -13,6 +13,7 @@ use Rattle.counts.specs.declared.Counts.{Counts}
 use Rattle.counts.specs.Sums.{sum, plus}
 use Rattle.faults.specs.declared.Fault.{Fault}
 use Rattle.faults.specs.Faults.{join}
+use Rattle.sequences.specs.declared.SequenceRead.{SequenceRead}
 use Rattle.read_ion.specs.declared.IonRead.{IonRead}
 use Rattle.read_ion.specs.Ions.{ionOf}
 use Rattle.read_changes.specs.declared.Row.{Row}
@@ -29,6 +30,7 @@ use Rattle.read_annotation.specs.declared.Middle.{Middle}
 use Rattle.read_annotation.specs.declared.Tail.{Tail}
 use Rattle.read_annotation.specs.declared.Parts.{Parts}
 use Rattle.read_annotation.specs.Parts.{prefixOf, adductOf}
+use Rattle.read_annotation.specs.Sequences.{sequenceOfIon}
 use Rattle.read_annotation.specs.Groups.{frontOf, middleOf, tailOf}
 use Rattle.read_annotation.specs.House.{rulesOf, shareOf}
 use Rattle.read_annotation.specs.Measured.{ownCounts, partsOf, measuredOf}
@@ -54,10 +56,11 @@ adduct-behind (b ∷ s) e = by (eqb 91 b) e
 -- ---- groups
 
 module _ (end : ℕ) (s : List ℕ) (f : Fault) {t v : List ℕ} {q : ℕ} where
-  pub front-is : {p : PrefixRead} {x : IonRead} → p ≡ prefixOf end s f → t ≡ drop (p .len) s → x ≡ ionOf end t (p .fault) → v ≡ drop (x .len) t → q ≡ length s - length v
-      → record { marked = p .marked; present = p .present; analyte = p .analyte; at = p .len; ion = x; len = q } ≡ frontOf end s f
+  pub front-is : {p : PrefixRead} {x : IonRead} {w : SequenceRead} → p ≡ prefixOf end s f → t ≡ drop (p .len) s → x ≡ ionOf end t (p .fault) → w ≡ sequenceOfIon t x
+      → v ≡ drop (x .len) t → q ≡ length s - length v
+      → record { marked = p .marked; present = p .present; analyte = p .analyte; at = p .len; ion = x; formed = w .formed; residues = w .residues; len = q } ≡ frontOf end s f
   unfolding frontOf
-  front-is pp pt px pv pq = rw (← pp, ← pt, ← px, ← pv, ← pq)
+  front-is pp pt px pw pv pq = rw (← pp, ← pt, ← px, ← pw, ← pv, ← pq)
 
 module _ (end : ℕ) (s : List ℕ) (f : Fault) {t u v : List ℕ} {q : ℕ} where
   pub middle-is : {l a : Row} {y : IsotopesRead} {n : ℕ} → l ≡ changesOf maxLosses end s f → t ≡ drop (l .len) s → y ≡ isotopesOf end t (l .fault) → u ≡ drop (y .len) t
@@ -83,7 +86,8 @@ module _ (end : ℕ) (s : List ℕ) (f : Fault) {t u : List ℕ} where
 
 pub measure-is : (s : List ℕ) (p : Parts) {t u v : List ℕ} {o n : Counts} {share q : ℕ} {kept : Bool} → share ≡ shareOf (p .tail .confidence)
     → t ≡ drop (p .front .len) s → u ≡ drop (p .middle .len) t → o ≡ ownCounts (p .front .ion) → n ≡ plus o (p .middle .counts)
-    → kept ≡ rulesOf (p .front .ion) (p .middle .counts .items) (p .tail .deviation) share → v ≡ drop (p .tail .len) u → q ≡ length s - length v
-    → record { counts = n; free = p .tail .confidence .bare; share = share; kept = kept; len = q; fault = p .tail .confidence .fault } ≡ measuredOf s p
+    → kept ≡ rulesOf (p .front .ion) (p .front .residues) (p .middle .counts .items) (p .tail .deviation) share → v ≡ drop (p .tail .len) u → q ≡ length s - length v
+    → record { counts = n; free = p .tail .confidence .bare; share = share; formed = p .front .formed; kept = kept; len = q; fault = p .tail .confidence .fault }
+    ≡ measuredOf s p
 unfolding measuredOf
 measure-is s p ps pt pu po pn pk pv pq = rw (pn, po, ← ps, ← pt, ← pu, ← pk, ← pv, ← pq)

@@ -9,6 +9,7 @@ pub mod Follows
 pub mod Begins
 pub mod Prefixes
 pub mod Ions
+pub mod Sequences
 pub mod Fronts
 pub mod Rules
 pub mod Sizes

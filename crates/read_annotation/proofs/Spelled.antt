@@ -16,10 +16,11 @@ use Rattle.rules.specs.Adducts.{adductText, itemMap}
 use Rattle.rules.specs.Confidences.{confidenceText}
 use Rattle.rules.specs.Annotations.{SpelledAnnotation, flagText, analyteText, chargeText, deviationText, annotationText}
 use Rattle.rules.specs.Fields.{filledAnnotation, filled}
-use Rattle.rules.specs.House.{share, one, annotationRules}
+use Rattle.rules.specs.Editions.{current}
+use Rattle.rules.specs.House.{share, one, formed, annotationRules}
 use Rattle.rules.proofs.Confidences.{zeroLeftOut}
 use Rattle.rules.specs.Limits.{part, optPart, ionParts, deviationPart, confidencePart, annotationParts, annotationMarks}
-use Rattle.rules.specs.Stored.{ionFields, lostUnits, lostName, addedUnits, isotopeRecords}
+use Rattle.rules.specs.Stored.{ionFields, lostUnits, lostName, addedUnits, isotopeRecords, residueCount}
 use Rattle.rules.proofs.Keeps.{kept-tail, kept-part}
 use Rattle.counts.specs.Sums.{sum, noCounts, plus}
 use Rattle.counts.proofs.Annotations.{annotationCounts}
@@ -36,6 +37,7 @@ use Rattle.read_annotation.proofs.Groups.{measure-is}
 use Rattle.read_annotation.proofs.Chains.{drop-three}
 use Rattle.read_annotation.proofs.Ends.{EndsAnnotation}
 use Rattle.read_annotation.proofs.Ions.{ion-told, ion-rule}
+use Rattle.read_annotation.proofs.Sequences.{sequence-rule}
 use Rattle.read_annotation.proofs.Tails.{deviationFault, confidence-fault, confidence-bare}
 use Rattle.read_annotation.proofs.Rules.{deviation-rule, share-told, share-test}
 use Rattle.read_annotation.proofs.Wholes.{third, second, first, text-is, fault1, fault2, fault3, marks-are}
@@ -47,7 +49,8 @@ pub record Measures (i : ℕ) (a : SpelledAnnotation) (at : ℕ) (f : Fault) (m 
   pub len : m .len ≡ length (annotationText a)
   pub counts : m .counts ≡ plus noCounts (annotationCounts (filledAnnotation a))
   pub free : m .free ≡ zeroLeftOut (a .confidence)
-  pub kept : Kept (annotationMarks i a at) → m .kept ≡ annotationRules a
+  pub formed : m .formed ≡ formed current (a .ion)
+  pub kept : Kept (annotationMarks i a at) → m .kept ≡ annotationRules current a
   pub share : Kept (annotationMarks i a at) → m .share ≡ min (share a) largest
 
 module _ (a : SpelledAnnotation) (k : List ℕ) (i end : ℕ) (f : Fault) where
@@ -63,7 +66,8 @@ module _ (a : SpelledAnnotation) (k : List ℕ) (i end : ℕ) (f : Fault) where
         counts = plus (ownCounts measuredIon) (partsRead a k i end f .middle .counts);
         free = confidenceRead (a .confidence) (fault3 a k end (fault0 a k i end f)) .bare;
         share = shareRead;
-        kept = rulesOf measuredIon (length (a .adduct)) (deviationRead (a .deviation) (deviationFault (a .charge) (a .deviation) (a .confidence) k end (fault2 a k end (fault0 a k i end f)))) shareRead;
+        formed = formed current (a .ion);
+        kept = rulesOf measuredIon (residueCount (a .ion)) (length (a .adduct)) (deviationRead (a .deviation) (deviationFault (a .charge) (a .deviation) (a .confidence) k end (fault2 a k end (fault0 a k i end f)))) shareRead;
         len = length (annotationText a);
         fault = confidenceRead (a .confidence) (fault3 a k end (fault0 a k i end f)) .fault;
       }
@@ -115,16 +119,19 @@ module _ (a : SpelledAnnotation) (k : List ℕ) (i end : ℕ) (f : Fault) where
           let p = kept-part (end - length (first a k)) (annotationParts a) (kept-tail kept) (optPart confidencePart (a .confidence)) (later (later (later (later (later (later (later (later here)))))))) in
           share-told (a .confidence) (p .0) (fault3 a k end (fault0 a k i end f)) (p .1)
 
-      rules-are : measured .kept ≡ annotationRules a
+      rules-are : measured .kept ≡ annotationRules current a
       unfolding rulesOf
       rules-are =
           let at = end - length (first a k) in
           let p = kept-part at (annotationParts a) (kept-tail kept) (part (ionText (a .ion)) (λ at. marksOf at (ionParts (a .ion)))) (later (later here)) in
           let q = kept-part at (annotationParts a) (kept-tail kept) (optPart deviationPart (a .deviation)) (later (later (later (later (later (later (later here))))))) in
-          ap₂ (λ (x y : Bool). x && y) (ion-rule (a .ion) (fault1 a k end (fault0 a k i end f)) (p .0) (a .adduct) (p .1))
+          let g = fault1 a k end (fault0 a k i end f) in
+          ap₂ (λ (x y : Bool). x && y)
+          (ap₂ (λ (x y : Bool). x && y) (ion-rule (a .ion) g (p .0) (a .adduct) (p .1))
           (ap₂ (λ (x y : Bool). x && y)
           (deviation-rule (a .deviation) (q .0) (deviationFault (a .charge) (a .deviation) (a .confidence) k end (fault2 a k end (fault0 a k i end f))) (q .1))
-          (ap (λ (n : ℕ). leb n one) share-is ∙ share-test (share a)))
+          (ap (λ (n : ℕ). leb n one) share-is ∙ share-test (share a))))
+          (sequence-rule (a .ion) g (p .0) (p .1))
 
     measured-read : Measures i a (end - length (first a k)) f measured
     measured-read =
@@ -133,6 +140,7 @@ module _ (a : SpelledAnnotation) (k : List ℕ) (i end : ℕ) (f : Fault) where
           len = refl;
           counts = counts-are;
           free = confidence-bare (a .confidence) (fault3 a k end (fault0 a k i end f));
+          formed = refl;
           kept = rules-are;
           share = share-is;
         }

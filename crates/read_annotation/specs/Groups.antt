@@ -9,6 +9,7 @@ use Rattle.rules.specs.Limits.{maxLosses}
 use Rattle.counts.specs.Sums.{sum}
 use Rattle.faults.specs.declared.Fault.{Fault}
 use Rattle.read_opening.specs.Heads.{beginsSign}
+use Rattle.sequences.specs.declared.SequenceRead.{SequenceRead}
 use Rattle.read_ion.specs.declared.IonRead.{IonRead}
 use Rattle.read_ion.specs.Ions.{ionOf}
 use Rattle.read_changes.specs.declared.Row.{Row}
@@ -24,6 +25,7 @@ use Rattle.read_annotation.specs.declared.Front.{Front}
 use Rattle.read_annotation.specs.declared.Middle.{Middle}
 use Rattle.read_annotation.specs.declared.Tail.{Tail}
 use Rattle.read_annotation.specs.Parts.{prefixOf, adductOf}
+use Rattle.read_annotation.specs.Sequences.{sequenceOfIon}
 
 -- how many bytes of s stand before what is left
 abbrev pub before : List ℕ → List ℕ → ℕ
@@ -31,12 +33,25 @@ before s left = length s - length left
 
 -- ---- prefix and ion
 
-abbrev pub frontWith : List ℕ → PrefixRead → IonRead → Front
-frontWith s p x =
-    record { marked = p .marked; present = p .present; analyte = p .analyte; at = p .len; ion = x; len = before s (drop (x .len) (drop (p .len) s)) }
+-- t is left behind the prefix
+abbrev pub frontWith : List ℕ → List ℕ → PrefixRead → IonRead → SequenceRead → Front
+frontWith s t p x q =
+    record {
+      marked = p .marked;
+      present = p .present;
+      analyte = p .analyte;
+      at = p .len;
+      ion = x;
+      formed = q .formed;
+      residues = q .residues;
+      len = before s (drop (x .len) t);
+    }
+
+abbrev pub frontBehind : List ℕ → List ℕ → PrefixRead → IonRead → Front
+frontBehind s t p x = frontWith s t p x (sequenceOfIon t x)
 
 abbrev pub frontIn : ℕ → List ℕ → PrefixRead → Front
-frontIn end s p = frontWith s p (ionOf end (drop (p .len) s) (p .fault))
+frontIn end s p = let t = drop (p .len) s in frontBehind s t p (ionOf end t (p .fault))
 
 unfoldable pub frontOf : ℕ → List ℕ → Fault → Front
 frontOf end s f = frontIn end s (prefixOf end s f)

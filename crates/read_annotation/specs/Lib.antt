@@ -1,4 +1,5 @@
 pub mod Parts
+pub mod Sequences
 pub mod Groups
 pub mod House
 pub mod Measured

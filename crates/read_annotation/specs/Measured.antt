@@ -41,7 +41,8 @@ measuredWith s u a m b =
       counts = plus (ownCounts (a .ion)) (m .counts);
       free = b .confidence .bare;
       share = shareOf (b .confidence);
-      kept = rulesOf (a .ion) (m .counts .items) (b .deviation) (shareOf (b .confidence));
+      formed = a .formed;
+      kept = rulesOf (a .ion) (a .residues) (m .counts .items) (b .deviation) (shareOf (b .confidence));
       len = before s (drop (b .len) u);
       fault = b .confidence .fault;
     }

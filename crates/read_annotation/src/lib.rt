@@ -4,7 +4,8 @@ ghost use Rattle.rules.specs.Bytes.{bytes};
 ghost use Rattle.rules.specs.Texts.{startsWith};
 ghost use Rattle.read_annotation.specs.Parts.{flagOf, prefixOf, adductLen, adductOf};
 ghost use Rattle.read_annotation.specs.Groups.{frontOf, beginsMiddle, middleOf, tailOf};
-ghost use Rattle.read_annotation.specs.House.{ionRuleOf, deviationRuleOf, rulesOf, shareOf};
+ghost use Rattle.read_annotation.specs.Sequences.{hasSequence, sequenceOfIon};
+ghost use Rattle.read_annotation.specs.House.{ionRuleOf, deviationRuleOf, coveredOf, longEnoughOf, rulesOf, shareOf};
 ghost use Rattle.read_annotation.specs.Measured.{ownCounts, partsOf, measuredOf};
 use counts::Counts;
 use counts::plus;
@@ -29,10 +30,13 @@ use read_tail::DecimalPart;
 use read_tail::read_charge;
 use read_tail::read_confidence;
 use read_tail::read_deviation;
+use sequences::SequenceRead;
+use sequences::read_sequence;
 use slices::advance;
 use slices::begins_in;
 use slices::begins_with;
 use slices::minus_or_zero;
+use slices::part;
 use slices::rest;
 
 // What stands before the ion: 1 for `&`, 1 for an analyte, and its number.
@@ -44,13 +48,15 @@ pub struct PrefixRead {
     pub fault: Fault,
 }
 
-// Prefix and ion; the ion begins at `at`.
+// Prefix and ion; the ion begins at `at`. Its sequence has so many residues, and is of the plain form or not; without one it has none, and is.
 pub struct Front {
     pub marked: u8,
     pub present: u8,
     pub analyte: u32,
     pub at: usize,
     pub ion: IonRead,
+    pub formed: bool,
+    pub residues: usize,
     pub len: usize,
 }
 
@@ -77,11 +83,13 @@ pub struct Parts {
 }
 
 // One annotation: what it has of each kind; whether it has a free spelling that no count tells of, a confidence without its 0; that confidence
-// in billionths; whether the rules for one annotation are kept; how many bytes; and the first broken limit.
+// in billionths; whether its sequence is of the plain form; whether the rules for one annotation are kept; how many bytes; and the first
+// broken limit.
 pub struct Measured {
     pub counts: Counts,
     pub free: bool,
     pub share: u64,
+    pub formed: bool,
     pub kept: bool,
     pub len: usize,
     pub fault: Fault,
@@ -165,6 +173,32 @@ pub fn read_adduct(s: &[u8], end: usize, f: Fault) -> Row
     }
 }
 
+// Whether an ion has a sequence: the text in the braces of a series or an internal ion.
+fn has_sequence(x: IonRead) -> bool
+    ensures { λ r. ⌜ r ≡ hasSequence x ⌝ }
+{
+    if x.kind == 1 {
+        return 1 <= x.text;
+    }
+    if x.kind == 2 {
+        return 1 <= x.text;
+    }
+    false
+}
+
+// The sequence of the ion that a part begins with. It is read here, once: measuring and storing both need to know of it.
+fn sequence_of(s: &[u8], x: IonRead) -> SequenceRead
+    ensures { λ r. ⌜ r ≡ sequenceOfIon (now (s .entry)) x ⌝ }
+{
+    if !has_sequence(x) {
+        return SequenceRead {
+            formed: true,
+            residues: 0,
+        };
+    }
+    read_sequence(part(rest(s, x.start), 1, x.text))
+}
+
 // Prefix and ion.
 fn read_front(s: &[u8], end: usize, f: Fault) -> Front
     ensures { λ r. ⌜ r ≡ frontOf end (now (s .entry)) f ⌝ }
@@ -173,6 +207,7 @@ fn read_front(s: &[u8], end: usize, f: Fault) -> Front
     let g = p.fault;
     let t = rest(s, p.len);
     let x = ion(t, end, g);
+    let q = sequence_of(t, x);
     let len = minus_or_zero(s.len(), rest(t, x.len).len());
     Front {
         marked: p.marked,
@@ -180,6 +215,8 @@ fn read_front(s: &[u8], end: usize, f: Fault) -> Front
         analyte: p.analyte,
         at: p.len,
         ion: x,
+        formed: q.formed,
+        residues: q.residues,
         len,
     }
 }
@@ -274,9 +311,29 @@ fn keeps_deviation_rule(d: DecimalPart) -> bool
     1 <= size.value()
 }
 
-// The rules for one annotation.
-fn keeps_rules(x: IonRead, items: usize, d: DecimalPart, share: u64) -> bool
-    ensures { λ r. ⌜ r ≡ rulesOf x items d share ⌝ }
+// How many residues the position of an ion asks for; of an internal ion those from start to end.
+fn covered(x: IonRead) -> usize
+    ensures { λ r. ⌜ r ≡ coveredOf x ⌝ }
+{
+    if x.kind == 2 {
+        return minus_or_zero(x.last as usize + 1, x.position as usize);
+    }
+    x.position as usize
+}
+
+// A sequence has no fewer residues than the position asks for.
+fn is_long_enough(x: IonRead, residues: usize) -> bool
+    ensures { λ r. ⌜ r ≡ longEnoughOf x residues ⌝ }
+{
+    if !has_sequence(x) {
+        return true;
+    }
+    covered(x) <= residues
+}
+
+// The rules for one annotation, whose ion's sequence has so many residues.
+fn keeps_rules(x: IonRead, residues: usize, items: usize, d: DecimalPart, share: u64) -> bool
+    ensures { λ r. ⌜ r ≡ rulesOf x residues items d share ⌝ }
 {
     if !keeps_ion_rule(x, items) {
         return false;
@@ -284,7 +341,10 @@ fn keeps_rules(x: IonRead, items: usize, d: DecimalPart, share: u64) -> bool
     if !keeps_deviation_rule(d) {
         return false;
     }
-    share <= ONE
+    if ONE < share {
+        return false;
+    }
+    is_long_enough(x, residues)
 }
 
 // A confidence in billionths; 0 where there is none.
@@ -350,7 +410,8 @@ pub fn measure(s: &[u8], p: Parts) -> Measured
         counts: plus(own_counts(x), n),
         free: c.bare,
         share,
-        kept: keeps_rules(x, n.items, d, share),
+        formed: a.formed,
+        kept: keeps_rules(x, a.residues, n.items, d, share),
         len: minus_or_zero(s.len(), rest(u, b.len).len()),
         fault,
     }

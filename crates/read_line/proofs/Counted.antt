@@ -13,9 +13,9 @@ use Rattle.rules.specs.Lines.{Spelling}
 use Rattle.rules.specs.Fields.{filledAnnotation, Table, Says}
 use Rattle.rules.specs.Stored.{ionFields, lostUnits, lostName, addedUnits, isotopeRecords, annotationUnits, annotationTexts, stored}
 use Rattle.rules.specs.Answers.{Sound}
-use Rattle.rules.specs.Editions.{current}
+use Rattle.rules.specs.Editions.{Edition, ed1, ed2, current}
 use Rattle.rules.proofs.Totals.{perm-length, perm-flat}
-use Rattle.rules.proofs.Lengths.{stored-length}
+use Rattle.rules.proofs.Lengths.{added-is, stored-length}
 use Rattle.rules.proofs.Sizes.{sizes-fit}
 use Rattle.counts.specs.declared.Counts.{Counts}
 use Rattle.counts.specs.Sums.{sum, noCounts, plus}
@@ -93,15 +93,16 @@ all-same (next {b = b} {m = t} x e) = ap₂ plus (counts-same x) (all-same e) �
 -- ---- for callers
 
 -- a sound table has no more of anything than fits
-counts-fit : (t : Table) → Sound t → Fits (countsOf t)
+counts-fit : {e : Edition} (t : Table) → Sound e t → Fits (countsOf t)
 counts-fit t w =
     let l = stored-length current t in
     let m = sizes-fit current t w in
     record { annotations = omega arith; losses = omega arith; isotopes = omega arith; items = omega arith; units = omega arith; text = omega arith }
 
-pub counts-are : {s : Spelling} {t : Table} {n : Counts} → Each Says s t → Sound t → n ≡ plus noCounts (spelledCounts s) → n ≡ countsOf t
+pub counts-are : {s : Spelling} {t : Table} {n : Counts} → {e : Edition} → Each Says s t → Sound e t → n ≡ plus noCounts (spelledCounts s) → n ≡ countsOf t
 counts-are {t = t} e w c = c ∙ ap (plus noCounts) (all-same e) ∙ plus-capped noCounts (countsOf t) ∙ fits-exact (counts-fit t w)
 
 -- the size that is told is that of the table
-pub end-is : (t : Table) → Sound t → endAt (countsOf t) ≡ length (stored current t)
-end-is t w = omega (arith, stored-length current t, sizes-fit current t w)
+pub end-is : (edition : Edition) (t : Table) {e : Edition} → Sound e t → endAt edition (countsOf t) ≡ length (stored edition t)
+end-is ed1 t w = omega (arith, stored-length ed1 t, sizes-fit ed1 t w, added-is ed1 t)
+end-is ed2 t w = omega (arith, stored-length ed2 t, sizes-fit ed2 t w, added-is ed2 t)

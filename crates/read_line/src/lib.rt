@@ -1,7 +1,8 @@
-// A line read: measured, then stored. Document 01, "Numbers of refusal": reading tests 1; then 2 or 3; then 4 and 5; then 6; 7; 8.
+// A line read: measured, then stored. Document 01, "Numbers of refusal": reading tests 1; then 2 or 3; then 4 and 5; then 11 (document 02, M-105); 6; 7; 8.
 // What was read of the first annotation is handed on from measuring to storing: most lines have no other.
 ghost use mathlib.Core.Path.{_≡_};
 ghost use lib.ListN.{length};
+ghost use Rattle.layout.specs.Editions.{editionOf};
 ghost use Rattle.answers.specs.Delivered.{answered};
 ghost use Rattle.scan_line.specs.Steps.{scannedBy};
 ghost use Rattle.read_line.specs.Stores.{StoresNext, StoresLine};
@@ -42,10 +43,17 @@ pub struct StoredTo {
 // ---- storing
 
 // The annotation that begins at a place and was read.
-fn store_next(out: &mut [u8], c: Cursors, line: &[u8], from: usize, p: Parts) -> StoredTo
-    ensures { λ r. ⌜ StoresNext (now (line .entry)) from p (now (out .entry)) c (now (out .exit)) r ⌝ }
+fn store_next(
+    out: &mut [u8],
+    c: Cursors,
+    edition: Edition,
+    line: &[u8],
+    from: usize,
+    p: Parts,
+) -> StoredTo
+    ensures { λ r. ⌜ StoresNext (editionOf edition) (now (line .entry)) from p (now (out .entry)) c (now (out .exit)) r ⌝ }
 {
-    let x = store(out, c, rest(line, from), p);
+    let x = store(out, c, edition, rest(line, from), p);
     let cursors = x.cursors;
     StoredTo {
         at: advance(from, x.len, line.len()),
@@ -54,27 +62,27 @@ fn store_next(out: &mut [u8], c: Cursors, line: &[u8], from: usize, p: Parts) ->
 }
 
 // All annotations of a line, of which the first was read.
-fn store_all(out: &mut [u8], c: Cursors, line: &[u8], first: Parts)
-    ensures { λ r. ⌜ StoresLine (now (line .entry)) first (now (out .entry)) c (now (out .exit)) ⌝ }
+fn store_all(out: &mut [u8], c: Cursors, edition: Edition, line: &[u8], first: Parts)
+    ensures { λ r. ⌜ StoresLine (editionOf edition) (now (line .entry)) first (now (out .entry)) c (now (out .exit)) ⌝ }
 {
     if line.len() < 1 {
         return;
     }
-    let mut t = store_next(out, c, line, 0, first);
+    let mut t = store_next(out, c, edition, line, 0, first);
     while begins_with(rest(line, t.at), b',') {
         let here = t.cursors;
         let from = advance(t.at, 1, line.len());
         let p = read_at(line, from);
-        let more = store_next(out, here, line, from, p);
+        let more = store_next(out, here, edition, line, from, p);
         t = more;
     }
 }
 
 // ---- reading
 
-// A line with a shape, into a cleared output.
-fn read_spelled(line: &[u8], out: &mut [u8]) -> Answer
-    ensures { λ r. ⌜ ReadsSpelled (now (line .entry)) (now (out .entry)) (now (out .exit)) r ⌝ }
+// A line with a shape, into a cleared output, as a table of an edition.
+fn read_spelled(edition: Edition, line: &[u8], out: &mut [u8]) -> Answer
+    ensures { λ r. ⌜ ReadsSpelled (editionOf edition) (now (line .entry)) (now (out .entry)) (now (out .exit)) r ⌝ }
 {
     let first = read_at(line, 0);
     let t = total(line, first);
@@ -83,12 +91,12 @@ fn read_spelled(line: &[u8], out: &mut [u8]) -> Answer
         return refuse(found.number, found.place);
     }
     let n = t.counts;
-    let size = size_of(n);
+    let size = size_of(edition, n);
     if out.len() < size {
         return refuse(8, size);
     }
-    let c = put_header(out, Edition::First, n);
-    store_all(out, c, line, first);
+    let c = put_header(out, edition, n);
+    store_all(out, c, edition, line, first);
     Answer {
         number: 0,
         place: 0,
@@ -97,11 +105,11 @@ fn read_spelled(line: &[u8], out: &mut [u8]) -> Answer
 }
 
 // A line of any length, by a lent machine, into a cleared output.
-fn read_any(machine: &[u8], line: &[u8], out: &mut [u8]) -> Answer
-    ensures { λ r. ⌜ answered r (now (out .exit)) ≡ anyOver (now (out .entry)) (scannedBy (now (machine .entry)) (now (line .entry))) (now (line .entry)) ⌝ }
+fn read_any(machine: &[u8], edition: Edition, line: &[u8], out: &mut [u8]) -> Answer
+    ensures { λ r. ⌜ answered r (now (out .exit)) ≡ anyOver (editionOf edition) (now (out .entry)) (scannedBy (now (machine .entry)) (now (line .entry))) (now (line .entry)) ⌝ }
 {
     match scan_by(machine, line) {
-        Verdict::Fine => read_spelled(line, out),
+        Verdict::Fine => read_spelled(edition, line, out),
         Verdict::Short => refuse(3, line.len()),
         Verdict::Stray(place) => refuse(2, place),
     }
@@ -115,7 +123,7 @@ pub fn read_by(machine: &[u8], line: &[u8], out: &mut [u8]) -> Answer
     if MAX_LINE < line.len() {
         return refuse(1, MAX_LINE);
     }
-    read_any(machine, line, out)
+    read_any(machine, Edition::Second, line, out)
 }
 
 // ---- reading back
@@ -137,11 +145,17 @@ fn same_bytes(a: &[u8], b: &[u8]) -> bool
     true
 }
 
-// Whether a line of any length reads to a table; `scratch` is cleared.
-fn reads_into(machine: &[u8], line: &[u8], table: &[u8], scratch: &mut [u8]) -> bool
-    ensures { λ r. ⌜ r ≡ readsTo (scannedBy (now (machine .entry)) (now (line .entry))) (now (scratch .entry)) (now (line .entry)) (now (table .entry)) ⌝ }
+// Whether a line of any length reads to a table of an edition; `scratch` is cleared.
+fn reads_into(
+    machine: &[u8],
+    edition: Edition,
+    line: &[u8],
+    table: &[u8],
+    scratch: &mut [u8],
+) -> bool
+    ensures { λ r. ⌜ r ≡ readsTo (editionOf edition) (scannedBy (now (machine .entry)) (now (line .entry))) (now (scratch .entry)) (now (line .entry)) (now (table .entry)) ⌝ }
 {
-    let a = read_any(machine, line, scratch);
+    let a = read_any(machine, edition, line, scratch);
     if a.number != 0 {
         return false;
     }
@@ -149,17 +163,17 @@ fn reads_into(machine: &[u8], line: &[u8], table: &[u8], scratch: &mut [u8]) -> 
 }
 
 // Whether a line of any length reads to a table of few bytes: clearing more costs more than reading most lines.
-pub fn reads_to_few(machine: &[u8], line: &[u8], table: &[u8]) -> bool
-    ensures { λ r. ⌜ r ≡ readsTo (scannedBy (now (machine .entry)) (now (line .entry))) (zeros few) (now (line .entry)) (now (table .entry)) ⌝ }
+pub fn reads_to_few(machine: &[u8], edition: Edition, line: &[u8], table: &[u8]) -> bool
+    ensures { λ r. ⌜ r ≡ readsTo (editionOf edition) (scannedBy (now (machine .entry)) (now (line .entry))) (zeros few) (now (line .entry)) (now (table .entry)) ⌝ }
 {
     let mut scratch = [0u8; FEW];
-    reads_into(machine, line, table, &mut scratch)
+    reads_into(machine, edition, line, table, &mut scratch)
 }
 
 // Whether a line of any length reads to a table.
-pub fn reads_to(machine: &[u8], line: &[u8], table: &[u8]) -> bool
-    ensures { λ r. ⌜ r ≡ readsTo (scannedBy (now (machine .entry)) (now (line .entry))) (zeros maxAnyTable) (now (line .entry)) (now (table .entry)) ⌝ }
+pub fn reads_to(machine: &[u8], edition: Edition, line: &[u8], table: &[u8]) -> bool
+    ensures { λ r. ⌜ r ≡ readsTo (editionOf edition) (scannedBy (now (machine .entry)) (now (line .entry))) (zeros maxAnyTable) (now (line .entry)) (now (table .entry)) ⌝ }
 {
     let mut scratch = [0u8; MAX_ANY_TABLE];
-    reads_into(machine, line, table, &mut scratch)
+    reads_into(machine, edition, line, table, &mut scratch)
 }

@@ -15,17 +15,17 @@ use Rattle.rules.specs.Decimals.{Decimal, whole, lastDigits, pointText, decimal
 use Rattle.rules.specs.Lines.{Spelling, lineText}
 use Rattle.rules.specs.Limits.{maxLine}
 use Rattle.rules.specs.Fields.{Table, Says, Spells}
-use Rattle.rules.specs.Stored.{stores, stored}
+use Rattle.rules.specs.Stored.{stores}
 use Rattle.rules.specs.Preferred.{preferred}
-use Rattle.rules.specs.Answers.{Answer, Delivers, Sound, Holds}
+use Rattle.rules.specs.Answers.{Answer, Delivers, Sound, Takes}
 use Rattle.rules.specs.Rows.{thirdText, Row, annotations, SpellsRow, preferredThird, preferredRowSpelling, preferredRow, rowHeadSize, rowHead}
 use Rattle.rules.specs.RowAnswers.{GoodColumn, BadColumn, Moves, done, no-room, refused, ReadsThird, line, ReadsIntensity, ReadsRow, HoldsRow, WritesRow}
-use Rattle.rules.specs.Editions.{current}
+use Rattle.rules.specs.Editions.{Edition}
 use Rattle.rules.proofs.Cuts as rules
 use Rattle.rules.proofs.Digits.{one-number}
 use Rattle.rules.proofs.Fractions.{value-back, last-length}
 use Rattle.rules.proofs.OneAnswer.{delivers-one}
-use Rattle.rules.proofs.WritesOne.{holds-one}
+use Rattle.rules.proofs.WritesOne.{takes-one}
 use Rattle.rules.proofs.PreferredSpells.{said-in-order, preferred-says}
 use Rattle.shape.proofs.Unambiguous.{unambiguous, reads-one}
 use Rattle.numbers.specs.Leading.{leading}
@@ -103,11 +103,11 @@ unambiguous-row {r} {u} x y =
     λ i. record { mz = mz i; intensity = intensity i; table = table i }
 
 -- the preferred row of a sound table spells it
-third-says : {t : Table} → Sound t → Each Says (annotations (preferredThird t)) t
+third-says : {e : Edition} {t : Table} → Sound e t → Each Says (annotations (preferredThird t)) t
 third-says {t = []} s = none
 third-says {t = a ∷ t} s = preferred-says (said-in-order (s .says))
 
-pub row-preferred : (r : Row) → Sound (r .table) → SpellsRow r (preferredRow r)
+pub row-preferred : {e : Edition} (r : Row) → Sound e (r .table) → SpellsRow r (preferredRow r)
 row-preferred r s =
     record { spelling = preferredRowSpelling r; text = refl; says = record { mz = refl; intensity = refl; table = third-says s } }
 
@@ -166,10 +166,9 @@ reads-row-one {room = room} {c = c} (ReadsRow.good h {more = more} {place = plac
 
 pub holds-row-one : {bytes : List ℕ} {r u : Row} → HoldsRow bytes r → HoldsRow bytes u → r ≡ u
 holds-row-one {bytes} {r} {u} x y =
-    let q = head-one (r .mz) (r .intensity) (x .mz) (x .intensity) (stored current (r .table)) (u .mz) (u .intensity) (y .mz) (y .intensity) (stored current (u .table)) (x .is ∙ sym (y .is)) in
-    let s : Holds current (drop rowHeadSize bytes) (r .table) = record { sound = x .table; is = ap (drop rowHeadSize) (x .is) } in
-    let t : Holds current (drop rowHeadSize bytes) (u .table) = record { sound = y .table; is = ap (drop rowHeadSize) (y .is) } in
-    let table = holds-one s t in
+    let q = head-one (r .mz) (r .intensity) (x .mz) (x .intensity) (x .rest) (u .mz) (u .intensity) (y .mz) (y .intensity) (y .rest) (x .is ∙ sym (y .is)) in
+    let rest : x .rest ≡ y .rest = ap (drop rowHeadSize) (x .is ∙ sym (y .is)) in
+    let table = takes-one (subst (λ (l : List ℕ). Takes l (r .table)) rest (x .table)) (y .table) in
     λ i. record { mz = q .0 i; intensity = q .1 i; table = table i }
 
 -- a line is not too long and short enough

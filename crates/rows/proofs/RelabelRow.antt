@@ -16,14 +16,15 @@ use Rattle.rules.specs.Fields.{Table, Says}
 use Rattle.rules.specs.Limits.{fits, maxLine}
 use Rattle.rules.specs.Preferred.{preferred}
 use Rattle.rules.specs.Stored.{stores, stored}
-use Rattle.rules.specs.Answers.{Answer, refuses, gives, Delivers, no-room, done, Sound, Reads, ReadsSpelling, ReadsRules, ReadsSum, Writes, no-table}
+use Rattle.rules.specs.Answers.{Answer, refuses, gives, Delivers, no-room, done, Sound, Reads, ReadsSpelling, ReadsForm, ReadsRules, ReadsSum, Writes, no-table}
 use Rattle.rules.specs.Largest.{maxTable}
 use Rattle.rules.specs.Editions.{current}
 use Rattle.rules.specs.Rows.{tab, Row, preferredRow, rowHeadSize, rowHead, storedRow}
 use Rattle.rules.specs.RowAnswers.{maxRow, Cut, at-tab, no-tab, GoodColumn, Moves, ReadsThird, line, ReadsIntensity, ReadsRow, long, HoldsRow, WritesRow}
 use Rattle.rules.proofs.Rises.{line-rises}
 use Rattle.rules.proofs.Totals.{in-none}
-use Rattle.rules.proofs.WritesOne.{holds-one}
+use Rattle.rules.proofs.WritesOne.{takes-one}
+use Rattle.rules.proofs.SoundEditions.{takes-current}
 use Rattle.put_bytes.specs.Puts.{maxPlace}
 use Rattle.scan_line.specs.Verdicts.{JudgedBy}
 use Rattle.scan_line.specs.Steps.{machineBytes, scannedBy}
@@ -52,18 +53,22 @@ use Rattle.rows.proofs.StrayRow.{columns, columns-length, columns-then}
 
 -- ---- 1 on reading is a line that is too long
 
-sum-not-long : {s : Spelling} {room : ℕ} {a : Answer} → ReadsSum s room a → a .number ≡ 1 → ⊥
+sum-not-long : {s : Spelling} {room : ℕ} {a : Answer} → ReadsSum current s room a → a .number ≡ 1 → ⊥
 sum-not-long (ReadsSum.excess p z) e = omega arith
 sum-not-long (ReadsSum.kept z t y (no-room h)) e = omega arith
 sum-not-long (ReadsSum.kept z t y (done h)) e = omega arith
 
-rules-not-long : {s : Spelling} {room : ℕ} {a : Answer} → ReadsRules s room a → a .number ≡ 1 → ⊥
+rules-not-long : {s : Spelling} {room : ℕ} {a : Answer} → ReadsRules current s room a → a .number ≡ 1 → ⊥
 rules-not-long (ReadsRules.breach p z) e = omega arith
 rules-not-long (ReadsRules.kept z r) e = sum-not-long r e
 
-spelling-not-long : (s : Spelling) {room : ℕ} {a : Answer} → ReadsSpelling s room a → a .number ≡ 1 → ⊥
+form-not-long : {s : Spelling} {room : ℕ} {a : Answer} → ReadsForm current s room a → a .number ≡ 1 → ⊥
+form-not-long (ReadsForm.foreign p z) e = omega arith
+form-not-long (ReadsForm.kept z r) e = rules-not-long r e
+
+spelling-not-long : (s : Spelling) {room : ℕ} {a : Answer} → ReadsSpelling current s room a → a .number ≡ 1 → ⊥
 spelling-not-long s (ReadsSpelling.limit m w) e = omega (arith, line-rises s .within m (w .is-in) (w .broken) .least)
-spelling-not-long s (ReadsSpelling.kept k r) e = rules-not-long r e
+spelling-not-long s (ReadsSpelling.kept k r) e = form-not-long r e
 
 misshapen-not-long : {line : List ℕ} {n p : ℕ} → Misshapen line n p → n ≡ 1 → ⊥
 misshapen-not-long (Misshapen.stray p x) e = omega arith
@@ -217,28 +222,28 @@ module _ (mz intensity : Decimal) (f : T (fits mz)) (g : T (fits intensity)) whe
   bare-text : preferredRow (meant []) ≡ decimalText mz ++ (tab ++ decimalText intensity)
   bare-text = ap (λ (l : List ℕ). decimalText mz ++ (tab ++ l)) (append-nil (decimalText intensity))
 
-  held : (t : Table) → Sound t → HoldsRow (storedRow (meant t)) (meant t)
-  held t s = record { mz = f; intensity = g; table = s; is = refl }
+  held : (t : Table) → Sound current t → HoldsRow (storedRow (meant t)) (meant t)
+  held t s = record { mz = f; intensity = g; rest = stored current t; table = takes-current t s refl; is = refl }
 
-  module _ (t : Table) (s : Sound t) (some : 0 < length (preferred t)) (front : List ℕ) (is : front ≡ columns mz intensity) (few : length front ≤ maxRow)
+  module _ (t : Table) (s : Sound current t) (some : 0 < length (preferred t)) (front : List ℕ) (is : front ≡ columns mz intensity) (few : length front ≤ maxRow)
       (n room : ℕ) (near : n ≤ maxLine) (small : room ≤ maxPlace) where
     line-written : {b : Answer} → Writes (stored current t) (room - length front) b → WritesRow (storedRow (meant t)) room (spelledOf front n room b)
     unfolding placeOf
-    line-written (no-table x) = absurd (x t (record { sound = s; is = refl }))
+    line-written (no-table x) = absurd (x t (takes-current t s refl))
     line-written (Writes.long u h l) =
         let e : placeOf 1 maxLine n (length front) ≡ maxLine = rw (le-ltb maxLine n near) in
         subst (WritesRow (storedRow (meant t)) room) (sym (spelled-refused front n room 1 maxLine (λ q. absurd (omega arith)) e))
-        (WritesRow.long (meant t) (held t s) (subst (λ (x : Table). maxLine < length (preferred x)) (holds-one h (record { sound = s; is = refl })) l))
+        (WritesRow.long (meant t) (held t s) (subst (λ (x : Table). maxLine < length (preferred x)) (takes-one h (takes-current t s refl)) l))
     line-written {b} (Writes.fits u h l d) =
-        let q = holds-one h (record { sound = s; is = refl }) in
+        let q = takes-one h (takes-current t s refl) in
         let m = subst (λ (x : Table). length (preferred x) ≤ maxLine) q l in
         WritesRow.fits (meant t) (held t s) m
         (subst (λ (x : List ℕ). Delivers room x (spelledOf front n room b)) (ap (λ (x : List ℕ). x ++ preferred t) is ∙ row-text t some)
         (line-delivered front n room (preferred t) some m few small (subst (λ (x : Table). Delivers (room - length front) (preferred x) b) q d)))
 
 -- no annotations, and a line without them
-no-table-sound : Sound []
-no-table-sound = record { spelling = []; says = none; limits = λ n i b. in-none i; rules = refl; sum = refl }
+no-table-sound : Sound current []
+no-table-sound = record { spelling = []; says = none; limits = λ n i b. in-none i; form = refl; rules = refl; sum = refl }
 
 said-none : {s : Spelling} → Each Says s [] → lineText s ≡ []
 said-none none = refl

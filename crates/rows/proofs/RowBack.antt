@@ -1,9 +1,9 @@
--- Back again: what was written reads to the very stored row; and what was read is what the row spells. Assumes nothing.
+-- Back again: what was written reads to the stored row of the current edition, the very bytes where they are of it; and what was read is what
+-- the row spells. Assumes nothing.
 use Prim.Native.Nat.{ℕ, _+_, _-_, _≤_}
 use mathlib.Core.Path.{_≡_, refl, sym, ap, ap₂, _∙_, subst}
 use mathlib.Core.List.{List, [], _∷_, _++_, append-assoc, append-nil}
 use native.Mathlib.Omega.{arith}
-use native.Mathlib.Nat.{le-refl}
 use lib.Dec.{T}
 use lib.ListN.{length, take, replicate, length-append}
 use Rattle.lang.specs.Parts.{silent, written, optText}
@@ -14,28 +14,20 @@ use Rattle.rules.specs.Limits.{fits, maxLine}
 use Rattle.rules.specs.Fields.{Table, Says}
 use Rattle.rules.specs.Preferred.{preferred}
 use Rattle.rules.specs.Stored.{stores, stored}
-use Rattle.rules.specs.Answers.{Answer, gives, Delivers, no-room, done, Sound, Holds, Reads, Writes}
+use Rattle.rules.specs.Answers.{Answer, gives, Delivers, no-room, done, Sound}
 use Rattle.rules.specs.Rows.{tab, thirdText, Row, SpellsRow, preferredThird, preferredRow, rowHeadSize, rowHead, storedRow}
 use Rattle.rules.specs.RowAnswers.{maxRow, lacks, at-tab, no-tab, Moves, ReadsThird, line, ReadsIntensity, ReadsRow, HoldsRow, WritesRow}
-use Rattle.rules.specs.Editions.{current}
+use Rattle.rules.specs.Editions.{Edition, current}
 use Rattle.rules.proofs.Rising.{decimal-some}
 use Rattle.shape.proofs.OneSpelling.{one-spelling}
 use Rattle.write_table.proofs.Holds.{take-given}
-use Rattle.lines.proofs.Back.{read-back}
+use Rattle.lines.proofs.Back.{reads-preferred}
 use Rattle.lines.proofs.Right.{reads-table}
 use Rattle.read_row.proofs.Cuts.{no-cut}
 use Rattle.read_row.proofs.Decimals.{decimal-lacks, decimal-short}
-use Rattle.rows.proofs.OneRow.{reads-row-one}
+use Rattle.rows.proofs.OneRow.{reads-row-one, holds-row-one}
 
 -- ---- reading what was written
-
--- the preferred line of a sound table, within its bound, reads to the table
-reads-line : (t : Table) → Sound t → length (preferred t) ≤ maxLine → (room : ℕ) → length (stored current t) ≤ room → Reads (preferred t) room (gives room (stored current t))
-reads-line t s l room h =
-    let w = preferred t in
-    let holds : Holds current (stored current t) t = record { sound = s; is = refl } in
-    subst (λ (x : List ℕ). Reads x room (gives room (stored current t))) (take-given (length w) w)
-    (read-back (Writes.fits t holds l (done (le-refl (length w)))) refl room h)
 
 -- a table behind its head, and zeros behind both
 headed : (head table : List ℕ) (room : ℕ) → length head ≡ rowHeadSize
@@ -59,13 +51,13 @@ preferred-row-short r f g l =
     let x = optText thirdText (preferredThird (r .table)) in
     omega (arith, length-append v (tab ++ (w ++ x)), length-append w x, decimal-short (r .mz) f, decimal-short (r .intensity) g, third-length (r .table) l)
 
-module _ (r : Row) (f : T (fits (r .mz))) (g : T (fits (r .intensity))) (s : Sound (r .table)) (l : length (preferred (r .table)) ≤ maxLine)
+module _ (r : Row) (f : T (fits (r .mz))) (g : T (fits (r .intensity))) (s : Sound current (r .table)) (l : length (preferred (r .table)) ≤ maxLine)
     (room : ℕ) (h : length (storedRow r) ≤ room) where
   pub third-read : (at : ℕ) → ReadsThird (r .mz) (r .intensity) (preferred (r .table)) at room (gives room (storedRow r))
   third-read at =
       let head = stores (rowHead (r .mz) (r .intensity)) in
       subst (ReadsThird (r .mz) (r .intensity) (preferred (r .table)) at room) (headed head (stored current (r .table)) room refl)
-      (line (reads-line (r .table) s l (room - rowHeadSize) (omega (arith, length-append head (stored current (r .table))))) (Moves.done refl))
+      (line (reads-preferred (r .table) s l (room - rowHeadSize) (omega (arith, length-append head (stored current (r .table))))) (Moves.done refl))
 
   intensity-read : (t : Table) → r .table ≡ t → (at : ℕ)
       → ReadsIntensity (r .mz) (decimalText (r .intensity) ++ optText thirdText (preferredThird t)) at room (gives room (storedRow r))
@@ -103,17 +95,24 @@ wrote (WritesRow.no-row n) e = absurd (omega arith)
 wrote (WritesRow.long r h l) e = absurd (omega arith)
 wrote (WritesRow.fits r h l d) e = record { row = r; holds = h; short = l; is = delivered-row r d e }
 
-pub read-back-row : {bytes : List ℕ} {room : ℕ} {a : Answer} → WritesRow bytes room a → a .number ≡ 0 → (room′ : ℕ) → length bytes ≤ room′
-    → ReadsRow (take (a .size) (a .out)) room′ (gives room′ bytes)
-read-back-row {bytes} {a = a} w e room′ g =
+-- the stored row, of the current edition, of the row that was written
+pub read-back-row : {bytes : List ℕ} {r : Row} {room : ℕ} {a : Answer} → WritesRow bytes room a → a .number ≡ 0 → HoldsRow bytes r → (room′ : ℕ) → length (storedRow r) ≤ room′
+    → ReadsRow (take (a .size) (a .out)) room′ (gives room′ (storedRow r))
+read-back-row {r = r} {a = a} w e h room′ g =
     let x = wrote w e in
-    let h = x .holds in
-    let q = row-read (x .row) (h .mz) (h .intensity) (h .table) (x .short) room′ (omega (arith, ap length (h .is))) in
-    subst (λ (y : List ℕ). ReadsRow y room′ (gives room′ bytes)) (sym (x .is)) (subst (λ (y : List ℕ). ReadsRow (preferredRow (x .row)) room′ (gives room′ y)) (h .is) q)
+    let one = holds-row-one (x .holds) h in
+    let short : length (preferred (r .table)) ≤ maxLine = subst (λ (u : Row). length (preferred (u .table)) ≤ maxLine) one (x .short) in
+    subst (λ (y : List ℕ). ReadsRow y room′ (gives room′ (storedRow r))) (sym (x .is ∙ ap preferredRow one))
+    (row-read r (h .mz) (h .intensity) (h .table .also) short room′ g)
 
-pub read-back-row-one : {bytes : List ℕ} {room room′ : ℕ} {a b : Answer} → WritesRow bytes room a → a .number ≡ 0 → length bytes ≤ room′
-    → ReadsRow (take (a .size) (a .out)) room′ b → b ≡ gives room′ bytes
-read-back-row-one {room′ = room′} w e g r = reads-row-one r (read-back-row w e room′ g)
+pub read-back-row-one : {bytes : List ℕ} {r : Row} {room room′ : ℕ} {a b : Answer} → WritesRow bytes room a → a .number ≡ 0 → HoldsRow bytes r → length (storedRow r) ≤ room′
+    → ReadsRow (take (a .size) (a .out)) room′ b → b ≡ gives room′ (storedRow r)
+read-back-row-one {room′ = room′} w e h g r = reads-row-one r (read-back-row w e h room′ g)
+
+-- of bytes of the current edition these are the bytes
+pub current-row : {bytes : List ℕ} {r : Row} (h : HoldsRow bytes r) → h .table .edition ≡ current → storedRow r ≡ bytes
+current-row {r = r} h e =
+    ap (λ (l : List ℕ). stores (rowHead (r .mz) (r .intensity)) ++ l) (ap (λ (d : Edition). stored d (r .table)) (sym e) ∙ h .table .holds .is) ∙ h .is
 
 -- ---- what was read
 

@@ -8,7 +8,7 @@ use Rattle.rules.specs.Largest.{maxTable}
 use Rattle.rules.specs.Rows.{rowHeadSize}
 use Rattle.rules.specs.RowAnswers.{ReadsRow, WritesRow}
 
--- of the stored row of a row that is read: 21,360 bytes
+-- of the stored row of a row that is read: 21,392 bytes
 abbrev pub maxStoredRow : ℕ
 maxStoredRow = rowHeadSize + maxTable
 

@@ -24,6 +24,7 @@ use Rattle.rules.specs.Limits.{maxAnnotations, maxLosses, maxIsotopes, m
 use Rattle.rules.specs.Limits.{bare, part, optPart, closedPart, rowMarks, rowPart}
 use Rattle.rules.specs.Limits.{unitMarks, formulaPart, ionParts, lostPart, lossParts, lossMarks, specificMarks, isotopesMarks, addedPart, itemParts, itemMarks, adductMarks}
 use Rattle.rules.specs.Limits.{annotationParts, annotationMarks, nextMarks, lineMarks}
+use Rattle.rules.specs.Editions.{Edition}
 use Rattle.rules.specs.Answers.{Sound}
 use Rattle.rules.specs.Stored.{bytesOf, ionFields, lostUnits, lostName, specificRecord, isotopeRecords, addedUnits}
 use Rattle.rules.specs.Layout.{unitWidth}
@@ -196,10 +197,10 @@ line-each (a ∷ more) k b (later i) =
 pub line-bounded : (s : Spelling) → Kept (lineMarks s) → (a : SpelledAnnotation) → In a s → Bounded (filledAnnotation a)
 line-bounded s k a i = let c = line-each s k a i in kept-bounded (c .0) a (c .1) (c .2)
 
-pub table-few : (t : Table) → Sound t → length t ≤ maxAnnotations
+pub table-few : {e : Edition} (t : Table) → Sound e t → length t ≤ maxAnnotations
 table-few t s = subst (λ (n : ℕ). n ≤ maxAnnotations) (each-length (s .says)) (line-few (s .spelling) (s .limits))
 
-pub table-bounded : (t : Table) → Sound t → (a : TableAnnotation) → In a t → Bounded a
+pub table-bounded : {e : Edition} (t : Table) → Sound e t → (a : TableAnnotation) → In a t → Bounded a
 table-bounded t s a i =
     let c = each-in (s .says) a i in
     same-bounded (c .2 .fields) (line-bounded (s .spelling) (s .limits) (c .0) (c .1))

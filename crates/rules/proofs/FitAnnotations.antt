@@ -5,12 +5,13 @@ use mathlib.Core.Bool.{Bool, true, false, not, _&&_}
 use mathlib.Core.List.{List, [], _∷_}
 use native.Mathlib.Omega.{arith}
 use lib.Dec.{T, leb}
+use lib.ListN.{length}
 use Rattle.lang.specs.Parts.{Opt, silent, written}
 use Rattle.lang.specs.Mark.{In, here, later, Kept, marksOf}
 use Rattle.lang.proofs.Deriv.{and-0, and-1}
 use Rattle.rules.specs.Bytes.{bytes}
 use Rattle.rules.specs.Numbers.{From, Number}
-use Rattle.rules.specs.Ions.{ionText}
+use Rattle.rules.specs.Ions.{ionText, Ion, series, internal, immonium, precursor, reference, named, composed, smiles, unknown}
 use Rattle.rules.specs.Losses.{Loss, lossText, lossMap}
 use Rattle.rules.specs.Isotopes.{Isotopes, isotopesText}
 use Rattle.rules.specs.Adducts.{Item, itemText, adductText, itemMap}
@@ -19,16 +20,18 @@ use Rattle.rules.specs.Lines.{Spelling}
 use Rattle.rules.specs.Fields.{filledAnnotation, Table, filled, SameFields}
 use Rattle.rules.specs.Limits.{maxPosition, maxCharge, bare, part, optPart, rowPart, ionParts}
 use Rattle.rules.specs.Limits.{lossMarks, isotopesMarks, itemMarks, adductMarks, analytePart, chargePart, deviationPart, confidencePart, annotationParts, annotationMarks}
-use Rattle.rules.specs.House.{isEmpty, ionRule, deviationRule, share, one, annotationRules, firstBreach}
+use Rattle.rules.specs.House.{isEmpty, ionRule, deviationRule, share, one, commonRules, longEnough, annotationRules, firstFailing}
 use Rattle.rules.specs.Preferred.{countOr1}
-use Rattle.rules.specs.Stored.{Field, present, valueOr0, isotopeRecords, annotationRecord}
+use Rattle.rules.specs.Stored.{Field, present, valueOr0, isotopeRecords, ionFields, residueCount, commonFields, addedFields, annotationRecord}
 use Rattle.rules.specs.Answers.{Sound}
-use Rattle.rules.specs.Layout.{isotopeWidths, annotationWidths}
+use Rattle.rules.specs.Editions.{Edition, ed1, ed2}
+use Rattle.rules.specs.Layout.{isotopeWidths, commonWidths, addedWidths, annotationWidths}
+use Rattle.rules.proofs.Residues.{residues-few}
 use Rattle.rules.proofs.OneAnswer.{written-not-silent}
 use Rattle.rules.proofs.Totals.{in-map, perm-in}
 use Rattle.rules.proofs.Keeps.{kept-tail, kept-part, not-past, row-each}
 use Rattle.rules.proofs.Bounds.{Bounded, each-in, line-each}
-use Rattle.rules.proofs.OneRecord.{Fits}
+use Rattle.rules.proofs.OneRecord.{Fits, fits-both}
 use Rattle.rules.proofs.FitDecimals.{flag-small, DeviationFits, deviation-fits, ConfidenceFits, confidence-fits}
 use Rattle.rules.proofs.FitParts.{LossFits, loss-fits, isotopes-fit, ItemFits, item-fits}
 use Rattle.rules.proofs.FitIons.{IonFits, ion-fits}
@@ -53,7 +56,7 @@ pub record InRange (a : TableAnnotation) : Type 0 where
   pub deviation : DeviationFits (a .deviation)
   pub confidence : ConfidenceFits (a .confidence)
 
-kept-in-range : (i : ℕ) (a : SpelledAnnotation) (at : ℕ) → Kept (annotationMarks i a at) → T (annotationRules a) → InRange (filledAnnotation a)
+kept-in-range : (i : ℕ) (a : SpelledAnnotation) (at : ℕ) → Kept (annotationMarks i a at) → T (commonRules a) → InRange (filledAnnotation a)
 kept-in-range i a at k t =
     let h : Kept (marksOf at (annotationParts a)) = kept-tail k in
     let keep = kept-part at (annotationParts a) h in
@@ -106,16 +109,16 @@ pub passed : (x : Bool) (more : Opt ℕ) (at : ℕ) → _≡_ {A = Opt ℕ} (eli
 passed true more at e = (tt, e)
 passed false more at e = absurd (written-not-silent (written at) refl e)
 
--- where no annotation of a line is the first that breaks a rule, each keeps the rules
-rules-each : (at : ℕ) (s : Spelling) → firstBreach at s ≡ silent → (a : SpelledAnnotation) → In a s → T (annotationRules a)
-rules-each at (a ∷ s) e b here = passed (annotationRules a) (firstBreach _ s) at e .0
-rules-each at (a ∷ s) e b (later i) = rules-each _ s (passed (annotationRules a) (firstBreach _ s) at e .1) b i
+-- where no annotation of a line is the first that fails a test, each passes it
+pub passes-each : (test : SpelledAnnotation → Bool) (at : ℕ) (s : Spelling) → firstFailing test at s ≡ silent → (a : SpelledAnnotation) → In a s → T (test a)
+passes-each test at (a ∷ s) e b here = passed (test a) (firstFailing test _ s) at e .0
+passes-each test at (a ∷ s) e b (later i) = passes-each test _ s (passed (test a) (firstFailing test _ s) at e .1) b i
 
-pub table-in-range : (t : Table) → Sound t → (a : TableAnnotation) → In a t → InRange a
-table-in-range t s a i =
+pub table-in-range : {e : Edition} (t : Table) → Sound e t → (a : TableAnnotation) → In a t → InRange a
+table-in-range {e} t s a i =
     let c = each-in (s .says) a i in
     let k = line-each (s .spelling) (s .limits) (c .0) (c .1) in
-    same-in-range (c .2 .fields) (kept-in-range (k .0) (c .0) (k .1) (k .2) (rules-each 0 (s .spelling) (s .rules) (c .0) (c .1)))
+    same-in-range (c .2 .fields) (kept-in-range (k .0) (c .0) (k .1) (k .2) (and-0 (commonRules (c .0)) (longEnough e (c .0 .ion)) (passes-each (annotationRules e) 0 (s .spelling) (s .rules) (c .0) (c .1))))
 
 -- ---- the record of an annotation
 
@@ -123,8 +126,8 @@ present-small : {A : Type 0} (x : Opt A) → present x ≤ 1
 present-small silent = omega arith
 present-small (written x) = omega arith
 
-pub annotation-fits : (a : TableAnnotation) → Bounded a → InRange a → Fits annotationWidths (annotationRecord a)
-annotation-fits a b r =
+common-fits : (a : TableAnnotation) → Bounded a → InRange a → Fits commonWidths (commonFields a)
+common-fits a b r =
     omega (
       arith,
       flag-small (a .marked),
@@ -147,3 +150,24 @@ annotation-fits a b r =
       b .isotopes,
       b .adduct,
     )
+
+-- no more residues than bytes of text
+count-few : (x : Ion Number) → residueCount x ≤ length (ionFields x .text)
+count-few (series s n silent) = omega arith
+count-few (series s n (written t)) = residues-few (t .bytes)
+count-few (internal m n silent) = omega arith
+count-few (internal m n (written t)) = residues-few (t .bytes)
+count-few (immonium a m) = omega arith
+count-few precursor = omega arith
+count-few (reference n) = omega arith
+count-few (named t) = omega arith
+count-few (composed f) = omega arith
+count-few (smiles t) = omega arith
+count-few (unknown n) = omega arith
+
+added-fits : (e : Edition) (a : TableAnnotation) → Bounded a → Fits (addedWidths e) (addedFields e a)
+added-fits ed1 a b = tt
+added-fits ed2 a b = (refl, omega (arith, count-few (a .ion), b .ion .short), tt)
+
+pub annotation-fits : (e : Edition) (a : TableAnnotation) → Bounded a → InRange a → Fits (annotationWidths e) (annotationRecord e a)
+annotation-fits e a b r = fits-both commonWidths (addedWidths e) (commonFields a) (addedFields e a) (common-fits a b r) (added-fits e a b)

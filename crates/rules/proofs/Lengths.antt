@@ -14,10 +14,10 @@ use Rattle.rules.specs.Adducts.{Item}
 use Rattle.rules.specs.Annotations.{TableAnnotation}
 use Rattle.rules.specs.Fields.{Table}
 use Rattle.rules.specs.Stored.{little, Field, stores, unitRecord, lossRecord}
-use Rattle.rules.specs.Stored.{isotopeRecord, specificRecord, isotopeRecords, itemRecord, annotationRecord}
+use Rattle.rules.specs.Stored.{isotopeRecord, specificRecord, isotopeRecords, itemRecord, commonFields, annotationRecord}
 use Rattle.rules.specs.Stored.{annotationUnits, annotationTexts, section, sections, headerSize, counts, body, header, stored}
-use Rattle.rules.specs.Layout.{annotationWidth, lossWidth, isotopeWidth, itemWidth, unitWidth}
-use Rattle.rules.specs.Editions.{Edition}
+use Rattle.rules.specs.Layout.{commonWidth, addedWidth, annotationWidth, lossWidth, isotopeWidth, itemWidth, unitWidth}
+use Rattle.rules.specs.Editions.{Edition, ed1, ed2}
 use Rattle.rules.proofs.Totals.{total, length-flat, length-flat-each, in-none, in-map, in-flat}
 
 -- ---- records
@@ -52,8 +52,12 @@ each-isotope (specific-isotopes xs) fs i = in-map specificRecord (λ fs. length 
 pub item-length : (x : Item Number) → length (stores (itemRecord x)) ≡ itemWidth
 item-length x = refl
 
-pub annotation-length : (a : TableAnnotation) → length (stores (annotationRecord a)) ≡ annotationWidth
-annotation-length a = refl
+pub common-length : (a : TableAnnotation) → length (stores (commonFields a)) ≡ commonWidth
+common-length a = refl
+
+pub annotation-length : (e : Edition) (a : TableAnnotation) → length (stores (annotationRecord e a)) ≡ annotationWidth e
+annotation-length ed1 a = refl
+annotation-length ed2 a = refl
 
 pub header-length : (e : Edition) (t : Table) → length (stores (header e t)) ≡ headerSize
 header-length e t = refl
@@ -80,8 +84,33 @@ unitsOf t = flat annotationUnits t
 abbrev pub textsOf : Table → List ℕ
 textsOf t = flat annotationTexts t
 
-pub annotations-length : (t : Table) → length (section annotationRecord t .bytes) ≡ annotationWidth * length t
-annotations-length t = section-length annotationRecord annotationWidth t (λ a i. annotation-length a)
+-- what an edition adds to the annotations of a table: a number by itself, so that sums stay linear
+unfoldable pub addedTo : Edition → Table → ℕ
+addedTo e t = addedWidth e * length t
+
+pub added-none : (e : Edition) → addedTo e [] ≡ 0
+unfolding addedTo
+added-none ed1 = refl
+added-none ed2 = refl
+
+pub added-next : (e : Edition) (a : TableAnnotation) (t : Table) → addedTo e (a ∷ t) ≡ addedWidth e + addedTo e t
+unfolding addedTo
+added-next ed1 a t = omega arith
+added-next ed2 a t = omega arith
+
+pub added-is : (e : Edition) (t : Table) → addedTo e t ≡ addedWidth e * length t
+unfolding addedTo
+added-is e t = refl
+
+-- it goes by how many there are
+pub added-same : (e : Edition) (t u : Table) → length t ≡ length u → addedTo e t ≡ addedTo e u
+unfolding addedTo
+added-same e t u h = ap (λ (n : ℕ). addedWidth e * n) h
+
+pub annotations-length : (e : Edition) (t : Table) → length (section (annotationRecord e) t .bytes) ≡ commonWidth * length t + addedTo e t
+unfolding addedTo
+annotations-length ed1 t = section-length (annotationRecord ed1) (annotationWidth ed1) t (λ a i. annotation-length ed1 a) ∙ omega arith
+annotations-length ed2 t = section-length (annotationRecord ed2) (annotationWidth ed2) t (λ a i. annotation-length ed2 a) ∙ omega arith
 
 pub losses-length : (t : Table) → length (section lossRecord (lossesOf t) .bytes) ≡ lossWidth * length (lossesOf t)
 losses-length t = section-length lossRecord lossWidth (lossesOf t) (λ l i. loss-length l)
@@ -98,33 +127,34 @@ pub units-length : (t : Table) → length (section unitRecord (unitsOf t) .bytes
 units-length t = section-length unitRecord unitWidth (unitsOf t) (λ u i. unit-length u)
 
 -- the bytes after the header
-abbrev pub bodySize : Table → ℕ
-bodySize t =
-    annotationWidth * length t
+abbrev pub bodySize : Edition → Table → ℕ
+bodySize e t =
+    commonWidth * length t + addedTo e t
     + (lossWidth * length (lossesOf t) + (isotopeWidth * length (isotopesOf t)
     + (itemWidth * length (itemsOf t) + (unitWidth * length (unitsOf t) + length (textsOf t)))))
 
-pub body-length : (t : Table) → length (body t) ≡ bodySize t
-body-length t =
-    omega (arith, length-flat (λ s. s .bytes) (sections t), annotations-length t, losses-length t, isotopes-length t, items-length t, units-length t)
+pub body-length : (e : Edition) (t : Table) → length (body e t) ≡ bodySize e t
+body-length e t =
+    omega (arith, length-flat (λ s. s .bytes) (sections e t), annotations-length e t, losses-length t, isotopes-length t, items-length t, units-length t)
 
-pub stored-length : (e : Edition) (t : Table) → length (stored e t) ≡ headerSize + bodySize t
-stored-length e t = omega (arith, body-length t)
+pub stored-length : (e : Edition) (t : Table) → length (stored e t) ≡ headerSize + bodySize e t
+stored-length e t = omega (arith, body-length e t)
 
 -- ---- the whole, annotation by annotation
 
 -- the bytes of the table that are an annotation's
-abbrev pub weight : TableAnnotation → ℕ
-weight a =
-    annotationWidth + (lossWidth * length (a .losses) + (isotopeWidth * length (isotopeRecords (a .isotopes))
+abbrev pub weight : Edition → TableAnnotation → ℕ
+weight e a =
+    commonWidth + addedWidth e + (lossWidth * length (a .losses) + (isotopeWidth * length (isotopeRecords (a .isotopes))
     + (itemWidth * length (a .adduct) + (unitWidth * length (annotationUnits a) + length (annotationTexts a)))))
 
-pub body-weight : (t : Table) → bodySize t ≡ total weight t
-body-weight [] = refl
-body-weight (a ∷ t) =
+pub body-weight : (e : Edition) (t : Table) → bodySize e t ≡ total (weight e) t
+body-weight e [] = omega (arith, added-none e)
+body-weight e (a ∷ t) =
     omega (
       arith,
-      body-weight t,
+      body-weight e t,
+      added-next e a t,
       length-append (a .losses) (lossesOf t),
       length-append (isotopeRecords (a .isotopes)) (isotopesOf t),
       length-append (a .adduct) (itemsOf t),
@@ -132,5 +162,5 @@ body-weight (a ∷ t) =
       length-append (annotationTexts a) (textsOf t),
     )
 
-pub stored-weight : (e : Edition) (t : Table) → length (stored e t) ≡ headerSize + total weight t
-stored-weight e t = stored-length e t ∙ ap (λ (n : ℕ). headerSize + n) (body-weight t)
+pub stored-weight : (e : Edition) (t : Table) → length (stored e t) ≡ headerSize + total (weight e) t
+stored-weight e t = stored-length e t ∙ ap (λ (n : ℕ). headerSize + n) (body-weight e t)

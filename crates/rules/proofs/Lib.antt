@@ -37,4 +37,7 @@ pub mod OneAnnotation
 pub mod FitAnnotations
 pub mod OneStored
 pub mod WritesOne
+pub mod Residues
+pub mod Sequences
+pub mod SoundEditions
 pub mod worked

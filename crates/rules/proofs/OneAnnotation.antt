@@ -12,6 +12,7 @@ use Rattle.rules.specs.Decimals.{Decimal}
 use Rattle.rules.specs.Annotations.{TableAnnotation, Deviation}
 use Rattle.rules.specs.Fields.{Table}
 use Rattle.rules.specs.Stored.{present, valueOr0, ionFields, lostUnits, lostName, lossRecord, isotopeRecords, addedUnits, itemRecord}
+use Rattle.rules.specs.Editions.{Edition}
 use Rattle.rules.specs.Stored.{deviationKind, signed, annotationRecord}
 use Rattle.rules.specs.Limits.{maxDigits}
 use Rattle.rules.proofs.Keys.{count-one}
@@ -74,9 +75,9 @@ texts-along : (a : TableAnnotation) (t : Table) → textsOf (a ∷ t) ≡ ionFie
 texts-along a t = append-assoc (ionFields (a .ion) .text) (flat (λ l. lostName (l .what)) (a .losses)) (textsOf t)
 
 -- the numbers below are places of fields in the record
-annotation-one : (a b : TableAnnotation) (t u : Table) → sizeOf (a .deviation) < 10 ^ maxDigits → sizeOf (b .deviation) < 10 ^ maxDigits
-    → annotationRecord a ≡ annotationRecord b → SameParts (a ∷ t) (b ∷ u) → (a ≡ b) × SameParts t u
-annotation-one a b t u h g e p =
+annotation-one : (d : Edition) (a b : TableAnnotation) (t u : Table) → sizeOf (a .deviation) < 10 ^ maxDigits → sizeOf (b .deviation) < 10 ^ maxDigits
+    → annotationRecord d a ≡ annotationRecord d b → SameParts (a ∷ t) (b ∷ u) → (a ≡ b) × SameParts t u
+annotation-one d a b t u h g e p =
     let ls = cut-map lossRecord (a .losses) (lossesOf t) (b .losses) (lossesOf u) (ap (valueAt 17) e) (p .losses) in
     let is = cut (isotopeRecords (a .isotopes)) (isotopeRecords (b .isotopes)) (ap (valueAt 18) e) (p .isotopes) in
     let xs = cut-map itemRecord (a .adduct) (itemsOf t) (b .adduct) (itemsOf u) (ap (valueAt 19) e) (p .items) in
@@ -104,12 +105,12 @@ annotation-one a b t u h g e p =
     } in
     (one, record { losses = ls .1; isotopes = is .1; items = xs .1; units = x .1; texts = l .2 })
 
-pub table-one : (t u : Table) → ((a : TableAnnotation) → In a t → sizeOf (a .deviation) < 10 ^ maxDigits)
+pub table-one : (d : Edition) (t u : Table) → ((a : TableAnnotation) → In a t → sizeOf (a .deviation) < 10 ^ maxDigits)
     → ((a : TableAnnotation) → In a u → sizeOf (a .deviation) < 10 ^ maxDigits)
-    → map annotationRecord t ≡ map annotationRecord u → SameParts t u → t ≡ u
-table-one [] [] h g e p = refl
-table-one [] (b ∷ u) h g e p = absurd (nil≢cons e)
-table-one (a ∷ t) [] h g e p = absurd (cons≢nil e)
-table-one (a ∷ t) (b ∷ u) h g e p =
-    let c = annotation-one a b t u (h a here) (g b here) (head-eq-of-cons-eq e) p in
-    ap₂ _∷_ (c .0) (table-one t u (λ x i. h x (later i)) (λ x i. g x (later i)) (tail-eq-of-cons-eq e) (c .1))
+    → map (annotationRecord d) t ≡ map (annotationRecord d) u → SameParts t u → t ≡ u
+table-one d [] [] h g e p = refl
+table-one d [] (b ∷ u) h g e p = absurd (nil≢cons e)
+table-one d (a ∷ t) [] h g e p = absurd (cons≢nil e)
+table-one d (a ∷ t) (b ∷ u) h g e p =
+    let c = annotation-one d a b t u (h a here) (g b here) (head-eq-of-cons-eq e) p in
+    ap₂ _∷_ (c .0) (table-one d t u (λ x i. h x (later i)) (λ x i. g x (later i)) (tail-eq-of-cons-eq e) (c .1))

@@ -9,8 +9,8 @@ use Rattle.lang.proofs.Winner.{wins-one, wins-not-kept}
 use Rattle.rules.specs.Lines.{Spelling, lineText}
 use Rattle.rules.specs.Fields.{Table}
 use Rattle.rules.specs.Stored.{stored}
-use Rattle.rules.specs.Answers.{Answer, refuses, Delivers, no-room, done, ReadsSum, excess, ReadsRules, breach, ReadsSpelling, limit, Reads, long, misshapen, spelled}
-use Rattle.rules.specs.Editions.{current}
+use Rattle.rules.specs.Answers.{Answer, refuses, Delivers, no-room, done, ReadsSum, excess, ReadsRules, breach, ReadsForm, foreign, ReadsSpelling, limit, Reads, long, misshapen, spelled}
+use Rattle.rules.specs.Editions.{Edition, current}
 use Rattle.rules.proofs.OneShape.{misshapen-no-shape, misshapen-one}
 use Rattle.rules.proofs.OneTable.{one-table}
 
@@ -36,24 +36,30 @@ delivers-one (done h) (no-room g) = absurd (omega arith)
 delivers-one (done h) (done g) = refl
 
 module _ (one-spelling : (s u : Spelling) → lineText s ≡ lineText u → s ≡ u) where
-  sum-one : {s : Spelling} {room : ℕ} {a b : Answer} → ReadsSum s room a → ReadsSum s room b → a ≡ b
+  sum-one : {edition : Edition} {s : Spelling} {room : ℕ} {a b : Answer} → ReadsSum edition s room a → ReadsSum edition s room b → a ≡ b
   sum-one {room = room} (excess j p) (excess k q) = ap (refuses room 7) (written-one _ p q)
   sum-one (excess j p) (ReadsSum.kept q t e d) = absurd (written-not-silent _ p q)
   sum-one (ReadsSum.kept p t e d) (excess k q) = absurd (written-not-silent _ q p)
-  sum-one {room = room} {b = b} (ReadsSum.kept p t e d) (ReadsSum.kept q u f c) =
-      delivers-one d (subst (λ (x : Table). Delivers room (stored current x) b) (one-table one-spelling f e) c)
+  sum-one {edition} {room = room} {b = b} (ReadsSum.kept p t e d) (ReadsSum.kept q u f c) =
+      delivers-one d (subst (λ (x : Table). Delivers room (stored edition x) b) (one-table one-spelling f e) c)
 
-  rules-one : {s : Spelling} {room : ℕ} {a b : Answer} → ReadsRules s room a → ReadsRules s room b → a ≡ b
+  rules-one : {e : Edition} {s : Spelling} {room : ℕ} {a b : Answer} → ReadsRules e s room a → ReadsRules e s room b → a ≡ b
   rules-one {room = room} (breach j p) (breach k q) = ap (refuses room 6) (written-one _ p q)
   rules-one (breach j p) (ReadsRules.kept q y) = absurd (written-not-silent _ p q)
   rules-one (ReadsRules.kept p x) (breach k q) = absurd (written-not-silent _ q p)
   rules-one (ReadsRules.kept p x) (ReadsRules.kept q y) = sum-one x y
 
-  spelling-one : {s : Spelling} {room : ℕ} {a b : Answer} → ReadsSpelling s room a → ReadsSpelling s room b → a ≡ b
+  pub form-one : {e : Edition} {s : Spelling} {room : ℕ} {a b : Answer} → ReadsForm e s room a → ReadsForm e s room b → a ≡ b
+  form-one {room = room} (foreign j p) (foreign k q) = ap (refuses room 11) (written-one _ p q)
+  form-one (foreign j p) (ReadsForm.kept q y) = absurd (written-not-silent _ p q)
+  form-one (ReadsForm.kept p x) (foreign k q) = absurd (written-not-silent _ q p)
+  form-one (ReadsForm.kept p x) (ReadsForm.kept q y) = rules-one x y
+
+  spelling-one : {e : Edition} {s : Spelling} {room : ℕ} {a b : Answer} → ReadsSpelling e s room a → ReadsSpelling e s room b → a ≡ b
   spelling-one {room = room} (limit m w) (limit n v) = let e = wins-one w v in ap₂ (refuses room) (e .1) (e .0)
   spelling-one (limit m w) (ReadsSpelling.kept k y) = absurd (wins-not-kept w k)
   spelling-one (ReadsSpelling.kept k x) (limit n v) = absurd (wins-not-kept v k)
-  spelling-one (ReadsSpelling.kept k x) (ReadsSpelling.kept l y) = rules-one x y
+  spelling-one (ReadsSpelling.kept k x) (ReadsSpelling.kept l y) = form-one x y
 
   pub reads-one : {line : List ℕ} {room : ℕ} {a b : Answer} → Reads line room a → Reads line room b → a ≡ b
   reads-one (long h) (long g) = refl
@@ -65,4 +71,4 @@ module _ (one-spelling : (s u : Spelling) → lineText s ≡ lineText u → s �
   reads-one (spelled h s e x) (long g) = absurd (omega arith)
   reads-one (spelled h s e x) (misshapen g y) = absurd (misshapen-no-shape y (s, e))
   reads-one {room = room} {b = b} (spelled h s e x) (spelled g u f y) =
-      spelling-one x (subst (λ (z : Spelling). ReadsSpelling z room b) (one-spelling u s (f ∙ sym e)) y)
+      spelling-one x (subst (λ (z : Spelling). ReadsSpelling current z room b) (one-spelling u s (f ∙ sym e)) y)

@@ -1,7 +1,7 @@
 -- The bytes of records tell the values in their fields, if each value fits its field. Once for all widths. Assumes nothing.
 use Prim.Native.Nat.{ℕ, zero, suc, _+_, _/_, _%_, _^_, _<_}
 use mathlib.Core.Path.{_≡_, refl, sym, ap, ap₂, _∙_}
-use mathlib.Core.List.{List, [], _∷_, map, head-eq-of-cons-eq, tail-eq-of-cons-eq}
+use mathlib.Core.List.{List, [], _∷_, _++_, map, head-eq-of-cons-eq, tail-eq-of-cons-eq}
 use native.Mathlib.Omega.{arith}
 use native.Mathlib.Nat.{pow-succ'}
 use lib.ListN.{length, length-append}
@@ -25,6 +25,13 @@ Fits [] [] = Unit {0}
 Fits [] (f ∷ fs) = ⊥
 Fits (w ∷ ws) [] = ⊥
 Fits (w ∷ ws) (f ∷ fs) = (f .width ≡ w) × (f .value < 256 ^ w) × Fits ws fs
+
+-- fields of two records one behind the other
+pub fits-both : (ws vs : List ℕ) (fs gs : List Field) → Fits ws fs → Fits vs gs → Fits (ws ++ vs) (fs ++ gs)
+fits-both [] vs [] gs h g = g
+fits-both [] vs (f ∷ fs) gs h g = absurd h
+fits-both (w ∷ ws) vs [] gs h g = absurd h
+fits-both (w ∷ ws) vs (f ∷ fs) gs h g = (h .0, h .1, fits-both ws vs fs gs (h .2) g)
 
 -- the bytes of fields of these widths
 abbrev pub size : List ℕ → ℕ

@@ -3,7 +3,7 @@ use Prim.Native.Nat.{ℕ, _+_, _≤_}
 use mathlib.Core.Path.{_≡_, refl, ap}
 use mathlib.Core.List.{List, [], _∷_, _++_}
 use native.Mathlib.Omega.{arith}
-use lib.ListN.{length}
+use lib.ListN.{length, getD}
 use Rattle.lang.specs.Parts.{flat}
 use Rattle.lang.specs.Mark.{In, here, later}
 use Rattle.rules.specs.Numbers.{Number}
@@ -17,10 +17,10 @@ use Rattle.rules.specs.Stored.{annotationRecord, annotationUnits, Sectio
 use Rattle.rules.specs.Answers.{Sound}
 use Rattle.rules.specs.Layout.{unitWidths, lossWidths, isotopeWidths, itemWidths, annotationWidths}
 use Rattle.rules.specs.Largest.{maxAnyTable}
-use Rattle.rules.specs.Editions.{Edition}
+use Rattle.rules.specs.Editions.{Edition, ed1, ed2}
 use Rattle.rules.proofs.Totals.{in-append, in-flat}
 use Rattle.rules.proofs.Bounds.{table-bounded}
-use Rattle.rules.proofs.Lengths.{lossesOf, isotopesOf, itemsOf, unitsOf, textsOf, annotations-length, losses-length, isotopes-length, items-length, units-length}
+use Rattle.rules.proofs.Lengths.{lossesOf, isotopesOf, itemsOf, unitsOf, textsOf, annotations-length, added-same, losses-length, isotopes-length, items-length, units-length}
 use Rattle.rules.proofs.Sizes.{header-fits}
 use Rattle.rules.proofs.Cuts.{cut, map-one}
 use Rattle.rules.proofs.OneRecord.{Fits, stores-one, records-one}
@@ -42,19 +42,19 @@ counts-fit at (s ∷ ss) h =
     let rest = counts-fit (at + length (s .bytes)) ss (λ f i. h f (later (later i))) in
     (refl, omega (arith, h _ here), (refl, omega (arith, h _ (later here)), rest))
 
-header-one : (d : Edition) (t u : Table) → Sound t → Sound u → stores (header d t) ≡ stores (header d u) → header d t ≡ header d u
-header-one d t u s r e = stores-one (2 ∷ 2 ∷ countWidths (sections t)) (header d t) (header d u) (fit t s) (fit u r) e
+header-one : (d : Edition) (t u : Table) → Sound d t → Sound d u → stores (header d t) ≡ stores (header d u) → header d t ≡ header d u
+header-one d t u s r e = stores-one (2 ∷ 2 ∷ countWidths (sections d t)) (header d t) (header d u) (fit t s) (fit u r) e
   where
-    fit : (t : Table) → Sound t → Fits (2 ∷ 2 ∷ countWidths (sections t)) (header d t)
+    fit : (t : Table) → Sound d t → Fits (2 ∷ 2 ∷ countWidths (sections d t)) (header d t)
     fit t s =
         let h = header-fits d t s in
-        (refl, omega (arith, h _ here), (refl, omega (arith, h _ (later here)), counts-fit headerSize (sections t) (λ f i. h f (later (later i)))))
+        (refl, omega (arith, h _ here), (refl, omega (arith, h _ (later here)), counts-fit headerSize (sections d t) (λ f i. h f (later (later i)))))
 
 -- ---- the sections
 
 -- the bytes of the sections of two tables are equal
-record SameBytes (t u : Table) : Type 0 where
-  annotations : section annotationRecord t .bytes ≡ section annotationRecord u .bytes
+record SameBytes (d : Edition) (t u : Table) : Type 0 where
+  annotations : section (annotationRecord d) t .bytes ≡ section (annotationRecord d) u .bytes
   losses : section lossRecord (lossesOf t) .bytes ≡ section lossRecord (lossesOf u) .bytes
   isotopes : section (λ x. x) (isotopesOf t) .bytes ≡ section (λ x. x) (isotopesOf u) .bytes
   items : section itemRecord (itemsOf t) .bytes ≡ section itemRecord (itemsOf u) .bytes
@@ -62,14 +62,14 @@ record SameBytes (t u : Table) : Type 0 where
   texts : textsOf t ≡ textsOf u
 
 -- the header tells how long each section is, and so where the next begins
-body-one : (d : Edition) (t u : Table) → header d t ≡ header d u → body t ≡ body u → SameBytes t u
+body-one : (d : Edition) (t u : Table) → header d t ≡ header d u → body d t ≡ body d u → SameBytes d t u
 body-one d t u h e =
     let n0 : length t ≡ length u = ap (valueAt 2) h in
     let n1 : length (lossesOf t) ≡ length (lossesOf u) = ap (valueAt 4) h in
     let n2 : length (isotopesOf t) ≡ length (isotopesOf u) = ap (valueAt 6) h in
     let n3 : length (itemsOf t) ≡ length (itemsOf u) = ap (valueAt 8) h in
     let n4 : length (unitsOf t) ≡ length (unitsOf u) = ap (valueAt 10) h in
-    let c0 = cut (section annotationRecord t .bytes) (section annotationRecord u .bytes) (omega (arith, annotations-length t, annotations-length u)) e in
+    let c0 = cut (section (annotationRecord d) t .bytes) (section (annotationRecord d) u .bytes) (omega (arith, annotations-length d t, annotations-length d u, added-same d t u n0)) e in
     let c1 = cut (section lossRecord (lossesOf t) .bytes) (section lossRecord (lossesOf u) .bytes) (omega (arith, losses-length t, losses-length u)) (c0 .1) in
     let c2 = cut (section (λ x. x) (isotopesOf t) .bytes) (section (λ x. x) (isotopesOf u) .bytes) (omega (arith, isotopes-length t, isotopes-length u)) (c1 .1) in
     let c3 = cut (section itemRecord (itemsOf t) .bytes) (section itemRecord (itemsOf u) .bytes) (omega (arith, items-length t, items-length u)) (c2 .1) in
@@ -79,9 +79,9 @@ body-one d t u h e =
 
 -- ---- the records of a sound table fit
 
-module _ (t : Table) (s : Sound t) where
-  annotations-fit : (a : TableAnnotation) → In a t → Fits annotationWidths (annotationRecord a)
-  annotations-fit a i = annotation-fits a (table-bounded t s a i) (table-in-range t s a i)
+module _ {e : Edition} (t : Table) (s : Sound e t) where
+  annotations-fit : (d : Edition) (a : TableAnnotation) → In a t → Fits (annotationWidths d) (annotationRecord d a)
+  annotations-fit d a i = annotation-fits d a (table-bounded t s a i) (table-in-range t s a i)
 
   losses-fit : (l : Loss Number) → In l (lossesOf t) → Fits lossWidths (lossRecord l)
   losses-fit = in-flat (λ a. a .losses) (λ l. Fits lossWidths (lossRecord l)) t (λ a i l j. table-in-range t s a i .loss l j .self)
@@ -103,17 +103,17 @@ module _ (t : Table) (s : Sound t) where
 
 -- ---- the whole
 
-pub one-stored : (d : Edition) (t u : Table) → Sound t → Sound u → stored d t ≡ stored d u → t ≡ u
+pub one-stored : (d : Edition) (t u : Table) → Sound d t → Sound d u → stored d t ≡ stored d u → t ≡ u
 one-stored d t u s r e =
     let c = cut (stores (header d t)) (stores (header d u)) refl e in
     let h = header-one d t u s r (c .0) in
     let b = body-one d t u h (c .1) in
-    let ann = records-one annotationRecord annotationWidths t u (annotations-fit t s) (annotations-fit u r) (ap (valueAt 2) h) (b .annotations) in
+    let ann = records-one (annotationRecord d) (annotationWidths d) t u (annotations-fit t s d) (annotations-fit u r d) (ap (valueAt 2) h) (b .annotations) in
     let ls = records-one lossRecord lossWidths (lossesOf t) (lossesOf u) (losses-fit t s) (losses-fit u r) (ap (valueAt 4) h) (b .losses) in
     let is = records-one (λ x. x) isotopeWidths (isotopesOf t) (isotopesOf u) (isotopes-fit t s) (isotopes-fit u r) (ap (valueAt 6) h) (b .isotopes) in
     let xs = records-one itemRecord itemWidths (itemsOf t) (itemsOf u) (items-fit t s) (items-fit u r) (ap (valueAt 8) h) (b .items) in
     let us = records-one unitRecord unitWidths (unitsOf t) (unitsOf u) (units-fit t s) (units-fit u r) (ap (valueAt 10) h) (b .units) in
-    table-one t u (λ a i. table-in-range t s a i .deviation .size) (λ a i. table-in-range u r a i .deviation .size) ann
+    table-one d t u (λ a i. table-in-range t s a i .deviation .size) (λ a i. table-in-range u r a i .deviation .size) ann
     (record {
       losses = ls;
       isotopes = map-one (λ x. x) (λ x y e. e) (isotopesOf t) (isotopesOf u) is;
@@ -121,3 +121,7 @@ one-stored d t u s r e =
       units = map-one unitRecord unit-one (unitsOf t) (unitsOf u) us;
       texts = b .texts;
     })
+
+-- bytes are of one edition
+pub editions-apart : (t u : Table) → stored ed1 t ≡ stored ed2 u → ⊥
+editions-apart t u e = let z : _≡_ {A = ℕ} 1 2 = ap (λ (w : List ℕ). getD w 0 0) e in omega arith

@@ -7,6 +7,7 @@ use Rattle.rules.specs.Annotations.{TableAnnotation}
 use Rattle.rules.specs.Lines.{Spelling}
 use Rattle.rules.specs.Preferred.{shortenedAnnotation, preferredSpelling, preferred}
 use Rattle.rules.specs.Fields.{Table, inOrder, SameFields, Says, Spells}
+use Rattle.rules.specs.Editions.{Edition}
 use Rattle.rules.specs.Answers.{Sound}
 use Rattle.rules.proofs.Shortened.{annotation-filled}
 
@@ -34,5 +35,5 @@ preferred-says (one-more {a = a} h o) = next (says-shortened a h) (preferred-say
 pub preferred-spells : (t : Table) → AllInOrder t → Spells t (preferred t)
 preferred-spells t o = record { spelling = preferredSpelling t; text = refl; says = preferred-says o }
 
-pub sound-preferred : (t : Table) → Sound t → Spells t (preferred t)
+pub sound-preferred : {e : Edition} (t : Table) → Sound e t → Spells t (preferred t)
 sound-preferred t s = preferred-spells t (said-in-order (s .says))

@@ -10,7 +10,8 @@ use Rattle.lang.specs.Scan.{Stray}
 use Rattle.lang.proofs.OneStray.{stray-agrees}
 use Rattle.rules.specs.Lines.{Spelling, Shape, stray, short, Judged, fine}
 use Rattle.rules.specs.Limits.{maxLine}
-use Rattle.rules.specs.Answers.{Answer, refuses, Delivers, no-room, done, ReadsSum, excess, ReadsRules, breach, ReadsSpelling, limit, Reads, long, misshapen, spelled}
+use Rattle.rules.specs.Editions.{Edition}
+use Rattle.rules.specs.Answers.{Answer, refuses, Delivers, no-room, done, ReadsSum, excess, ReadsRules, breach, ReadsForm, foreign, ReadsSpelling, limit, Reads, long, misshapen, spelled}
 use Rattle.rules.proofs.OneShape.{misshapen-no-shape, misshapen-one, judged-one}
 use Rattle.rules.proofs.FirstBroken.{wins-number}
 
@@ -20,17 +21,21 @@ pub delivers-not-two : {room : ℕ} {result : List ℕ} {a : Answer} → Deliver
 delivers-not-two (no-room h) e = omega arith
 delivers-not-two (done h) e = omega arith
 
-sum-not-two : {s : Spelling} {room : ℕ} {a : Answer} → ReadsSum s room a → a .number ≡ 2 → ⊥
+sum-not-two : {e : Edition} {s : Spelling} {room : ℕ} {a : Answer} → ReadsSum e s room a → a .number ≡ 2 → ⊥
 sum-not-two (excess p z) e = omega arith
 sum-not-two (ReadsSum.kept z t y d) e = delivers-not-two d e
 
-rules-not-two : {s : Spelling} {room : ℕ} {a : Answer} → ReadsRules s room a → a .number ≡ 2 → ⊥
+rules-not-two : {e : Edition} {s : Spelling} {room : ℕ} {a : Answer} → ReadsRules e s room a → a .number ≡ 2 → ⊥
 rules-not-two (breach p z) e = omega arith
 rules-not-two (ReadsRules.kept z r) e = sum-not-two r e
 
-spelling-not-two : (s : Spelling) {room : ℕ} {a : Answer} → ReadsSpelling s room a → a .number ≡ 2 → ⊥
+form-not-two : {e : Edition} {s : Spelling} {room : ℕ} {a : Answer} → ReadsForm e s room a → a .number ≡ 2 → ⊥
+form-not-two (foreign p z) e = omega arith
+form-not-two (ReadsForm.kept z r) e = rules-not-two r e
+
+spelling-not-two : {d : Edition} (s : Spelling) {room : ℕ} {a : Answer} → ReadsSpelling d s room a → a .number ≡ 2 → ⊥
 spelling-not-two s (limit m w) e = omega (arith, wins-number s m w)
-spelling-not-two s (ReadsSpelling.kept k r) e = rules-not-two r e
+spelling-not-two s (ReadsSpelling.kept k r) e = form-not-two r e
 
 pub two-is-stray : {line : List ℕ} {room : ℕ} {a : Answer} → Reads line room a → a .number ≡ 2 → Stray Shape line (a .place)
 two-is-stray (long h) e = absurd (omega arith)

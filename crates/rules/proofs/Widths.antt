@@ -12,7 +12,7 @@ use Rattle.rules.specs.Fields.{Table}
 use Rattle.rules.specs.Stored.{unitRecord, lossRecord, isotopeRecord, itemRecord, annotationRecord, headerSize, header}
 use Rattle.rules.specs.Largest.{maxAnyTable, maxTable}
 use Rattle.rules.specs.Layout.{widths, sum, headerWidths, annotationWidths, lossWidths, isotopeWidths, itemWidths, unitWidths}
-use Rattle.rules.specs.Editions.{Edition}
+use Rattle.rules.specs.Editions.{Edition, ed1, ed2}
 
 pub header-widths : (e : Edition) (t : Table) → widths (header e t) ≡ headerWidths
 header-widths e t = refl
@@ -20,8 +20,9 @@ header-widths e t = refl
 pub header-sum : sum headerWidths ≡ headerSize
 header-sum = refl
 
-pub annotation-widths : (a : TableAnnotation) → widths (annotationRecord a) ≡ annotationWidths
-annotation-widths a = refl
+pub annotation-widths : (e : Edition) (a : TableAnnotation) → widths (annotationRecord e a) ≡ annotationWidths e
+annotation-widths ed1 a = refl
+annotation-widths ed2 a = refl
 
 pub loss-widths : (l : Loss Number) → widths (lossRecord l) ≡ lossWidths
 loss-widths l = refl
@@ -40,9 +41,9 @@ pub unit-widths : (u : FormulaUnit Number) → widths (unitRecord u) ≡ unitWid
 unit-widths (plain s c) = refl
 unit-widths (labelled a s c) = refl
 
--- document 01's own number, and that of the writer's buffer
-pub table-is : maxTable ≡ 21340
+-- document 02's own number, and that of the writer's buffer
+pub table-is : maxTable ≡ 21372
 table-is = refl
 
-pub any-table-is : maxAnyTable ≡ 43596
+pub any-table-is : maxAnyTable ≡ 43628
 any-table-is = refl

@@ -10,3 +10,5 @@ pub mod Classes
 pub mod Bounds
 pub mod Points
 pub mod Nested
+pub mod Sequences
+pub mod Sequenced

@@ -9,7 +9,7 @@ use Rattle.lang.specs.Mark.{Mark, Kept, Wins}
 use Rattle.rules.specs.Lines.{Spelling, lineText, Misshapen}
 use Rattle.rules.specs.Fields.{Table, Says}
 use Rattle.rules.specs.Limits.{maxLine, lineMarks}
-use Rattle.rules.specs.House.{firstBreach, firstExcess}
+use Rattle.rules.specs.House.{firstForeign, firstBreach, firstExcess}
 use Rattle.rules.specs.Preferred.{preferred}
 use Rattle.rules.specs.Editions.{Edition, current}
 use Rattle.rules.specs.Stored.{stored}
@@ -34,44 +34,56 @@ pub data Delivers (room : ℕ) (result : List ℕ) : Answer → Type 0 where
   no-room : room < length result → Delivers room result (refuses room 8 (length result))
   done : length result ≤ room → Delivers room result (gives room result)
 
--- ---- reading: 1; then 2 or 3; then 4 and 5; then 6; 7; 8
+-- ---- reading: 1; then 2 or 3; then 4 and 5; then 11; 6; 7; 8
 
--- of a spelling within the limits and rules for one annotation
-pub data ReadsSum (s : Spelling) (room : ℕ) : Answer → Type 0 where
-  excess : (place : ℕ) → firstExcess 0 0 s ≡ written place → ReadsSum s room (refuses room 7 place)
-  kept : firstExcess 0 0 s ≡ silent → (t : Table) → Each Says s t → {a : Answer} → Delivers room (stored current t) a → ReadsSum s room a
+-- of a spelling within the limits and rules for one annotation, to a table of edition e
+pub data ReadsSum (e : Edition) (s : Spelling) (room : ℕ) : Answer → Type 0 where
+  excess : (place : ℕ) → firstExcess 0 0 s ≡ written place → ReadsSum e s room (refuses room 7 place)
+  kept : firstExcess 0 0 s ≡ silent → (t : Table) → Each Says s t → {a : Answer} → Delivers room (stored e t) a → ReadsSum e s room a
+
+-- of a spelling within the limits whose sequences are of the plain form
+pub data ReadsRules (e : Edition) (s : Spelling) (room : ℕ) : Answer → Type 0 where
+  breach : (place : ℕ) → firstBreach current 0 s ≡ written place → ReadsRules e s room (refuses room 6 place)
+  kept : firstBreach current 0 s ≡ silent → {a : Answer} → ReadsSum e s room a → ReadsRules e s room a
 
 -- of a spelling within the limits
-pub data ReadsRules (s : Spelling) (room : ℕ) : Answer → Type 0 where
-  breach : (place : ℕ) → firstBreach 0 s ≡ written place → ReadsRules s room (refuses room 6 place)
-  kept : firstBreach 0 s ≡ silent → {a : Answer} → ReadsSum s room a → ReadsRules s room a
+pub data ReadsForm (e : Edition) (s : Spelling) (room : ℕ) : Answer → Type 0 where
+  foreign : (place : ℕ) → firstForeign current 0 s ≡ written place → ReadsForm e s room (refuses room 11 place)
+  kept : firstForeign current 0 s ≡ silent → {a : Answer} → ReadsRules e s room a → ReadsForm e s room a
 
 -- of a line with a shape
-pub data ReadsSpelling (s : Spelling) (room : ℕ) : Answer → Type 0 where
-  limit : (m : Mark) → Wins (lineMarks s) m → ReadsSpelling s room (refuses room (m .number) (m .place))
-  kept : Kept (lineMarks s) → {a : Answer} → ReadsRules s room a → ReadsSpelling s room a
+pub data ReadsSpelling (e : Edition) (s : Spelling) (room : ℕ) : Answer → Type 0 where
+  limit : (m : Mark) → Wins (lineMarks s) m → ReadsSpelling e s room (refuses room (m .number) (m .place))
+  kept : Kept (lineMarks s) → {a : Answer} → ReadsForm e s room a → ReadsSpelling e s room a
 
 pub data Reads (line : List ℕ) (room : ℕ) : Answer → Type 0 where
   long : maxLine < length line → Reads line room (refuses room 1 maxLine)
   misshapen : length line ≤ maxLine → {number place : ℕ} → Misshapen line number place → Reads line room (refuses room number place)
-  spelled : length line ≤ maxLine → (s : Spelling) → lineText s ≡ line → {a : Answer} → ReadsSpelling s room a → Reads line room a
+  spelled : length line ≤ maxLine → (s : Spelling) → lineText s ≡ line → {a : Answer} → ReadsSpelling current s room a → Reads line room a
 
 -- ---- writing: 9, 1, 8
 
--- some line, of any length, spells the table within limits and house rules
-pub record Sound (t : Table) : Type 0 where
+-- some line, of any length, spells the table within limits and house rules, as the edition has them
+pub record Sound (e : Edition) (t : Table) : Type 0 where
   pub spelling : Spelling
   pub says : Each Says spelling t
   pub limits : Kept (lineMarks spelling)
-  pub rules : firstBreach 0 spelling ≡ silent
+  pub form : firstForeign e 0 spelling ≡ silent
+  pub rules : firstBreach e 0 spelling ≡ silent
   pub sum : firstExcess 0 0 spelling ≡ silent
 
 -- stored bytes are a table of an edition
 pub record Holds (e : Edition) (bytes : List ℕ) (t : Table) : Type 0 where
-  pub sound : Sound t
+  pub sound : Sound e t
   pub is : stored e t ≡ bytes
 
+-- the writer takes them: a table of an edition, of which the current edition's table of the same fields is one too
+pub record Takes (bytes : List ℕ) (t : Table) : Type 0 where
+  pub edition : Edition
+  pub holds : Holds edition bytes t
+  pub also : Sound current t
+
 pub data Writes (bytes : List ℕ) (room : ℕ) : Answer → Type 0 where
-  no-table : ((t : Table) → Holds current bytes t → ⊥) → Writes bytes room (refuses room 9 0)
-  long : (t : Table) → Holds current bytes t → maxLine < length (preferred t) → Writes bytes room (refuses room 1 maxLine)
-  fits : (t : Table) → Holds current bytes t → length (preferred t) ≤ maxLine → {a : Answer} → Delivers room (preferred t) a → Writes bytes room a
+  no-table : ((t : Table) → Takes bytes t → ⊥) → Writes bytes room (refuses room 9 0)
+  long : (t : Table) → Takes bytes t → maxLine < length (preferred t) → Writes bytes room (refuses room 1 maxLine)
+  fits : (t : Table) → Takes bytes t → length (preferred t) ≤ maxLine → {a : Answer} → Delivers room (preferred t) a → Writes bytes room a

@@ -1,14 +1,15 @@
--- Document 01, "The stored table": the editions of the stored table. There is one; what an edition changes is asked of it, so that a
--- further edition is a case more. Assumes nothing.
+-- The editions of the stored table: document 01's, and document 02's (M-105), whose annotations have a count of residues more. Assumes nothing.
 use Prim.Native.Nat.{ℕ}
 
 pub data Edition : Type 0 where
   ed1 : Edition
+  ed2 : Edition
 
 -- as the header has it
 abbrev pub editionNumber : Edition → ℕ
 editionNumber ed1 = 1
+editionNumber ed2 = 2
 
--- the edition that is read and written
+-- the edition that a line is read to
 abbrev pub current : Edition
-current = ed1
+current = ed2

@@ -2,7 +2,7 @@
 -- a field stands does not depend on the values, so the fields of one plain thing of each sort tell it for all. Assumes nothing.
 use Prim.Native.Nat.{ℕ, zero, suc, _+_}
 use mathlib.Core.Bool.{false}
-use mathlib.Core.List.{List, [], _∷_, map}
+use mathlib.Core.List.{List, [], _∷_, _++_, map}
 use lib.Dec.{T, ltb}
 use lib.ListN.{length}
 use Rattle.lang.specs.Parts.{silent}
@@ -15,8 +15,8 @@ use Rattle.rules.specs.Isotopes.{Shift, no-isotope}
 use Rattle.rules.specs.Adducts.{electron, Item}
 use Rattle.rules.specs.Annotations.{TableAnnotation}
 use Rattle.rules.specs.Elements.{symbols}
-use Rattle.rules.specs.Editions.{ed1}
-use Rattle.rules.specs.Stored.{Field, unitRecord, lossRecord, isotopeRecord, itemRecord, annotationRecord, header}
+use Rattle.rules.specs.Editions.{Edition, current}
+use Rattle.rules.specs.Stored.{Field, unitRecord, lossRecord, isotopeRecord, itemRecord, commonFields, addedFields, header}
 
 -- ---- fields in a row
 
@@ -78,10 +78,18 @@ plainAnnotation =
 -- ---- how wide the fields of a record are
 
 abbrev pub headerWidths : List ℕ
-headerWidths = widths (header ed1 [])
+headerWidths = widths (header current [])
 
-abbrev pub annotationWidths : List ℕ
-annotationWidths = widths (annotationRecord plainAnnotation)
+-- of an annotation in every edition
+abbrev pub commonWidths : List ℕ
+commonWidths = widths (commonFields plainAnnotation)
+
+-- of what an edition adds
+abbrev pub addedWidths : Edition → List ℕ
+addedWidths e = widths (addedFields e plainAnnotation)
+
+abbrev pub annotationWidths : Edition → List ℕ
+annotationWidths e = commonWidths ++ addedWidths e
 
 abbrev pub lossWidths : List ℕ
 lossWidths = widths (lossRecord plainLoss)
@@ -97,8 +105,14 @@ unitWidths = widths (unitRecord plainUnit)
 
 -- ---- how many bytes a record has
 
-abbrev pub annotationWidth : ℕ
-annotationWidth = sum annotationWidths
+abbrev pub commonWidth : ℕ
+commonWidth = sum commonWidths
+
+abbrev pub addedWidth : Edition → ℕ
+addedWidth e = sum (addedWidths e)
+
+abbrev pub annotationWidth : Edition → ℕ
+annotationWidth e = commonWidth + addedWidth e
 
 abbrev pub lossWidth : ℕ
 lossWidth = sum lossWidths
@@ -115,62 +129,66 @@ unitWidth = sum unitWidths
 -- ---- where the fields of an annotation stand
 
 abbrev pub kindAt : ℕ
-kindAt = before 0 annotationWidths
+kindAt = before 0 commonWidths
 
 abbrev pub markedAt : ℕ
-markedAt = before 1 annotationWidths
+markedAt = before 1 commonWidths
 
 abbrev pub analytePresentAt : ℕ
-analytePresentAt = before 2 annotationWidths
+analytePresentAt = before 2 commonWidths
 
 abbrev pub letterAt : ℕ
-letterAt = before 3 annotationWidths
+letterAt = before 3 commonWidths
 
 abbrev pub analyteAt : ℕ
-analyteAt = before 4 annotationWidths
+analyteAt = before 4 commonWidths
 
 abbrev pub positionAt : ℕ
-positionAt = before 5 annotationWidths
+positionAt = before 5 commonWidths
 
 abbrev pub lastAt : ℕ
-lastAt = before 6 annotationWidths
+lastAt = before 6 commonWidths
 
 abbrev pub chargeAt : ℕ
-chargeAt = before 7 annotationWidths
+chargeAt = before 7 commonWidths
 
 abbrev pub deviationKindAt : ℕ
-deviationKindAt = before 8 annotationWidths
+deviationKindAt = before 8 commonWidths
 
 abbrev pub deviationPlacesAt : ℕ
-deviationPlacesAt = before 9 annotationWidths
+deviationPlacesAt = before 9 commonWidths
 
 abbrev pub confidencePresentAt : ℕ
-confidencePresentAt = before 10 annotationWidths
+confidencePresentAt = before 10 commonWidths
 
 abbrev pub confidencePlacesAt : ℕ
-confidencePlacesAt = before 11 annotationWidths
+confidencePlacesAt = before 11 commonWidths
 
 -- behind a byte that is not used
 abbrev pub deviationAt : ℕ
-deviationAt = before 13 annotationWidths
+deviationAt = before 13 commonWidths
 
 abbrev pub confidenceAt : ℕ
-confidenceAt = before 14 annotationWidths
+confidenceAt = before 14 commonWidths
 
 abbrev pub textLengthAt : ℕ
-textLengthAt = before 15 annotationWidths
+textLengthAt = before 15 commonWidths
 
 abbrev pub unitCountAt : ℕ
-unitCountAt = before 16 annotationWidths
+unitCountAt = before 16 commonWidths
 
 abbrev pub lossCountAt : ℕ
-lossCountAt = before 17 annotationWidths
+lossCountAt = before 17 commonWidths
 
 abbrev pub isotopeCountAt : ℕ
-isotopeCountAt = before 18 annotationWidths
+isotopeCountAt = before 18 commonWidths
 
 abbrev pub itemCountAt : ℕ
-itemCountAt = before 19 annotationWidths
+itemCountAt = before 19 commonWidths
+
+-- what edition 2 adds stands behind the fields of every edition
+abbrev pub residuesAt : ℕ
+residuesAt = commonWidth
 
 -- ---- of a loss, and of an adduct item, which has its fields at the same places
 

@@ -14,8 +14,9 @@ pub mod Lines
 pub mod Preferred
 pub mod Fields
 pub mod Limits
-pub mod House
+pub mod Sequences
 pub mod Editions
+pub mod House
 pub mod Stored
 pub mod Layout
 pub mod Largest

@@ -10,7 +10,7 @@ use Rattle.rules.specs.Limits as Limits
 use Rattle.rules.specs.Limits.{maxLine}
 use Rattle.rules.specs.Preferred.{preferred}
 use Rattle.rules.specs.Stored.{stores}
-use Rattle.rules.specs.Answers.{Answer, refuses, Delivers, Reads, Sound}
+use Rattle.rules.specs.Answers.{Answer, refuses, Delivers, Reads, Takes}
 use Rattle.rules.specs.Rows.{tab, Row, preferredRow, rowHeadSize, rowHead, storedRow}
 
 -- a row is at most 4,160 bytes
@@ -64,12 +64,13 @@ pub data ReadsRow (row : List ℕ) (room : ℕ) : Answer → Type 0 where
 
 -- ---- writing: 9, 1, 8
 
--- stored bytes are a row
+-- stored bytes are a row: its head, and behind it bytes that the writer of tables takes
 pub record HoldsRow (bytes : List ℕ) (r : Row) : Type 0 where
   pub mz : T (Limits.fits (r .mz))
   pub intensity : T (Limits.fits (r .intensity))
-  pub table : Sound (r .table)
-  pub is : storedRow r ≡ bytes
+  pub rest : List ℕ
+  pub table : Takes rest (r .table)
+  pub is : stores (rowHead (r .mz) (r .intensity)) ++ rest ≡ bytes
 
 pub data WritesRow (bytes : List ℕ) (room : ℕ) : Answer → Type 0 where
   no-row : ((r : Row) → HoldsRow bytes r → ⊥) → WritesRow bytes room (refuses room 9 0)

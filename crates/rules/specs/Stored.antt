@@ -12,7 +12,9 @@ use Rattle.rules.specs.Losses.{Lost, lost-formula, lost-name, Loss}
 use Rattle.rules.specs.Isotopes.{Shift, Specific, Isotopes, no-isotope, plain-isotope, average-isotope, specific-isotopes}
 use Rattle.rules.specs.Adducts.{Added, added-formula, electron, Item}
 use Rattle.rules.specs.Annotations.{TableAnnotation, Deviation}
-use Rattle.rules.specs.Editions.{Edition, editionNumber}
+use Rattle.rules.specs.Editions.{Edition, ed1, ed2, editionNumber}
+use Rattle.rules.specs.Sequences.{residues}
+use Rattle.rules.specs.House.{sequenceIn}
 use Rattle.rules.specs.Preferred.{signRank, countOr1}
 
 -- n bytes of v, little-endian
@@ -153,8 +155,9 @@ abbrev pub signed : Bool → ℕ → ℕ
 signed true n = 2 ^ 64 - n
 signed false n = n
 
-abbrev pub annotationRecord : TableAnnotation → List Field
-annotationRecord a =
+-- the fields that an annotation has in every edition
+abbrev pub commonFields : TableAnnotation → List Field
+commonFields a =
     u8 (kind (a .ion)) ∷ u8 (flag (a .marked)) ∷ u8 (present (a .analyte)) ∷ u8 (ionFields (a .ion) .letter)
     ∷ u16 (valueOr0 (λ n. n) (a .analyte)) ∷ u16 (ionFields (a .ion) .position) ∷ u16 (ionFields (a .ion) .end)
     ∷ u8 (countOr1 (a .charge)) ∷ u8 (deviationKind (a .deviation)) ∷ u8 (valueOr0 (λ d. d .size .places) (a .deviation))
@@ -162,6 +165,18 @@ annotationRecord a =
     ∷ u64 (valueOr0 (λ d. signed (d .minus) (d .size .value)) (a .deviation)) ∷ u32 (valueOr0 (λ d. d .value) (a .confidence))
     ∷ u16 (length (ionFields (a .ion) .text)) ∷ u16 (length (ionFields (a .ion) .units))
     ∷ u8 (length (a .losses)) ∷ u8 (length (isotopeRecords (a .isotopes))) ∷ u8 (length (a .adduct)) ∷ u8 0 ∷ []
+
+-- how many residues its sequence has, 0 without one (document 02, M-105)
+abbrev pub residueCount : {Free : Type 0} → Ion Free → ℕ
+residueCount x = valueOr0 (λ t. residues (t .bytes)) (sequenceIn x)
+
+-- those that an edition adds behind them
+abbrev pub addedFields : Edition → TableAnnotation → List Field
+addedFields ed1 a = []
+addedFields ed2 a = u16 (residueCount (a .ion)) ∷ []
+
+abbrev pub annotationRecord : Edition → TableAnnotation → List Field
+annotationRecord e a = commonFields a ++ addedFields e a
 
 -- ---- sections
 
@@ -180,9 +195,9 @@ pub record Section : Type 0 where
 abbrev pub section : {A : Type 0} → (A → List Field) → List A → Section
 section f xs = record { count = length xs; bytes = flat (λ x. stores (f x)) xs }
 
-abbrev pub sections : List TableAnnotation → List Section
-sections t =
-    section annotationRecord t ∷ section lossRecord (flat (λ a. a .losses) t) ∷ section (λ x. x) (flat (λ a. isotopeRecords (a .isotopes)) t)
+abbrev pub sections : Edition → List TableAnnotation → List Section
+sections e t =
+    section (annotationRecord e) t ∷ section lossRecord (flat (λ a. a .losses) t) ∷ section (λ x. x) (flat (λ a. isotopeRecords (a .isotopes)) t)
     ∷ section itemRecord (flat (λ a. a .adduct) t) ∷ section unitRecord (flat annotationUnits t)
     ∷ record { count = length (flat annotationTexts t); bytes = flat annotationTexts t } ∷ []
 
@@ -196,11 +211,11 @@ abbrev pub counts : ℕ → List Section → List Field
 counts at [] = []
 counts at (s ∷ ss) = u16 (s .count) ∷ u16 at ∷ counts (at + length (s .bytes)) ss
 
-abbrev pub body : List TableAnnotation → List ℕ
-body t = flat (λ s. s .bytes) (sections t)
+abbrev pub body : Edition → List TableAnnotation → List ℕ
+body e t = flat (λ s. s .bytes) (sections e t)
 
 abbrev pub header : Edition → List TableAnnotation → List Field
-header e t = u16 (editionNumber e) ∷ u16 (headerSize + length (body t)) ∷ counts headerSize (sections t)
+header e t = u16 (editionNumber e) ∷ u16 (headerSize + length (body e t)) ∷ counts headerSize (sections e t)
 
 abbrev pub stored : Edition → List TableAnnotation → List ℕ
-stored e t = stores (header e t) ++ body t
+stored e t = stores (header e t) ++ body e t

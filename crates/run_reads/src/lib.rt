@@ -30,7 +30,7 @@ const MAX_STORED_ROW: usize = ROW_HEAD_SIZE + MAX_TABLE;
 // any table that is read; a line feed.
 const ANSWER: usize = 64 + 2 * MAX_STORED_ROW;
 
-// All lines, for the program of this name. Where they are sized, each begins with the length of its output, a number of at most 21,360, and a blank; else the output
+// All lines, for the program of this name. Where they are sized, each begins with the length of its output, a number of at most 21,392, and a blank; else the output
 // is as long as any stored row needs.
 pub fn answer_lines(name: &[u8], input: Input, sized: bool) {
     let machine = scan_line::machine();

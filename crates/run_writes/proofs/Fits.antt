@@ -12,6 +12,8 @@ use Rattle.rules.specs.Rows.{tab}
 use Rattle.rules.specs.Answers.{Answer, refuses, gives}
 use Rattle.rules.specs.Largest.{maxAnyTable}
 use Rattle.scan_line.specs.Steps.{scannedBy}
+use Rattle.layout.specs.Editions.{editionOf}
+use Rattle.print_table.specs.Parts.{editionIn}
 use Rattle.print_table.specs.Tables.{printedTable}
 use Rattle.io_hex.specs.Hexes.{spelled, unhexed}
 use Rattle.answers.specs.Delivered.{lineOver}
@@ -46,7 +48,7 @@ found-fits : (machine : List ℕ) (most : ℕ) (scratch w table : List ℕ) (roo
 unfolding foundIn foundOf
 found-fits machine most scratch w table room =
     either (ltb most (length w)) (refused room 9 0)
-    (either (readsTo (scannedBy machine w) scratch w table) (line-fits w room) (refused room 9 0))
+    (either (readsTo (editionOf (editionIn table)) (scannedBy machine w) scratch w table) (line-fits w room) (refused room 9 0))
 
 written-fits : (machine table : List ℕ) (room : ℕ) → Fits room (writtenOf machine table room)
 unfolding writtenOf

@@ -12,7 +12,9 @@ use Rattle.lang.proofs.Machine.{allB, all→}
 use Rattle.rules.specs.Bytes.{bytes}
 use Rattle.rules.specs.Lines.{Spelling, Judged, misshapen}
 use Rattle.rules.specs.Limits.{maxLine, lineMarks}
-use Rattle.rules.specs.Answers.{refuses, ReadsSum, ReadsRules, ReadsSpelling, Reads}
+use Rattle.rules.specs.Editions.{current}
+use Rattle.rules.specs.House.{firstForeign}
+use Rattle.rules.specs.Answers.{refuses, ReadsSum, ReadsRules, ReadsForm, ReadsSpelling, Reads}
 use Rattle.rules.proofs.OneShape.{judged-misshapen}
 use Rattle.rules.proofs.worked.Bounds.{Ruled}
 use Rattle.scan_line.specs.declared.Verdict.{Verdict}
@@ -39,7 +41,9 @@ no-shape line v all h e n =
     let k = subst (λ (u : Verdict). Judged (bytes line) (numberOf u) (placeOf (bytes line) u)) e j in
     refused-only line (numberOf v) (placeOf (bytes line) v) (λ room. Reads.misshapen h (judged-misshapen k n))
 
-pub past-one : {line : String} {s : Spelling} {place : ℕ} → Ruled line s silent (written place) → length (bytes line) ≤ maxLine → RefusedAs line 7 place
-past-one {line} {s} {place} w h =
+pub past-one : {line : String} {s : Spelling} {place : ℕ} → Ruled line s silent (written place) → firstForeign current 0 s ≡ silent → length (bytes line) ≤ maxLine
+    → RefusedAs line 7 place
+past-one {line} {s} {place} w f h =
+    let k = none-broken (lineMarks s) (w .limits) in
     refused-only line 7 place
-    (λ room. Reads.spelled h s (w .text) (ReadsSpelling.kept (none-broken (lineMarks s) (w .limits)) (ReadsRules.kept (w .breach) (ReadsSum.excess place (w .excess)))))
+    (λ room. Reads.spelled h s (w .text) (ReadsSpelling.kept k (ReadsForm.kept f (ReadsRules.kept (w .breach) (ReadsSum.excess place (w .excess))))))

@@ -50,5 +50,5 @@ starred =
     also last-comma
     also charge-one
     also read-as several.sum-to-one (omega arith) (omega arith)
-    also past-one bounds.sum-past (omega arith)
+    also past-one bounds.sum-past refl (omega arith)
     also tt

@@ -2,6 +2,7 @@
 use mathlib.Core.Path.{_≡_, sym, _∙_}
 use mathlib.Core.List.{List}
 use Prim.Native.Nat.{ℕ}
+use Rattle.rules.specs.Editions.{Edition}
 use Rattle.store_sections.specs.declared.Cursors.{Cursors}
 use Rattle.store_sections.proofs.One.{ran-one}
 use Rattle.read_annotation.specs.declared.Parts.{Parts}
@@ -15,8 +16,8 @@ stores-adduct-one a b =
     let n = a .n ∙ sym (b .n) in
     (e .0, λ i. record { n = n i; cursors = e .1 i })
 
-pub stores-annotation-one : {s d e f : List ℕ} {p : Parts} {c : Cursors} {r q : Stored}
-    → StoresAnnotation s p d c e r → StoresAnnotation s p d c f q → (e ≡ f) × (r ≡ q)
+pub stores-annotation-one : {edition : Edition} {s d e f : List ℕ} {p : Parts} {c : Cursors} {r q : Stored}
+    → StoresAnnotation edition s p d c e r → StoresAnnotation edition s p d c f q → (e ≡ f) × (r ≡ q)
 stores-annotation-one a b =
     let e = ran-one (a .ran) (b .ran) in
     let len = a .len ∙ sym (b .len) in

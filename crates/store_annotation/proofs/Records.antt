@@ -1,18 +1,20 @@
 -- The record of an annotation that is spelled, field by field. Assumes nothing.
 use Prim.Native.Nat.{ℕ}
-use mathlib.Core.Path.{_≡_, _∙_}
+use mathlib.Core.Path.{_≡_, refl, sym, ap, ap₂, _∙_}
 use mathlib.Core.List.{List, [], _∷_, _++_}
 use lib.ListN.{length}
 use Rattle.lang.specs.Mark.{Kept, here, later, marksOf}
 use Rattle.rules.specs.Numbers.{Number}
-use Rattle.rules.specs.Ions.{ionText}
+use Rattle.rules.specs.Ions.{ionText, ionMap, Ion, series, internal, immonium, precursor, reference, named, composed, smiles, unknown}
+use Rattle.rules.specs.Formulas.{Written}
 use Rattle.rules.specs.Losses.{Loss}
 use Rattle.rules.specs.Isotopes.{isotopesMap}
 use Rattle.rules.specs.Adducts.{Item}
 use Rattle.rules.specs.Annotations.{SpelledAnnotation}
 use Rattle.rules.specs.Fields.{filled}
 use Rattle.rules.specs.Limits.{part, optPart, ionParts, analytePart, chargePart, deviationPart, confidencePart, annotationParts, annotationMarks}
-use Rattle.rules.specs.Stored.{u8, u16, u32, stores, isotopeRecords, annotationRecord}
+use Rattle.rules.specs.Editions.{Edition, ed1, ed2}
+use Rattle.rules.specs.Stored.{little, u8, u16, u32, stores, isotopeRecords, residueCount, commonFields, addedFields, annotationRecord}
 use Rattle.rules.proofs.Keeps.{kept-tail, kept-part}
 use Rattle.counts.specs.declared.Counts.{Counts}
 use Rattle.faults.specs.declared.Fault.{Fault}
@@ -20,9 +22,22 @@ use Rattle.read_annotation.specs.declared.Parts.{Parts}
 use Rattle.read_annotation.proofs.SaysWhat.{tableOf}
 use Rattle.read_annotation.proofs.Ions.{ion-told}
 use Rattle.read_annotation.proofs.SpelledAnnotation.{deviationFault, confidenceFault, fault0, fault1, fault2, partsRead}
-use Rattle.store_annotation.specs.Records.{frontBytes, tailBytes, countBytes, recordBytes}
+use Rattle.store_sections.proofs.Events.{flat-append}
+use Rattle.store_annotation.specs.Records.{frontBytes, tailBytes, countBytes, recordBytes, addedBytes, recordIn}
 use Rattle.store_annotation.proofs.Numbers.{analyte-told, charge-told, deviation-told, confidence-told}
 use Rattle.store_annotation.proofs.Ions.{ion-stored}
+
+-- a table has the residues that the spelling has
+count-filled : (x : Ion Written) → residueCount (ionMap filled x) ≡ residueCount x
+count-filled (series s n t) = refl
+count-filled (internal m n t) = refl
+count-filled (immonium c m) = refl
+count-filled precursor = refl
+count-filled (reference n) = refl
+count-filled (named t) = refl
+count-filled (composed g) = refl
+count-filled (smiles t) = refl
+count-filled (unknown n) = refl
 
 -- of the annotation a, followed by k, read as number `nth` of a line of `end` bytes, from f on
 module _ (a : SpelledAnnotation) (k : List ℕ) (nth end : ℕ) (f : Fault) where
@@ -36,12 +51,12 @@ module _ (a : SpelledAnnotation) (k : List ℕ) (nth end : ℕ) (f : Fault) wher
   abbrev adductSeen : Fault
   adductSeen = fault2 a k end (fault0 a k nth end f)
 
-  pub record-stored : (i at : ℕ) → Kept (annotationMarks i a at) → (n : Counts) (ls : List (Loss Number)) (xs : List (Item Number)) → n .losses ≡ length ls
+  common-stored : (i at : ℕ) → Kept (annotationMarks i a at) → (n : Counts) (ls : List (Loss Number)) (xs : List (Item Number)) → n .losses ≡ length ls
       → n .isotopes ≡ length (isotopeRecords (isotopesMap filled (a .isotopes))) → n .items ≡ length xs
       → n .units ≡ seen .front .ion .units → n .text ≡ seen .front .ion .text
-      → recordBytes (seen .front) (seen .tail) n ≡ stores (annotationRecord (tableOf a ls xs))
+      → recordBytes (seen .front) (seen .tail) n ≡ stores (commonFields (tableOf a ls xs))
   unfolding frontBytes tailBytes countBytes
-  record-stored i at kept n ls xs nl ni nx nu nt =
+  common-stored i at kept n ls xs nl ni nx nu nt =
       let keep = kept-part at (annotationParts a) (kept-tail kept) in
       let pa = keep (optPart analytePart (a .analyte)) (later here) in
       let pi = keep (part (ionText (a .ion)) (λ at. marksOf at (ionParts (a .ion)))) (later (later here)) in
@@ -61,3 +76,16 @@ module _ (a : SpelledAnnotation) (k : List ℕ) (nth end : ℕ) (f : Fault) wher
       ∷ u8 (ch j) ∷ u8 (de .kind j) ∷ u8 (de .places j) ∷ u8 (co .kind j) ∷ u8 (co .places j) ∷ u8 0 ∷ [])
       ++ (de .value j
       ++ stores (u32 (co .value j) ∷ u16 (text j) ∷ u16 (units j) ∷ u8 (nl j) ∷ u8 (ni j) ∷ u8 (nx j) ∷ u8 0 ∷ []))
+
+  added-stored : (e : Edition) (ls : List (Loss Number)) (xs : List (Item Number)) → addedBytes e (seen .front) ≡ stores (addedFields e (tableOf a ls xs))
+  added-stored ed1 ls xs = refl
+  added-stored ed2 ls xs = ap (λ (n : ℕ). stores (u16 n ∷ [])) (sym (count-filled (a .ion)))
+
+  -- in an edition
+  pub record-stored : (e : Edition) (i at : ℕ) → Kept (annotationMarks i a at) → (n : Counts) (ls : List (Loss Number)) (xs : List (Item Number)) → n .losses ≡ length ls
+      → n .isotopes ≡ length (isotopeRecords (isotopesMap filled (a .isotopes))) → n .items ≡ length xs
+      → n .units ≡ seen .front .ion .units → n .text ≡ seen .front .ion .text
+      → recordIn e (seen .front) (seen .tail) n ≡ stores (annotationRecord e (tableOf a ls xs))
+  record-stored e i at kept n ls xs nl ni nx nu nt =
+      ap₂ _++_ (common-stored i at kept n ls xs nl ni nx nu nt) (added-stored e ls xs)
+      ∙ sym (flat-append (λ g. little (g .width) (g .value)) (commonFields (tableOf a ls xs)) (addedFields e (tableOf a ls xs)))

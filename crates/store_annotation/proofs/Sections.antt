@@ -11,6 +11,7 @@ use Rattle.store_sections.specs.Pages.{Event, bytesFor, bytesOf}
 use Rattle.store_sections.proofs.Events.{bytes-append}
 use Rattle.sort_changes.specs.Events.{behindChanges}
 use Rattle.read_annotation.proofs.SpelledAnnotation.{EndsAnnotation, first, second, isotopesOn, adductOn, behind-ion}
+use Rattle.rules.specs.Editions.{Edition}
 use Rattle.store_annotation.specs.Events.{behindFiledIsotopes, eventsWith, annotationEvents}
 use Rattle.store_annotation.proofs.Rests.{behind-losses, behind-isotopes}
 use Rattle.store_annotation.proofs.Records.{seen}
@@ -27,12 +28,12 @@ share-all j is ls b xs r =
 
 -- ---- what is read, all at once
 
-module _ (a : SpelledAnnotation) (k : List ℕ) (nth end : ℕ) (f : Fault) (e : EndsAnnotation k) (i at : ℕ) (kept : Kept (annotationMarks i a at)) where
-  pub events-are : annotationEvents (first a k) (seen a k nth end f)
-      ≡ eventsWith (first a k) (second a k) (isotopesOn a k) (adductOn a k) (seen a k nth end f .front) (seen a k nth end f .tail)
+module _ (edition : Edition) (a : SpelledAnnotation) (k : List ℕ) (nth end : ℕ) (f : Fault) (e : EndsAnnotation k) (i at : ℕ) (kept : Kept (annotationMarks i a at)) where
+  pub events-are : annotationEvents edition (first a k) (seen a k nth end f)
+      ≡ eventsWith edition (first a k) (second a k) (isotopesOn a k) (adductOn a k) (seen a k nth end f .front) (seen a k nth end f .tail)
   unfolding annotationEvents
   events-are =
       let q1 = behind-ion a k nth end f in
       let q2 = ap behindChanges q1 ∙ behind-losses a k e i at kept in
       let q3 = ap behindFiledIsotopes q2 ∙ behind-isotopes a k e i at kept in
-      λ j. eventsWith (first a k) (q1 j) (q2 j) (q3 j) (seen a k nth end f .front) (seen a k nth end f .tail)
+      λ j. eventsWith edition (first a k) (q1 j) (q2 j) (q3 j) (seen a k nth end f .front) (seen a k nth end f .tail)

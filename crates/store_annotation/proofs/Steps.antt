@@ -8,6 +8,7 @@ use lib.ListN.{length, take, drop}
 use borrow.Author.Tests.{eq-eqb, ne-eqb}
 use Rattle.rules.specs.Bytes.{bytes}
 use Rattle.rules.specs.Texts.{startsWith}
+use Rattle.rules.specs.Editions.{Edition, ed1, ed2}
 use Rattle.rules.specs.Layout.{annotationWidth, annotationSection, lossSection, isotopeSection, itemSection, unitSection, textSection}
 use Rattle.put_bytes.specs.Puts.{maxPlace, Put}
 use Rattle.counts.specs.declared.Counts.{Counts}
@@ -26,7 +27,7 @@ use Rattle.read_annotation.specs.declared.Front.{Front}
 use Rattle.read_annotation.specs.declared.Tail.{Tail}
 use Rattle.read_annotation.specs.declared.Parts.{Parts}
 use Rattle.store_annotation.specs.declared.Added.{Added}
-use Rattle.store_annotation.specs.Records.{signedOf, frontBytes, tailBytes, countBytes, recordBytes}
+use Rattle.store_annotation.specs.Records.{signedOf, frontBytes, tailBytes, countBytes, recordIn}
 use Rattle.read_annotation.specs.Measured.{behindIon, annotationSize}
 use Rattle.store_annotation.specs.Events.{ionEvents, adductCount, adductEvents, StoresAdduct, behindFiledIsotopes, annotationEvents, StoresAnnotation}
 
@@ -47,9 +48,16 @@ module _ {minus : Bool} {v : ℕ} where
 
 -- ---- the record
 
-pub record-long : (a : Front) (b : Tail) (n : Counts) → length (recordBytes a b n) ≡ annotationWidth
+-- all that the second edition has
+pub record-long : (a : Front) (b : Tail) (n : Counts) → length (recordIn ed2 a b n) ≡ annotationWidth ed2
 unfolding frontBytes tailBytes countBytes
 record-long a b n = refl
+
+-- as many of them as an edition has
+pub record-cut : (e : Edition) (a : Front) (b : Tail) (n : Counts) → take (annotationWidth e) (recordIn ed2 a b n) ≡ recordIn e a b n
+unfolding frontBytes tailBytes countBytes
+record-cut ed1 a b n = refl
+record-cut ed2 a b n = refl
 
 -- ---- the ion
 
@@ -77,12 +85,12 @@ module _ {s d : List ℕ} {c : Cursors} where
 
 -- ---- the annotation
 
-module _ {s d : List ℕ} {p : Parts} {c : Cursors} {l : Arranged} {y : IsotopesStored} {i : Added} {ta t1 t2 t3 u r d1 d2 d3 d4 e : List ℕ} {c1 c3 k : Cursors} {n to next len : ℕ} where
+module _ {edition : Edition} {s d : List ℕ} {p : Parts} {c : Cursors} {l : Arranged} {y : IsotopesStored} {i : Added} {ta t1 t2 t3 u r d1 d2 d3 d4 e : List ℕ} {c1 c3 k : Cursors} {n to next len : ℕ} where
   pub annotation-stored : ta ≡ drop (p .front .at) s → Ran d c (ionEvents ta (p .front .ion)) d1 c1 → t1 ≡ drop (p .front .len) s → StoresChanges t1 lossSection d1 c1 d2 l
       → t2 ≡ drop (l .len) t1 → n ≡ at isotopeSection (l .cursors) → StoresIsotopes t2 d2 n d3 y → c3 ≡ moved isotopeSection (y .next) (l .cursors) → t3 ≡ drop (y .len) t2
       → StoresAdduct t3 d3 c3 d4 i → to ≡ at annotationSection (i .cursors)
-      → Put d4 to (recordBytes (p .front) (p .tail) (record { annotations = 1; losses = l .n; isotopes = y .n; items = i .n; units = p .front .ion .units; text = p .front .ion .text })) e next → k ≡ moved annotationSection next (i .cursors)
-      → u ≡ drop (p .middle .len) t1 → r ≡ drop (p .tail .len) u → len ≡ length s - length r → StoresAnnotation s p d c e (record { len = len; cursors = k })
+      → Put d4 to (recordIn edition (p .front) (p .tail) (record { annotations = 1; losses = l .n; isotopes = y .n; items = i .n; units = p .front .ion .units; text = p .front .ion .text })) e next → k ≡ moved annotationSection next (i .cursors)
+      → u ≡ drop (p .middle .len) t1 → r ≡ drop (p .tail .len) u → len ≡ length s - length r → StoresAnnotation edition s p d c e (record { len = len; cursors = k })
   unfolding annotationEvents annotationSize
   annotation-stored eta ion q1 losses e2 en isotopes e3 f3 adduct eo put ek eu er el =
       let z2 : l .len ≡ gathered noKeys (behindIon s p) .at = losses .len ∙ (λ j. gathered noKeys (q1 j) .at) in
@@ -98,5 +106,5 @@ module _ {s d : List ℕ} {p : Parts} {c : Cursors} {l : Arranged} {y : Isotopes
         ran =
             ran-as (ran-then ion (ran-then (losses .ran) (ran-then (ran-at isotopeSection en (isotopes .put) e3) (ran-then (adduct .ran) (ran-at annotationSection eo put ek)))))
             (λ j. ionEvents (eta j) (p .front .ion) ++ (changeEvents lossSection (q1 j) ++ ((isotopeSection, filedIsotopes (q2 j) .known .bytes)
-            ∷ (adductEvents (q3 j) ++ ((annotationSection, recordBytes (p .front) (p .tail) (record { annotations = 1; losses = pl j; isotopes = py j; items = pi j; units = p .front .ion .units; text = p .front .ion .text })) ∷ [])))));
+            ∷ (adductEvents (q3 j) ++ ((annotationSection, recordIn edition (p .front) (p .tail) (record { annotations = 1; losses = pl j; isotopes = py j; items = pi j; units = p .front .ion .units; text = p .front .ion .text })) ∷ [])))));
       }

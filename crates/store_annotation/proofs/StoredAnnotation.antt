@@ -31,7 +31,8 @@ use Rattle.read_annotation.specs.declared.Parts.{Parts}
 use Rattle.read_annotation.specs.Measured.{partsOf}
 use Rattle.read_annotation.proofs.SaysWhat.{tableOf, says-so}
 use Rattle.read_annotation.proofs.SpelledAnnotation.{EndsAnnotation, first, second, isotopesOn, adductOn, text-is, parts-read}
-use Rattle.store_annotation.specs.Records.{recordBytes}
+use Rattle.rules.specs.Editions.{Edition}
+use Rattle.store_annotation.specs.Records.{recordIn}
 use Rattle.store_annotation.specs.Events.{ionEvents, adductEvents, storedCounts, annotationEvents}
 use Rattle.store_annotation.proofs.Ions.{ion-units, ion-name}
 use Rattle.store_annotation.proofs.Records.{seen, ionSeen, record-stored}
@@ -39,12 +40,12 @@ use Rattle.store_annotation.proofs.Rests.{ion-at, losses-are, isotopes-
 use Rattle.store_annotation.proofs.Sections.{share-all, events-are}
 
 -- events that store what an annotation says
-pub record StoresRead (a : SpelledAnnotation) (es : List Event) : Type 0 where
+pub record StoresRead (edition : Edition) (a : SpelledAnnotation) (es : List Event) : Type 0 where
   pub table : TableAnnotation
   pub says : Says a table
-  pub fills : Fills (table ∷ []) es
+  pub fills : Fills edition (table ∷ []) es
 
-module _ (a : SpelledAnnotation) (k : List ℕ) (nth end : ℕ) (f : Fault) (e : EndsAnnotation k) (i at : ℕ) (kept : Kept (annotationMarks i a at)) where
+module _ (edition : Edition) (a : SpelledAnnotation) (k : List ℕ) (nth end : ℕ) (f : Fault) (e : EndsAnnotation k) (i at : ℕ) (kept : Kept (annotationMarks i a at)) where
   abbrev read : Parts
   read = seen a k nth end f
 
@@ -81,19 +82,19 @@ module _ (a : SpelledAnnotation) (k : List ℕ) (nth end : ℕ) (f : Fault) (e :
   counts = storedCounts (second a k) (isotopesOn a k) (adductOn a k) (read .front .ion)
 
   abbrev own : List ℕ
-  own = recordBytes (read .front) (read .tail) counts
+  own = recordIn edition (read .front) (read .tail) counts
 
   -- by what each part gives to section j
   section : (j : ℕ) {x l y d : List ℕ} → bytesOf j ion ≡ x → bytesOf j losses ≡ l → bytesFor j (isotopeSection, isotopes) ≡ y → bytesOf j adduct ≡ d
-      → bytesOf j (annotationEvents (first a k) read) ≡ x ++ (l ++ (y ++ (d ++ (bytesFor j (annotationSection, own) ++ []))))
+      → bytesOf j (annotationEvents edition (first a k) read) ≡ x ++ (l ++ (y ++ (d ++ (bytesFor j (annotationSection, own) ++ []))))
   section j p q r t =
-      ap (bytesOf j) (events-are a k nth end f e i at kept) ∙ share-all j ion losses isotopes adduct own
+      ap (bytesOf j) (events-are edition a k nth end f e i at kept) ∙ share-all j ion losses isotopes adduct own
       ∙ (λ z. p z ++ (q z ++ (r z ++ (t z ++ (bytesFor j (annotationSection, own) ++ [])))))
 
   ion-other : (j : ℕ) → bytesOf j (ionEvents (ionText (a .ion) ++ second a k) (read .front .ion)) ≡ bytesOf j ion
   ion-other j = ap (λ (s : List ℕ). bytesOf j (ionEvents s (read .front .ion))) (sym (ion-at a k))
 
-  annotations-are : bytesOf annotationSection (annotationEvents (first a k) read) ≡ stores (annotationRecord table)
+  annotations-are : bytesOf annotationSection (annotationEvents edition (first a k) read) ≡ stores (annotationRecord edition table)
   unfolding ionEvents
   annotations-are =
       let l = losses-are a k e i at kept in
@@ -101,17 +102,17 @@ module _ (a : SpelledAnnotation) (k : List ℕ) (nth end : ℕ) (f : Fault) (e :
       let n = l .n ∙ perm-length (l .same) in
       let m = x .n ∙ perm-length (x .same) in
       section annotationSection refl (l .others annotationSection refl refl refl) refl (x .others annotationSection refl refl refl) ∙ append-nil own
-      ∙ record-stored a k nth end f i at kept counts lost added n
+      ∙ record-stored a k nth end f edition i at kept counts lost added n
       (ap (λ (w : Walked Filed). w .known .n) (isotopes-are a k e i at kept)) m refl refl
 
-  losses-section : bytesOf lossSection (annotationEvents (first a k) read) ≡ flat (λ l. stores (lossRecord l)) lost
+  losses-section : bytesOf lossSection (annotationEvents edition (first a k) read) ≡ flat (λ l. stores (lossRecord l)) lost
   unfolding ionEvents
   losses-section =
       let l = losses-are a k e i at kept in
       let x = adduct-is a k e i at kept in
       section lossSection refl (l .own) refl (x .others lossSection refl refl refl) ∙ append-nil (flat (λ l. stores (lossRecord l)) lost)
 
-  isotopes-section : bytesOf isotopeSection (annotationEvents (first a k) read) ≡ flat (λ x. stores x) (isotopeRecords (isotopesMap filled (a .isotopes)))
+  isotopes-section : bytesOf isotopeSection (annotationEvents edition (first a k) read) ≡ flat (λ x. stores x) (isotopeRecords (isotopesMap filled (a .isotopes)))
   unfolding ionEvents
   isotopes-section =
       let l = losses-are a k e i at kept in
@@ -119,14 +120,14 @@ module _ (a : SpelledAnnotation) (k : List ℕ) (nth end : ℕ) (f : Fault) (e :
       section isotopeSection refl (l .others isotopeSection refl refl refl) (ap (λ (w : Walked Filed). w .known .bytes) (isotopes-are a k e i at kept)) (x .others isotopeSection refl refl refl)
       ∙ append-nil (flat (λ x. stores x) (isotopeRecords (isotopesMap filled (a .isotopes))))
 
-  items-section : bytesOf itemSection (annotationEvents (first a k) read) ≡ flat (λ x. stores (itemRecord x)) added
+  items-section : bytesOf itemSection (annotationEvents edition (first a k) read) ≡ flat (λ x. stores (itemRecord x)) added
   unfolding ionEvents
   items-section =
       let l = losses-are a k e i at kept in
       let x = adduct-is a k e i at kept in
       section itemSection refl (l .others itemSection refl refl refl) refl (x .own) ∙ append-nil (flat (λ x. stores (itemRecord x)) added)
 
-  units-section : bytesOf unitSection (annotationEvents (first a k) read) ≡ flat (λ u. stores (unitRecord u)) (annotationUnits table)
+  units-section : bytesOf unitSection (annotationEvents edition (first a k) read) ≡ flat (λ u. stores (unitRecord u)) (annotationUnits table)
   units-section =
       let l = losses-are a k e i at kept in
       let x = adduct-is a k e i at kept in
@@ -138,14 +139,14 @@ module _ (a : SpelledAnnotation) (k : List ℕ) (nth end : ℕ) (f : Fault) (e :
       section unitSection (sym (ion-other unitSection) ∙ ion-units (a .ion) (second a k) (ionSeen a k nth end f) (p .0) (p .1)) (l .units-are) refl (x .units)
       ∙ ap (λ (z : List ℕ). flat g us ++ z) (ap (λ (z : List ℕ). flat g vs ++ z) (append-nil (flat g ws)) ∙ sym (flat-append g vs ws)) ∙ sym (flat-append g us (vs ++ ws))
 
-  text-section : bytesOf textSection (annotationEvents (first a k) read) ≡ annotationTexts table
+  text-section : bytesOf textSection (annotationEvents edition (first a k) read) ≡ annotationTexts table
   text-section =
       let l = losses-are a k e i at kept in
       let x = adduct-is a k e i at kept in
       section textSection (sym (ion-other textSection) ∙ ion-name (a .ion) (second a k) (ionSeen a k nth end f)) (l .text) refl (x .text)
       ∙ ap (λ (z : List ℕ). ionFields (ionMap filled (a .ion)) .text ++ z) (append-nil (flat (λ l. lostName (l .what)) lost))
 
-  first-stored : StoresRead a (annotationEvents (first a k) read)
+  first-stored : StoresRead edition a (annotationEvents edition (first a k) read)
   first-stored =
       record {
         table = table;
@@ -154,10 +155,10 @@ module _ (a : SpelledAnnotation) (k : List ℕ) (nth end : ℕ) (f : Fault) (e :
       }
 
 -- whichever of a line it was read as, from whichever fault on: a fault is not stored
-pub store-read : (a : SpelledAnnotation) (k : List ℕ) (nth end : ℕ) (f : Fault) (i at : ℕ) → EndsAnnotation k → Kept (annotationMarks i a at) → length (annotationText a ++ k) ≤ end
-    → StoresRead a (annotationEvents (annotationText a ++ k) (partsOf nth end (annotationText a ++ k) f))
-store-read a k nth end f i at e kept h =
+pub store-read : (edition : Edition) (a : SpelledAnnotation) (k : List ℕ) (nth end : ℕ) (f : Fault) (i at : ℕ) → EndsAnnotation k → Kept (annotationMarks i a at) → length (annotationText a ++ k) ≤ end
+    → StoresRead edition a (annotationEvents edition (annotationText a ++ k) (partsOf nth end (annotationText a ++ k) f))
+store-read edition a k nth end f i at e kept h =
     let t = text-is a k in
     let g : length (first a k) ≤ end = subst (λ (s : List ℕ). length s ≤ end) t h in
-    subst (λ (s : List ℕ). StoresRead a (annotationEvents s (partsOf nth end s f))) (sym t)
-    (subst (λ (p : Parts). StoresRead a (annotationEvents (first a k) p)) (parts-read a k nth end f e g) (first-stored a k nth end f e i at kept))
+    subst (λ (s : List ℕ). StoresRead edition a (annotationEvents edition s (partsOf nth end s f))) (sym t)
+    (subst (λ (p : Parts). StoresRead edition a (annotationEvents edition (first a k) p)) (parts-read a k nth end f e g) (first-stored edition a k nth end f e i at kept))

@@ -21,7 +21,8 @@ use Rattle.read_annotation.specs.declared.Parts.{Parts}
 use Rattle.read_annotation.specs.Measured.{behindIon, annotationSize}
 use Rattle.store_annotation.specs.declared.Added.{Added}
 use Rattle.store_annotation.specs.declared.Stored.{Stored}
-use Rattle.store_annotation.specs.Records.{recordBytes}
+use Rattle.rules.specs.Editions.{Edition}
+use Rattle.store_annotation.specs.Records.{recordIn}
 
 -- the ion's units and its text
 unfoldable pub ionEvents : List ℕ → IonRead → List Event
@@ -57,14 +58,14 @@ storedCounts s1 s2 s3 x =
     }
 
 -- s1 is left behind the ion, s2 behind the losses, s3 behind the isotopes
-abbrev pub eventsWith : List ℕ → List ℕ → List ℕ → List ℕ → Front → Tail → List Event
-eventsWith s s1 s2 s3 a b =
+abbrev pub eventsWith : Edition → List ℕ → List ℕ → List ℕ → List ℕ → Front → Tail → List Event
+eventsWith e s s1 s2 s3 a b =
     ionEvents (drop (a .at) s) (a .ion)
-    ++ (changeEvents lossSection s1 ++ ((isotopeSection, filedIsotopes s2 .known .bytes) ∷ (adductEvents s3 ++ ((annotationSection, recordBytes a b (storedCounts s1 s2 s3 (a .ion))) ∷ []))))
+    ++ (changeEvents lossSection s1 ++ ((isotopeSection, filedIsotopes s2 .known .bytes) ∷ (adductEvents s3 ++ ((annotationSection, recordIn e a b (storedCounts s1 s2 s3 (a .ion))) ∷ []))))
 
-unfoldable pub annotationEvents : List ℕ → Parts → List Event
-annotationEvents s p = eventsWith s (behindIon s p) (behindChanges (behindIon s p)) (behindFiledIsotopes (behindChanges (behindIon s p))) (p .front) (p .tail)
+unfoldable pub annotationEvents : Edition → List ℕ → Parts → List Event
+annotationEvents e s p = eventsWith e s (behindIon s p) (behindChanges (behindIon s p)) (behindFiledIsotopes (behindChanges (behindIon s p))) (p .front) (p .tail)
 
-pub record StoresAnnotation (s : List ℕ) (p : Parts) (d : List ℕ) (c : Cursors) (e : List ℕ) (r : Stored) : Type 0 where
+pub record StoresAnnotation (edition : Edition) (s : List ℕ) (p : Parts) (d : List ℕ) (c : Cursors) (e : List ℕ) (r : Stored) : Type 0 where
   pub len : r .len ≡ annotationSize s p
-  pub ran : Ran d c (annotationEvents s p) e (r .cursors)
+  pub ran : Ran d c (annotationEvents edition s p) e (r .cursors)

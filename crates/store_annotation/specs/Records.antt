@@ -3,6 +3,7 @@ use Prim.Native.Nat.{ℕ, _-_, _^_}
 use mathlib.Core.Bool.{Bool, cond, _&&_, not}
 use mathlib.Core.List.{List, [], _∷_, _++_}
 use lib.Dec.{eqb}
+use Rattle.rules.specs.Editions.{Edition, ed1, ed2}
 use Rattle.rules.specs.Stored.{Field, u8, u16, u32, u64, stores}
 use Rattle.counts.specs.declared.Counts.{Counts}
 use Rattle.read_tail.specs.declared.DecimalPart.{DecimalPart}
@@ -46,3 +47,12 @@ countBytes n = stores (countFields n)
 
 abbrev pub recordBytes : Front → Tail → Counts → List ℕ
 recordBytes a b n = frontBytes a ++ (tailBytes b ++ countBytes n)
+
+-- what an edition adds behind them: of the second how many residues the ion's sequence has
+abbrev pub addedBytes : Edition → Front → List ℕ
+addedBytes ed1 a = []
+addedBytes ed2 a = stores (u16 (a .residues) ∷ [])
+
+-- the whole record
+abbrev pub recordIn : Edition → Front → Tail → Counts → List ℕ
+recordIn e a b n = recordBytes a b n ++ addedBytes e a

@@ -1,17 +1,21 @@
 // One annotation, of which the parts were read, stored at six cursors. Its limits were measured before: what its readers tell of them is not looked at.
 ghost use mathlib.Core.Path.{_≡_};
+ghost use Rattle.rules.specs.Editions.{ed2};
 ghost use Rattle.put_bytes.specs.Puts.{Put};
+ghost use Rattle.layout.specs.Editions.{editionOf};
 ghost use Rattle.store_sections.specs.Pages.{Ran};
-ghost use Rattle.store_annotation.specs.Records.{signedOf, frontBytes, kindBytes, tailBytes, countBytes, recordBytes};
+ghost use Rattle.store_annotation.specs.Records.{signedOf, frontBytes, kindBytes, tailBytes, countBytes, recordIn};
 ghost use Rattle.store_annotation.specs.Events.{ionEvents, StoresAdduct, StoresAnnotation};
 use counts::Counts;
 use layout::ANNOTATION_SECTION;
 use layout::ANNOTATION_SIZE;
+use layout::Edition;
 use layout::ISOTOPE_SECTION;
 use layout::ITEM_SECTION;
 use layout::LOSS_SECTION;
 use layout::TEXT_SECTION;
 use layout::UNIT_SECTION;
+use layout::annotation_size;
 use put_bytes::put_le;
 use put_bytes::put_run;
 use put_bytes::put8;
@@ -23,6 +27,7 @@ use read_annotation::begins_adduct;
 use read_ion::IonRead;
 use read_isotopes::store_isotopes;
 use read_tail::DecimalPart;
+use slices::first_of;
 use slices::minus_or_zero;
 use slices::part;
 use slices::rest;
@@ -107,22 +112,30 @@ fn put_counts(out: &mut [u8], to: usize, n: Counts) -> usize
     put8(out, t, 0)
 }
 
-// The fields of an annotation's record.
+// The fields of an annotation's record, with the residues behind those of every edition.
 fn put_fields(out: &mut [u8], to: usize, a: Front, b: Tail, n: Counts) -> usize
-    ensures { λ r. ⌜ Put (now (out .entry)) to (recordBytes a b n) (now (out .exit)) r ⌝ }
+    ensures { λ r. ⌜ Put (now (out .entry)) to (recordIn ed2 a b n) (now (out .exit)) r ⌝ }
 {
     let p = put_front(out, to, a);
     let q = put_tail(out, p, b);
-    put_counts(out, q, n)
+    let r = put_counts(out, q, n);
+    put_le(out, r, a.residues as u64, 2)
 }
 
-// The record of an annotation, put in one piece: whether it fits is asked once, and not for each field.
-fn put_annotation(out: &mut [u8], to: usize, a: Front, b: Tail, n: Counts) -> usize
-    ensures { λ r. ⌜ Put (now (out .entry)) to (recordBytes a b n) (now (out .exit)) r ⌝ }
+// The record of an annotation, put in one piece: whether it fits is asked once, and not for each field. The first edition has no residues.
+fn put_annotation(
+    out: &mut [u8],
+    to: usize,
+    edition: Edition,
+    a: Front,
+    b: Tail,
+    n: Counts,
+) -> usize
+    ensures { λ r. ⌜ Put (now (out .entry)) to (recordIn (editionOf edition) a b n) (now (out .exit)) r ⌝ }
 {
     let mut record = [0u8; ANNOTATION_SIZE];
     put_fields(&mut record, 0, a, b, n);
-    put_run(out, to, &record)
+    put_run(out, to, first_of(&record, annotation_size(edition)))
 }
 
 // The units and the text of an ion that a part begins with; it has one of the two at most.
@@ -149,8 +162,8 @@ fn store_adduct(out: &mut [u8], c: Cursors, s: &[u8]) -> Added
 }
 
 // The annotation that a part begins with, by what was read of it. Losses, isotopes and adduct were only counted then: they are read here, as they are stored.
-pub fn store(out: &mut [u8], c: Cursors, s: &[u8], p: Parts) -> Stored
-    ensures { λ r. ⌜ StoresAnnotation (now (s .entry)) p (now (out .entry)) c (now (out .exit)) r ⌝ }
+pub fn store(out: &mut [u8], c: Cursors, edition: Edition, s: &[u8], p: Parts) -> Stored
+    ensures { λ r. ⌜ StoresAnnotation (editionOf edition) (now (s .entry)) p (now (out .entry)) c (now (out .exit)) r ⌝ }
 {
     let a = p.front;
     let x = a.ion;
@@ -173,7 +186,7 @@ pub fn store(out: &mut [u8], c: Cursors, s: &[u8], p: Parts) -> Stored
         units: x.units,
         text: x.text,
     };
-    let next = put_annotation(out, cursor(c4, ANNOTATION_SECTION), a, b, n);
+    let next = put_annotation(out, cursor(c4, ANNOTATION_SECTION), edition, a, b, n);
     Stored {
         len: minus_or_zero(s.len(), rest(rest(s1, m.len), b.len).len()),
         cursors: with_cursor(c4, ANNOTATION_SECTION, next),

@@ -17,33 +17,33 @@ abbrev pub behind : ℕ → ℕ → ℕ → ℕ
 behind p n size = min (p + n * size) maxPlace
 
 -- where the sections begin; a byte of text has 1 byte
-abbrev pub lossesAt : Counts → ℕ
-lossesAt n = behind headerSize (n .annotations) annotationWidth
+abbrev pub lossesAt : Edition → Counts → ℕ
+lossesAt e n = behind headerSize (n .annotations) (annotationWidth e)
 
-abbrev pub isotopesAt : Counts → ℕ
-isotopesAt n = behind (lossesAt n) (n .losses) lossWidth
+abbrev pub isotopesAt : Edition → Counts → ℕ
+isotopesAt e n = behind (lossesAt e n) (n .losses) lossWidth
 
-abbrev pub itemsAt : Counts → ℕ
-itemsAt n = behind (isotopesAt n) (n .isotopes) isotopeWidth
+abbrev pub itemsAt : Edition → Counts → ℕ
+itemsAt e n = behind (isotopesAt e n) (n .isotopes) isotopeWidth
 
-abbrev pub unitsAt : Counts → ℕ
-unitsAt n = behind (itemsAt n) (n .items) itemWidth
+abbrev pub unitsAt : Edition → Counts → ℕ
+unitsAt e n = behind (itemsAt e n) (n .items) itemWidth
 
-abbrev pub textAt : Counts → ℕ
-textAt n = behind (unitsAt n) (n .units) unitWidth
+abbrev pub textAt : Edition → Counts → ℕ
+textAt e n = behind (unitsAt e n) (n .units) unitWidth
 
-abbrev pub endAt : Counts → ℕ
-endAt n = behind (textAt n) (n .text) 1
+abbrev pub endAt : Edition → Counts → ℕ
+endAt e n = behind (textAt e n) (n .text) 1
 
-abbrev pub startsOf : Counts → Cursors
-startsOf n =
+abbrev pub startsOf : Edition → Counts → Cursors
+startsOf e n =
     record {
       annotations = headerSize;
-      losses = lossesAt n;
-      isotopes = isotopesAt n;
-      items = itemsAt n;
-      units = unitsAt n;
-      text = textAt n;
+      losses = lossesAt e n;
+      isotopes = isotopesAt e n;
+      items = itemsAt e n;
+      units = unitsAt e n;
+      text = textAt e n;
     }
 
 abbrev pub pair : ℕ → ℕ → List ℕ
@@ -57,12 +57,12 @@ headerFields edition n c end =
     ∷ u16 (n .items) ∷ u16 (c .items) ∷ u16 (n .units) ∷ u16 (c .units) ∷ u16 (n .text) ∷ u16 (c .text) ∷ []
 
 abbrev pub headerBytes : Edition → Counts → List ℕ
-headerBytes edition n = stores (headerFields edition n (startsOf n) (endAt n))
+headerBytes edition n = stores (headerFields edition n (startsOf edition n) (endAt edition n))
 
 -- the header is stored over d, which is then e; the cursors stand where the sections begin
 pub record Headed (edition : Edition) (d : List ℕ) (n : Counts) (e : List ℕ) (c : Cursors) : Type 0 where
   pub put : Put d 0 (headerBytes edition n) e headerSize
-  pub starts : c ≡ startsOf n
+  pub starts : c ≡ startsOf edition n
 
 -- how many there are in each section of a table
 abbrev pub countsOf : Table → Counts

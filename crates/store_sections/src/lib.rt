@@ -6,7 +6,6 @@ ghost use Rattle.store_sections.specs.Headers.{behind, startsOf, endAt, 
 ghost use Rattle.layout.specs.Editions.{editionOf};
 use counts::Counts;
 use layout::ANNOTATION_SECTION;
-use layout::ANNOTATION_SIZE;
 use layout::Edition;
 use layout::HEADER_SIZE;
 use layout::ISOTOPE_SECTION;
@@ -18,6 +17,7 @@ use layout::LOSS_SIZE;
 use layout::TEXT_SECTION;
 use layout::UNIT_SECTION;
 use layout::UNIT_SIZE;
+use layout::annotation_size;
 use layout::edition_number;
 
 // Where the next byte of each section goes.
@@ -75,11 +75,11 @@ pub fn place_behind(at: usize, n: usize, size: usize) -> usize
     at + n * size
 }
 
-// Where each section begins.
-pub fn starts(n: Counts) -> Cursors
-    ensures { λ r. ⌜ r ≡ startsOf n ⌝ }
+// Where each section of a table of an edition begins.
+pub fn starts(edition: Edition, n: Counts) -> Cursors
+    ensures { λ r. ⌜ r ≡ startsOf (editionOf edition) n ⌝ }
 {
-    let losses = place_behind(HEADER_SIZE, n.annotations, ANNOTATION_SIZE);
+    let losses = place_behind(HEADER_SIZE, n.annotations, annotation_size(edition));
     let isotopes = place_behind(losses, n.losses, LOSS_SIZE);
     let items = place_behind(isotopes, n.isotopes, ISOTOPE_SIZE);
     let units = place_behind(items, n.items, ITEM_SIZE);
@@ -95,10 +95,10 @@ pub fn starts(n: Counts) -> Cursors
 }
 
 // How many bytes the whole table has.
-pub fn size_of(n: Counts) -> usize
-    ensures { λ r. ⌜ r ≡ endAt n ⌝ }
+pub fn size_of(edition: Edition, n: Counts) -> usize
+    ensures { λ r. ⌜ r ≡ endAt (editionOf edition) n ⌝ }
 {
-    let c = starts(n);
+    let c = starts(edition, n);
     place_behind(c.text, n.text, 1)
 }
 
@@ -114,7 +114,7 @@ fn put_pair(out: &mut [u8], at: usize, a: usize, b: usize) -> usize
 pub fn put_header(out: &mut [u8], edition: Edition, n: Counts) -> Cursors
     ensures { λ r. ⌜ Headed (editionOf edition) (now (out .entry)) n (now (out .exit)) r ⌝ }
 {
-    let c = starts(n);
+    let c = starts(edition, n);
     let end = place_behind(c.text, n.text, 1);
     let mut at = put_pair(out, 0, edition_number(edition), end);
     at = put_pair(out, at, n.annotations, c.annotations);

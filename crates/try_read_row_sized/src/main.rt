@@ -7,7 +7,7 @@ fn main() {
         b"try_read_row_sized",
         b"try_read_row_sized makes a stored row of each row of a peak list, with an output of the length that is asked for.
 
-Standard input has on each line a number of bytes (at most 21,360), a space and a row: m/z, a tab, intensity, and
+Standard input has on each line a number of bytes (at most 21,392), a space and a row: m/z, a tab, intensity, and
 perhaps a tab and a line of annotations. Lines end at line feeds, and the last may lack its own.
 
 Standard output has one answer a line: the number of refusal, the place, how many bytes the stored row has, and the

@@ -7,7 +7,7 @@ fn main() {
         b"try_read_sized",
         b"try_read_sized makes a table of each mzPAF line, with an output of the length that is asked for.
 
-Standard input has on each line a number of bytes (at most 21,360), a space and a line of annotations.
+Standard input has on each line a number of bytes (at most 21,392), a space and a line of annotations.
 Lines end at line feeds, and the last may lack its own.
 
 Standard output has one answer a line: the number of refusal, the place, how many bytes the table has, and the

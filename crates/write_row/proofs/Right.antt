@@ -13,11 +13,9 @@ use Rattle.rules.specs.Fields.{Table}
 use Rattle.rules.specs.Limits as Limits
 use Rattle.rules.specs.Limits.{maxLine}
 use Rattle.rules.specs.Preferred.{shortenedAnnotation, preferred}
-use Rattle.rules.specs.Stored.{stores, stored}
-use Rattle.rules.specs.Answers.{Answer, refuses, Delivers, no-room, done, Holds, Writes, no-table}
-use Rattle.rules.specs.Rows.{tab, Row, preferredRow, rowHeadSize, rowHead}
+use Rattle.rules.specs.Answers.{Answer, refuses, Delivers, no-room, done, Takes, Writes, no-table}
+use Rattle.rules.specs.Rows.{tab, Row, preferredRow, rowHeadSize}
 use Rattle.rules.specs.RowAnswers.{HoldsRow, WritesRow, no-row}
-use Rattle.rules.specs.Editions.{current}
 use Rattle.rules.proofs.RisesParts.{ion-some}
 use Rattle.put_bytes.specs.Puts.{maxPlace}
 use Rattle.scan_line.specs.Verdicts.{JudgedBy}
@@ -136,18 +134,12 @@ module _ (s : List ℕ) (room : ℕ) (small : room ≤ maxPlace) (h : Head) (x :
       subst (λ (w : List ℕ). Delivers room w (behindOf text (length text) room b)) (sym (labelled-text (h .mz) (h .intensity) a t))
       (delivered-line text room small short-text (preferred (a ∷ t)) (preferred-some a t) l d)
 
-  held : (t : Table) → Holds current (drop rowHeadSize s) t → HoldsRow s (meant t)
-  held t g =
-      record {
-        mz = x .mz;
-        intensity = x .intensity;
-        table = g .sound;
-        is = ap (λ (l : List ℕ). stores (rowHead (ruled (h .mz)) (ruled (h .intensity))) ++ l) (g .is) ∙ x .is;
-      }
+  held : (t : Table) → Takes (drop rowHeadSize s) t → HoldsRow s (meant t)
+  held t g = record { mz = x .mz; intensity = x .intensity; rest = drop rowHeadSize s; table = g; is = x .is }
 
   -- no row but of this head
-  rest-held : (r : Row) → HoldsRow s r → Holds current (drop rowHeadSize s) (r .table)
-  rest-held r g = record { sound = g .table; is = ap (drop rowHeadSize) (g .is) }
+  rest-held : (r : Row) → HoldsRow s r → Takes (drop rowHeadSize s) (r .table)
+  rest-held r g = subst (λ (l : List ℕ). Takes l (r .table)) (ap (drop rowHeadSize) (g .is)) (g .table)
 
   line-right : {b : Answer} → Writes (drop rowHeadSize s) (room - (length text + 1)) b → WritesRow s room (behindOf text (length text) room b)
   unfolding behindOf
@@ -160,7 +152,7 @@ module _ (s : List ℕ) (room : ℕ) (small : room ≤ maxPlace) (h : Head) (x :
 head-there : (s : List ℕ) (r : Row) → HoldsRow s r → headOf s .good ≡ true
 head-there s r g =
     ap (λ (l : List ℕ). headOf l .good) (sym (g .is))
-    ∙ ap (λ (h : Head). h .good) (head-found (r .mz) (r .intensity) (g .mz) (g .intensity) (stored current (r .table)))
+    ∙ ap (λ (h : Head). h .good) (head-found (r .mz) (r .intensity) (g .mz) (g .intensity) (g .rest))
 
 pub write-row-right : (machine s : List ℕ) (room : ℕ) → room ≤ maxPlace → Bytes s
     → ((l : List ℕ) → allBytes l ≡ true → length l ≤ maxPlace → JudgedBy l (scannedBy machine l))

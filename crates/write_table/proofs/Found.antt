@@ -13,6 +13,9 @@ use Rattle.put_bytes.proofs.Putting.{over-zeros}
 use Rattle.rules.specs.Answers as rules
 use Rattle.rules.specs.Largest.{maxAnyTable}
 use Rattle.scan_line.specs.Steps.{scannedBy}
+use Rattle.layout.specs.declared.Edition.{Edition}
+use Rattle.layout.specs.Editions.{editionOf}
+use Rattle.print_table.specs.Parts.{editionIn}
 use Rattle.print_table.specs.Tables.{printedTable}
 use Rattle.answers.specs.declared.Answer.{Answer}
 use Rattle.answers.specs.Delivered.{answered, refusedOf}
@@ -37,12 +40,13 @@ module _ (machine : List ℕ) (most : ℕ) (scratch w table : List ℕ) (room : 
   unfolding foundIn
   found-long h z e = rw (lt-ltb most (length w) h, e, z)
 
-  -- s is what stands in the buffer
-  pub found-within : {s : List ℕ} {held : Bool} {a : rules.Answer} → s ≡ w → length w ≤ most → held ≡ readsTo (scannedBy machine s) scratch s table
-      → a ≡ foundOf held s room → a ≡ foundIn machine most scratch w table room
+  -- s is what stands in the buffer, and d the edition that the table names
+  pub found-within : {s : List ℕ} {d : Edition} {held : Bool} {a : rules.Answer} → s ≡ w → length w ≤ most → d ≡ editionIn table
+      → held ≡ readsTo (editionOf d) (scannedBy machine s) scratch s table → a ≡ foundOf held s room → a ≡ foundIn machine most scratch w table room
   unfolding foundIn
-  found-within {s} {held} q h e f =
-      f ∙ ap (λ (b : Bool). foundOf b s room) e ∙ ap (λ (l : List ℕ). foundOf (readsTo (scannedBy machine l) scratch l table) l room) q ∙ rw (le-ltb most (length w) h)
+  found-within {s} {d} {held} q h i e f =
+      f ∙ ap (λ (b : Bool). foundOf b s room) e ∙ ap (λ (d : Edition). foundOf (readsTo (editionOf d) (scannedBy machine s) scratch s table) s room) i
+      ∙ ap (λ (l : List ℕ). foundOf (readsTo (editionOf (editionIn table)) (scannedBy machine l) scratch l table) l room) q ∙ rw (le-ltb most (length w) h)
 
 -- ---- printed into a buffer
 

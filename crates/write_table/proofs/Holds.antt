@@ -16,11 +16,12 @@ use Rattle.lang.proofs.Deriv.{and-0, and-1}
 use Rattle.rules.specs.Lines.{Spelling, lineText, Shape, Misshapen}
 use Rattle.rules.specs.Fields.{Table, Says}
 use Rattle.rules.specs.Limits.{lineMarks}
-use Rattle.rules.specs.House.{firstBreach, firstExcess}
+use Rattle.rules.specs.House.{firstForeign, firstBreach}
 use Rattle.rules.specs.Preferred.{preferred, preferredSpelling}
 use Rattle.rules.specs.Stored.{stored}
-use Rattle.rules.specs.Answers.{Answer, gives, Delivers, no-room, done, ReadsSum, ReadsRules, ReadsSpelling, Sound, Holds}
-use Rattle.rules.specs.Editions.{current}
+use Rattle.rules.specs.Answers.{Answer, gives, Delivers, no-room, done, ReadsSum, ReadsRules, ReadsForm, ReadsSpelling, Sound, Takes}
+use Rattle.rules.specs.Editions.{Edition, current}
+use Rattle.rules.proofs.SoundEditions.{sound-in}
 use Rattle.rules.proofs.OneShape.{judged-shape, judged-misshapen}
 use Rattle.rules.proofs.FirstBroken.{wins-number}
 use Rattle.rules.proofs.OneShape.{misshapen-no-shape}
@@ -36,7 +37,7 @@ use Rattle.read_line.specs.Same.{sameBytes, allBytes}
 use Rattle.read_line.specs.Back.{isRead, readsTo, zeros}
 use Rattle.rules.proofs.PreferredSpells.{said-in-order, preferred-says}
 use Rattle.write_table.proofs.Low.{line-bytes}
-use Rattle.write_table.proofs.Prefers.{preferred-kept, preferred-rules, preferred-sum}
+use Rattle.write_table.proofs.Prefers.{preferred-kept, preferred-form, preferred-rules, preferred-sum}
 use Rattle.read_line.proofs.Same.{same-is, same-refl}
 
 written-silent : {p : ℕ} → _≡_ {A = Opt ℕ} (written p) silent → ⊥
@@ -49,51 +50,59 @@ written-silent {p} e = subst There e tt
 -- ---- what is read: a table, if the number is 0
 
 -- the answer's number is 0: it gives the stored bytes of a table that the spelling says, within limits and rules
-pub record ReadAs (s : Spelling) (room : ℕ) (a : Answer) : Type 0 where
+pub record ReadAs (e : Edition) (s : Spelling) (room : ℕ) (a : Answer) : Type 0 where
   pub table : Table
   pub says : Each Says s table
   pub limits : Kept (lineMarks s)
-  pub sound : Sound table
-  pub is : a ≡ gives room (stored current table)
+  pub sound : Sound current table
+  pub is : a ≡ gives room (stored e table)
 
-delivered : (s : Spelling) (room : ℕ) (t : Table) → Each Says s t → Kept (lineMarks s) → Sound t → {a : Answer} → Delivers room (stored current t) a → a .number ≡ 0 → ReadAs s room a
-delivered s room t y k w (no-room h) e = absurd (omega arith)
-delivered s room t y k w (done h) e = record { table = t; says = y; limits = k; sound = w; is = refl }
+module _ {edition : Edition} (s : Spelling) (room : ℕ) where
+  delivered : (t : Table) → Each Says s t → Kept (lineMarks s) → Sound current t → {a : Answer} → Delivers room (stored edition t) a → a .number ≡ 0 → ReadAs edition s room a
+  delivered t y k w (no-room h) e = absurd (omega arith)
+  delivered t y k w (done h) e = record { table = t; says = y; limits = k; sound = w; is = refl }
 
-sum-as : (s : Spelling) (room : ℕ) → Kept (lineMarks s) → firstBreach 0 s ≡ silent → {a : Answer} → ReadsSum s room a → a .number ≡ 0 → ReadAs s room a
-sum-as s room k r (ReadsSum.excess p z) e = absurd (omega arith)
-sum-as s room k r (ReadsSum.kept z t y d) e = delivered s room t y k (record { spelling = s; says = y; limits = k; rules = r; sum = z }) d e
+  sum-as : Kept (lineMarks s) → firstForeign current 0 s ≡ silent → firstBreach current 0 s ≡ silent → {a : Answer} → ReadsSum edition s room a → a .number ≡ 0 → ReadAs edition s room a
+  sum-as k f r (ReadsSum.excess p z) e = absurd (omega arith)
+  sum-as k f r (ReadsSum.kept z t y d) e = delivered t y k (record { spelling = s; says = y; limits = k; form = f; rules = r; sum = z }) d e
 
-rules-as : (s : Spelling) (room : ℕ) → Kept (lineMarks s) → {a : Answer} → ReadsRules s room a → a .number ≡ 0 → ReadAs s room a
-rules-as s room k (ReadsRules.breach p z) e = absurd (omega arith)
-rules-as s room k (ReadsRules.kept z r) e = sum-as s room k z r e
+  rules-as : Kept (lineMarks s) → firstForeign current 0 s ≡ silent → {a : Answer} → ReadsRules edition s room a → a .number ≡ 0 → ReadAs edition s room a
+  rules-as k f (ReadsRules.breach p z) e = absurd (omega arith)
+  rules-as k f (ReadsRules.kept z r) e = sum-as k f z r e
 
-pub spelling-as : (s : Spelling) (room : ℕ) {a : Answer} → ReadsSpelling s room a → a .number ≡ 0 → ReadAs s room a
-spelling-as s room (ReadsSpelling.limit m w) e = absurd (omega (arith, wins-number s m w))
-spelling-as s room (ReadsSpelling.kept k r) e = rules-as s room k r e
+  form-as : Kept (lineMarks s) → {a : Answer} → ReadsForm edition s room a → a .number ≡ 0 → ReadAs edition s room a
+  form-as k (ReadsForm.foreign p z) e = absurd (omega arith)
+  form-as k (ReadsForm.kept z r) e = rules-as k z r e
+
+  pub spelling-as : {a : Answer} → ReadsSpelling edition s room a → a .number ≡ 0 → ReadAs edition s room a
+  spelling-as (ReadsSpelling.limit m w) e = absurd (omega (arith, wins-number s m w))
+  spelling-as (ReadsSpelling.kept k r) e = form-as k r e
 
 -- ---- what is read of the preferred spelling of a sound table: the table
 
-module _ (t : Table) (kept : Kept (lineMarks (preferredSpelling t))) (rules : firstBreach 0 (preferredSpelling t) ≡ silent)
-    (sum : firstExcess 0 0 (preferredSpelling t) ≡ silent) (says : Each Says (preferredSpelling t) t) (room : ℕ) (fits : length (stored current t) ≤ room) where
+module _ (edition : Edition) (t : Table) (sound : Sound current t) (room : ℕ) (fits : length (stored edition t) ≤ room) where
   abbrev s : Spelling
   s = preferredSpelling t
 
-  delivers-it : {a : Answer} (u : Table) → u ≡ t → Delivers room (stored current u) a → a ≡ gives room (stored current t)
-  delivers-it u q (no-room h) = absurd (omega (arith, ap (λ (x : Table). length (stored current x)) q))
-  delivers-it u q (done h) = ap (λ (x : Table). gives room (stored current x)) q
+  delivers-it : {a : Answer} (u : Table) → u ≡ t → Delivers room (stored edition u) a → a ≡ gives room (stored edition t)
+  delivers-it u q (no-room h) = absurd (omega (arith, ap (λ (x : Table). length (stored edition x)) q))
+  delivers-it u q (done h) = ap (λ (x : Table). gives room (stored edition x)) q
 
-  sum-it : {a : Answer} → ReadsSum s room a → a ≡ gives room (stored current t)
-  sum-it (ReadsSum.excess p z) = absurd (written-silent (sym z ∙ sum))
-  sum-it (ReadsSum.kept z u y d) = delivers-it u (OneTable.one-table one-spelling y says) d
+  sum-it : {a : Answer} → ReadsSum edition s room a → a ≡ gives room (stored edition t)
+  sum-it (ReadsSum.excess p z) = absurd (written-silent (sym z ∙ preferred-sum t sound))
+  sum-it (ReadsSum.kept z u y d) = delivers-it u (OneTable.one-table one-spelling y (preferred-says (said-in-order (sound .says)))) d
 
-  rules-it : {a : Answer} → ReadsRules s room a → a ≡ gives room (stored current t)
-  rules-it (ReadsRules.breach p z) = absurd (written-silent (sym z ∙ rules))
+  rules-it : {a : Answer} → ReadsRules edition s room a → a ≡ gives room (stored edition t)
+  rules-it (ReadsRules.breach p z) = absurd (written-silent (sym z ∙ preferred-rules current t sound))
   rules-it (ReadsRules.kept z r) = sum-it r
 
-  spelling-it : {a : Answer} → ReadsSpelling s room a → a ≡ gives room (stored current t)
-  spelling-it (ReadsSpelling.limit m w) = absurd (kept m (w .is-in) (w .broken))
-  spelling-it (ReadsSpelling.kept k r) = rules-it r
+  form-it : {a : Answer} → ReadsForm edition s room a → a ≡ gives room (stored edition t)
+  form-it (ReadsForm.foreign p z) = absurd (written-silent (sym z ∙ preferred-form current t sound))
+  form-it (ReadsForm.kept z r) = rules-it r
+
+  spelling-it : {a : Answer} → ReadsSpelling edition s room a → a ≡ gives room (stored edition t)
+  spelling-it (ReadsSpelling.limit m w) = absurd (preferred-kept t sound m (w .is-in) (w .broken))
+  spelling-it (ReadsSpelling.kept k r) = form-it r
 
 -- ---- shape
 
@@ -112,41 +121,40 @@ pub take-given : (room : ℕ) (w : List ℕ) → take (length w) (w ++ replicate
 take-given room w = take-append-seam w (replicate (room - length w) 0)
 
 -- the line, read again, is a table's: these bytes are one
-module _ (w table : List ℕ) (room : ℕ) (small : room ≤ maxPlace) (fits : length w ≤ maxPlace) where
-  read-as : (v : Verdict) → JudgedBy w v → anyOver (zeros room) v w .number ≡ 0
-      → (t : Table) × (Sound t × (take (anyOver (zeros room) v w .size) (anyOver (zeros room) v w .out) ≡ stored current t))
+module _ (edition : Edition) (w table : List ℕ) (room : ℕ) (small : room ≤ maxPlace) (fits : length w ≤ maxPlace) where
+  read-as : (v : Verdict) → JudgedBy w v → anyOver edition (zeros room) v w .number ≡ 0
+      → (t : Table) × (Sound current t × (take (anyOver edition (zeros room) v w .size) (anyOver edition (zeros room) v w .out) ≡ stored edition t))
   read-as Fine j e =
       let x = judged-shape j refl in
       let s = x .0 in
       let q : lineText s ≡ w = x .1 in
-      let r = subst (λ (l : List ℕ). ReadsSpelling s room (spelledOver (zeros room) l)) q (spelled-right room small s (omega (arith, ap length q))) in
+      let r = subst (λ (l : List ℕ). ReadsSpelling edition s room (spelledOver edition (zeros room) l)) q (spelled-right edition room small s (omega (arith, ap length q))) in
       let y = spelling-as s room r e in
       let t = y .table in
-      (t, (y .sound, ap (λ (a : Answer). take (a .size) (a .out)) (y .is) ∙ take-given room (stored current t)))
+      (t, (y .sound, ap (λ (a : Answer). take (a .size) (a .out)) (y .is) ∙ take-given room (stored edition t)))
   read-as Short j e = absurd (omega arith)
   read-as (Stray p) j e = absurd (omega arith)
 
-  pub reads-holds : (v : Verdict) → (allBytes w ≡ true → JudgedBy w v) → readsTo v (zeros room) w table ≡ true → (t : Table) × Holds current table t
+  pub reads-holds : (v : Verdict) → (allBytes w ≡ true → JudgedBy w v) → readsTo edition v (zeros room) w table ≡ true → (t : Table) × Takes table t
   unfolding readsTo
   reads-holds v j e =
-      let a = anyOver (zeros room) v w in
+      let a = anyOver edition (zeros room) v w in
       let b = t-is (allBytes w) (and-0 (allBytes w) (isRead a table) (is-t e)) in
       let i = and-1 (allBytes w) (isRead a table) (is-t e) in
       let n = eqb-true (a .number) 0 (t-is (eqb (a .number) 0) (and-0 (eqb (a .number) 0) (sameBytes (take (a .size) (a .out)) table) i)) in
       let m = same-is (take (a .size) (a .out)) table (t-is (sameBytes (take (a .size) (a .out)) table) (and-1 (eqb (a .number) 0) (sameBytes (take (a .size) (a .out)) table) i)) in
       let x = read-as v (j b) n in
-      (x .0, record { sound = x .1 .0; is = sym (x .1 .1) ∙ m })
+      (x .0, record { edition = edition; holds = record { sound = sound-in edition (x .0) (x .1 .0); is = sym (x .1 .1) ∙ m }; also = x .1 .0 })
 
 -- the preferred line of a table reads to its bytes
-pub holds-reads : (t : Table) → Sound t → (room : ℕ) → room ≤ maxPlace → length (stored current t) ≤ room → length (preferred t) ≤ maxPlace
-    → (v : Verdict) → (allBytes (preferred t) ≡ true → JudgedBy (preferred t) v) → readsTo v (zeros room) (preferred t) (stored current t) ≡ true
+pub holds-reads : (edition : Edition) (t : Table) → Sound current t → (room : ℕ) → room ≤ maxPlace → length (stored edition t) ≤ room → length (preferred t) ≤ maxPlace
+    → (v : Verdict) → (allBytes (preferred t) ≡ true → JudgedBy (preferred t) v) → readsTo edition v (zeros room) (preferred t) (stored edition t) ≡ true
 unfolding readsTo
-holds-reads t sound room small fits short v j =
+holds-reads edition t sound room small fits short v j =
     let s = preferredSpelling t in
     let b = line-bytes s in
     let f = shape-fine (preferred t) v (j b) (s, refl) in
-    let g : spelledOver (zeros room) (preferred t) ≡ gives room (stored current t) =
-    spelling-it t (preferred-kept t sound) (preferred-rules t sound) (preferred-sum t sound) (preferred-says (said-in-order (sound .says))) room fits (spelled-right room small s short) in
-    let a : anyOver (zeros room) v (preferred t) ≡ gives room (stored current t) = ap (λ (v : Verdict). anyOver (zeros room) v (preferred t)) f ∙ g in
-    let i : isRead (gives room (stored current t)) (stored current t) ≡ true = ap (λ (l : List ℕ). sameBytes l (stored current t)) (take-given room (stored current t)) ∙ same-refl (stored current t) in
+    let g : spelledOver edition (zeros room) (preferred t) ≡ gives room (stored edition t) = spelling-it edition t sound room fits (spelled-right edition room small s short) in
+    let a : anyOver edition (zeros room) v (preferred t) ≡ gives room (stored edition t) = ap (λ (v : Verdict). anyOver edition (zeros room) v (preferred t)) f ∙ g in
+    let i : isRead (gives room (stored edition t)) (stored edition t) ≡ true = ap (λ (l : List ℕ). sameBytes l (stored edition t)) (take-given room (stored edition t)) ∙ same-refl (stored edition t) in
     rw (b, a) i

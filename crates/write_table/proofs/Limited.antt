@@ -18,6 +18,7 @@ use Rattle.rules.specs.Adducts.{Added, added-formula, electron, addedMap, Item,
 use Rattle.rules.specs.Confidences.{Confidence, meantDecimal}
 use Rattle.rules.specs.Annotations.{SpelledAnnotation, Deviation, flagText}
 use Rattle.rules.specs.Fields.{filledAnnotation, Table, filled}
+use Rattle.rules.specs.Editions.{Edition}
 use Rattle.rules.specs.Answers.{Sound}
 use Rattle.rules.specs.Limits.{maxAnnotations, maxLosses, maxIsotopes, maxItems, maxUnits, maxText, maxPosition, maxCount, maxCharge, fits}
 use Rattle.rules.specs.Limits.{bare, part, optPart, numberPart, closedPart, decimalPart, rowMarks, rowPart, unitMarks, formulaPart, ionParts, lostPart, lossParts, lossMarks}
@@ -197,7 +198,7 @@ annotation-limited i a at k =
 
 -- ---- a sound table
 
-pub table-within : (t : Table) → Sound t → Row maxAnnotations AnnotationWithin t
+pub table-within : {e : Edition} (t : Table) → Sound e t → Row maxAnnotations AnnotationWithin t
 table-within t s =
     record {
       few = table-few t s;

@@ -2,10 +2,10 @@
 -- leaves out a 1, and as many of everything. Assumes nothing.
 use Prim.Native.Nat.{ℕ, _+_}
 use mathlib.Core.Path.{_≡_, refl, sym, ap, ap₂, _∙_, subst}
-use mathlib.Core.Bool.{Bool, true, false, not, _&&_}
+use mathlib.Core.Bool.{Bool, not, _&&_}
 use mathlib.Core.List.{List, [], _∷_, map}
 use lib.Dec.{T, leb}
-use Rattle.lang.specs.Parts.{Opt, silent, written, optMap}
+use Rattle.lang.specs.Parts.{Opt, silent, optMap}
 use Rattle.lang.specs.Mark.{Kept}
 use Rattle.lang.specs.Order.{Perm, same, swap, keep, then, Each, none, next}
 use Rattle.rules.specs.Numbers.{Number}
@@ -18,16 +18,18 @@ use Rattle.rules.specs.Lines.{Spelling}
 use Rattle.rules.specs.Preferred.{shortenedAnnotation, shortened, preferredSpelling}
 use Rattle.rules.specs.Fields.{Table, filled, SameFields, Says}
 use Rattle.rules.specs.Limits.{lineMarks}
-use Rattle.rules.specs.House.{isEmpty, ionRule, deviationRule, confidenceOf, share, one, annotationRules, firstBreach, firstExcess}
+use Rattle.rules.specs.House.{isEmpty, ionRule, deviationRule, confidenceOf, share, one, formed, commonRules, longEnough, annotationRules, firstFailing, firstForeign, firstBreach, firstExcess}
+use Rattle.rules.specs.Editions.{Edition, ed1, ed2}
 use Rattle.rules.specs.Answers.{Sound}
 use Rattle.rules.proofs.Shortened.{confidence-back}
 use Rattle.rules.proofs.FitAnnotations.{passed}
+use Rattle.rules.proofs.SoundEditions.{passes}
 use Rattle.write_table.proofs.Limited.{table-within}
 use Rattle.write_table.proofs.Unbroken.{line-kept}
 
 -- ---- limits
 
-pub preferred-kept : (t : Table) → Sound t → Kept (lineMarks (preferredSpelling t))
+pub preferred-kept : {e : Edition} (t : Table) → Sound e t → Kept (lineMarks (preferredSpelling t))
 preferred-kept t s = line-kept t (table-within t s)
 
 -- ---- rules for one annotation do not look at free counts, nor at the order of losses and items
@@ -75,27 +77,60 @@ rules-same {a} {b} e =
     ∙ ap (λ (x : Opt Deviation). rulesOf (b .ion) (isEmpty (b .adduct)) x (a .confidence)) (e .deviation)
     ∙ ap (λ (x : Opt Decimal). rulesOf (b .ion) (isEmpty (b .adduct)) (b .deviation) x) (e .confidence)
 
-rules-kept : {a : SpelledAnnotation} {b : TableAnnotation} → Says a b → annotationRules a ≡ annotationRules (shortenedAnnotation b)
-rules-kept {a} {b} s =
+common-kept : {a : SpelledAnnotation} {b : TableAnnotation} → Says a b → commonRules a ≡ commonRules (shortenedAnnotation b)
+common-kept {a} {b} s =
     sym (rules-map filled (a .ion) (a .adduct) (a .deviation) (optMap meantDecimal (a .confidence))) ∙ rules-same (s .fields)
     ∙ sym (rules-map shortened (b .ion) (b .adduct) (b .deviation) (b .confidence))
     ∙ ap (rulesOf (ionMap shortened (b .ion)) (isEmpty (map (itemMap shortened) (b .adduct))) (b .deviation)) (sym (confidence-back (b .confidence)))
 
+-- ---- nor do those on its sequence, which is a text of the ion
+
+formed-map : (e : Edition) {A B : Type 0} (f : A → B) (x : Ion A) → formed e (ionMap f x) ≡ formed e x
+formed-map ed1 f x = refl
+formed-map ed2 f (series s n t) = refl
+formed-map ed2 f (internal m n t) = refl
+formed-map ed2 f (immonium a m) = refl
+formed-map ed2 f precursor = refl
+formed-map ed2 f (reference n) = refl
+formed-map ed2 f (named t) = refl
+formed-map ed2 f (composed x) = refl
+formed-map ed2 f (smiles t) = refl
+formed-map ed2 f (unknown n) = refl
+
+long-map : (e : Edition) {A B : Type 0} (f : A → B) (x : Ion A) → longEnough e (ionMap f x) ≡ longEnough e x
+long-map ed1 f x = refl
+long-map ed2 f (series s n t) = refl
+long-map ed2 f (internal m n t) = refl
+long-map ed2 f (immonium a m) = refl
+long-map ed2 f precursor = refl
+long-map ed2 f (reference n) = refl
+long-map ed2 f (named t) = refl
+long-map ed2 f (composed x) = refl
+long-map ed2 f (smiles t) = refl
+long-map ed2 f (unknown n) = refl
+
+form-kept : (e : Edition) {a : SpelledAnnotation} {b : TableAnnotation} → Says a b → formed e (a .ion) ≡ formed e (shortenedAnnotation b .ion)
+form-kept e {a} {b} s = sym (formed-map e filled (a .ion)) ∙ ap (formed e) (s .fields .ion) ∙ sym (formed-map e shortened (b .ion))
+
+rules-kept : (e : Edition) {a : SpelledAnnotation} {b : TableAnnotation} → Says a b → annotationRules e a ≡ annotationRules e (shortenedAnnotation b)
+rules-kept e {a} {b} s =
+    ap₂ _&&_ (common-kept s) (sym (long-map e filled (a .ion)) ∙ ap (longEnough e) (s .fields .ion) ∙ sym (long-map e shortened (b .ion)))
+
 -- ---- a search for a place
 
-passes : (x : Bool) (more : Opt ℕ) (at : ℕ) → T x → more ≡ silent → _≡_ {A = Opt ℕ} (elim x [ true ↦ more | false ↦ written at ]) silent
-passes true more at t e = e
-passes false more at t e = absurd t
+-- by a test that does not look at what is free in a spelling
+all-pass : (test : SpelledAnnotation → Bool) → ((a : SpelledAnnotation) (b : TableAnnotation) → Says a b → test a ≡ test (shortenedAnnotation b))
+    → (s : Spelling) (t : Table) → Each Says s t → (p q : ℕ) → firstFailing test p s ≡ silent → firstFailing test q (preferredSpelling t) ≡ silent
+all-pass test k s t none p q e = refl
+all-pass test k s t (next {a = a} {b = b} {l = l} {m = m} r x) p q e =
+    let h = passed (test a) (firstFailing test _ l) p e in
+    passes (test (shortenedAnnotation b)) (firstFailing test _ (preferredSpelling m)) q (subst T (k a b r) (h .0)) (all-pass test k l m x _ _ (h .1))
 
-rules-each : {s : Spelling} {t : Table} → Each Says s t → (p q : ℕ) → firstBreach p s ≡ silent → firstBreach q (preferredSpelling t) ≡ silent
-rules-each none p q e = refl
-rules-each (next {a = a} {b = b} {l = s} {m = t} r x) p q e =
-    let h = passed (annotationRules a) (firstBreach _ s) p e in
-    passes (annotationRules (shortenedAnnotation b)) (firstBreach _ (preferredSpelling t)) q
-    (subst T (rules-kept r) (h .0)) (rules-each x _ _ (h .1))
+pub preferred-form : (e : Edition) (t : Table) → Sound e t → firstForeign e 0 (preferredSpelling t) ≡ silent
+preferred-form e t s = all-pass (λ a. formed e (a .ion)) (λ a b. form-kept e) (s .spelling) t (s .says) 0 0 (s .form)
 
-pub preferred-rules : (t : Table) → Sound t → firstBreach 0 (preferredSpelling t) ≡ silent
-preferred-rules t s = rules-each (s .says) 0 0 (s .rules)
+pub preferred-rules : (e : Edition) (t : Table) → Sound e t → firstBreach e 0 (preferredSpelling t) ≡ silent
+preferred-rules e t s = all-pass (annotationRules e) (λ a b. rules-kept e) (s .spelling) t (s .says) 0 0 (s .rules)
 
 -- ---- the sum of the confidences, which are the same one by one
 
@@ -109,5 +144,5 @@ sum-each (next {a = a} {b = b} {l = s} {m = t} r x) m n p q i e =
     passes (leb (n + share (shortenedAnnotation b)) one) (firstExcess _ _ (preferredSpelling t)) q
     (subst (λ (y : ℕ). T (leb y one)) sum (h .0)) (sum-each x _ _ _ _ sum (h .1))
 
-pub preferred-sum : (t : Table) → Sound t → firstExcess 0 0 (preferredSpelling t) ≡ silent
+pub preferred-sum : {e : Edition} (t : Table) → Sound e t → firstExcess 0 0 (preferredSpelling t) ≡ silent
 preferred-sum t s = sum-each (s .says) 0 0 0 0 refl (s .sum)

@@ -9,6 +9,8 @@ use Rattle.rules.specs.Answers.{Answer, refuses}
 use Rattle.rules.specs.Largest.{maxAnyTable}
 use Rattle.answers.specs.Delivered.{lineOver}
 use Rattle.scan_line.specs.Steps.{scannedBy}
+use Rattle.layout.specs.Editions.{editionOf}
+use Rattle.print_table.specs.Parts.{editionIn}
 use Rattle.print_table.specs.Tables.{printedTable}
 use Rattle.read_line.specs.Back.{readsTo, few, zeros}
 
@@ -16,10 +18,10 @@ use Rattle.read_line.specs.Back.{readsTo, few, zeros}
 unfoldable pub foundOf : Bool → List ℕ → ℕ → Answer
 foundOf held w room = cond held (lineOver w room) (refuses room 9 0)
 
--- line w of a table, printed into a buffer of `most` bytes, and read again into `scratch`
+-- line w of a table, printed into a buffer of `most` bytes, and read again into `scratch`, to a table of the edition that the table names
 unfoldable pub foundIn : List ℕ → ℕ → List ℕ → List ℕ → List ℕ → ℕ → Answer
 foundIn machine most scratch w table room =
-    cond (ltb most (length w)) (refuses room 9 0) (foundOf (readsTo (scannedBy machine w) scratch w table) w room)
+    cond (ltb most (length w)) (refuses room 9 0) (foundOf (readsTo (editionOf (editionIn table)) (scannedBy machine w) scratch w table) w room)
 
 -- enough for the line of every table
 abbrev pub longestPrinted : ℕ

@@ -1,5 +1,5 @@
-// A stored table written: its line is printed, read again, and what it reads to is held against the table. So the reader alone decides
-// which bytes are a table. Document 01, "Numbers of refusal": writing tests 9, 1, 8.
+// A stored table written: its line is printed, read again to a table of its edition, and what it reads to is held against the table. So the reader alone
+// decides which bytes are a table. Document 01, "Numbers of refusal": writing tests 9, 1, 8.
 ghost use mathlib.Core.Path.{_≡_};
 ghost use lib.ListN.{length};
 ghost use Rattle.scan_line.specs.Steps.{scannedBy};
@@ -11,6 +11,7 @@ ghost use Rattle.write_table.specs.Writings.{foundOf, foundIn, longestPr
 use answers::Answer;
 use answers::refuse;
 use answers::write_line;
+use print_table::edition_at;
 use print_table::print_table;
 use put_bytes::clear;
 use read_line::FEW;
@@ -43,7 +44,7 @@ fn write_many(machine: &[u8], table: &[u8], out: &mut [u8]) -> Answer
         return refuse(9, 0);
     }
     let line = first_of(&buffer, n);
-    let held = reads_to(machine, line, table);
+    let held = reads_to(machine, edition_at(table), line, table);
     finish(line, held, out)
 }
 
@@ -60,6 +61,6 @@ pub fn write_by(machine: &[u8], table: &[u8], out: &mut [u8]) -> Answer
         return write_many(machine, table, out);
     }
     let line = first_of(&buffer, n);
-    let held = reads_to_few(machine, line, table);
+    let held = reads_to_few(machine, edition_at(table), line, table);
     finish(line, held, out)
 }

@@ -27,21 +27,26 @@ note-requires c κs = search needs
 note-requires-2 : tie.Need-note-requires-2
 note-requires-2 c κs = search needs
 
+note-requires-3 : tie.Need-note-requires-3
+note-requires-3 c κs = search needs
+
 advance-requires : tie.Need-advance-requires
 advance-requires c κs = search needs
 
 returns : tie.Need-returns
 returns c =
-    let at-plus = c .before .before .before .before in
+    let at-either = c .before .before .before .before in
+    let at-plus = at-either .before in
     let at-sum-of = at-plus .before in
     let at-measure = at-sum-of .before .before .before in
-    let at-minus-or-zero = at-measure .before .before .before .before in
+    let at-minus-or-zero = at-measure .before .before .before .before .before in
     let at-rest = at-minus-or-zero .before in
     rw (
       c .advance .ensures,
-      c .before .note2 .ensures,
-      c .before .before .note .ensures,
-      c .before .before .before .either .ensures,
+      c .before .note3 .ensures,
+      c .before .before .note2 .ensures,
+      c .before .before .before .note .ensures,
+      at-either .either .ensures,
       at-plus .plus .ensures,
       at-sum-of .sum-of .ensures,
       at-measure .measure .ensures,
@@ -61,5 +66,6 @@ add-spec =
     either-requires
     note-requires
     note-requires-2
+    note-requires-3
     advance-requires
     returns)

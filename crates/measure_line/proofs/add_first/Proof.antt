@@ -14,15 +14,25 @@ note-requires c κs = search needs
 note-requires-2 : tie.Need-note-requires-2
 note-requires-2 c κs = search needs
 
+note-requires-3 : tie.Need-note-requires-3
+note-requires-3 c κs = search needs
+
 advance-requires : tie.Need-advance-requires
 advance-requires c κs = search needs
 
 returns : tie.Need-returns
 returns c =
-    first-added _ _ (c .before .before .before .before .before .before .measure .ensures)
+    first-added _ _ (c .before .before .before .before .before .before .before .measure .ensures)
     (omega arith)
-    (c .before .before .before .note .ensures) (c .before .note2 .ensures) (c .advance .ensures)
+    (c .before .before .before .before .note .ensures) (c .before .before .before .note2 .ensures) (c .before .note3 .ensures) (c .advance .ensures)
 
 pub add-first-spec : {M : Type 1} → statement M
 add-first-spec =
-    tie.close (tie.spec measure-requires note-requires note-requires-2 advance-requires returns)
+    tie.close
+    (tie.spec
+    measure-requires
+    note-requires
+    note-requires-2
+    note-requires-3
+    advance-requires
+    returns)

@@ -85,12 +85,15 @@ print-adduct-requires c κs = search needs
 print-tail-requires : tie.Need-print-tail-requires
 print-tail-requires c κs = search needs
 
+annotation-size-requires : tie.Need-annotation-size-requires
+annotation-size-requires c κs = search needs
+
 advance-requires-5 : tie.Need-advance-requires-5
 advance-requires-5 c κs = search needs
 
 mul-advance-2 : tie.Need-mul-advance-2
 mul-advance-2 c =
-    let at-tail = c .before .before .before in
+    let at-tail = c .before .before .before .before in
     let at-adduct = at-tail .before .before .before .before in
     let at-isotopes = at-adduct .before .before .before .before .before .before .before in
     let at-losses = at-isotopes .before .before .before .before .before .before .before in
@@ -103,7 +106,7 @@ advance-requires-6 c κs = search needs
 
 mul-advance-3 : tie.Need-mul-advance-3
 mul-advance-3 c =
-    let at-tail = c .before .before .before .before in
+    let at-tail = c .before .before .before .before .before in
     let at-adduct = at-tail .before .before .before .before in
     let at-isotopes = at-adduct .before .before .before .before .before .before .before in
     let at-losses = at-isotopes .before .before .before .before .before .before .before in
@@ -116,7 +119,7 @@ advance-requires-7 c κs = search needs
 
 mul-advance-4 : tie.Need-mul-advance-4
 mul-advance-4 c =
-    let at-tail = c .before .before .before .before .before in
+    let at-tail = c .before .before .before .before .before .before in
     let at-adduct = at-tail .before .before .before .before in
     let at-isotopes = at-adduct .before .before .before .before .before .before .before in
     let at-losses = at-isotopes .before .before .before .before .before .before .before in
@@ -136,7 +139,7 @@ advance-requires-10 c κs = search needs
 same-length : tie.Need-same-length
 same-length c =
     let at-advance6 = c .before .before .before .before in
-    let at-tail = at-advance6 .before .before .before .before in
+    let at-tail = at-advance6 .before .before .before .before .before in
     let at-adduct = at-tail .before .before .before .before in
     let at-isotopes = at-adduct .before .before .before .before .before .before .before in
     let at-losses = at-isotopes .before .before .before .before .before .before .before in
@@ -149,7 +152,8 @@ returns : tie.Need-returns
 returns c =
     let at-advance6 = c .before .before .before .before in
     let at-advance5 = at-advance6 .before in
-    let at-tail = at-advance5 .before .before .before in
+    let at-size = at-advance5 .before in
+    let at-tail = at-size .before .before .before in
     let at-adduct = at-tail .before .before .before .before in
     let at-isotopes = at-adduct .before .before .before .before .before .before .before in
     let at-losses = at-isotopes .before .before .before .before .before .before .before in
@@ -163,7 +167,7 @@ returns c =
     let at-row-of = at-row-of2 .before in
     let at-start = at-row-of .before in
     let at-args = at-start .before .before .before in
-    annotation-printed (at-args .args .table .now) (at-args .args .c)
+    annotation-printed _ (at-args .args .table .now) (at-args .args .c)
     (at-start .rest .ensures) (at-row-of .row-of .ensures) (at-row-of2 .row-of2 .ensures) (at-row-of3 .row-of3 .ensures)
     (at-front .before .before .rest2 .ensures) (at-front .before .rest3 .ensures) (at-front .print-front .ensures)
     (at-ion-units .ion-units .ensures) (at-advance .advance .ensures) (at-ion-bytes .ion-bytes .ensures) (at-advance2 .advance2 .ensures)
@@ -172,7 +176,7 @@ returns c =
     (at-isotopes .before .rest7 .ensures) (at-isotopes .print-isotopes .ensures)
     (at-adduct .before .before .before .rest8 .ensures) (at-adduct .before .before .rest9 .ensures) (at-adduct .before .rest10 .ensures) (at-adduct .print-adduct .ensures)
     (at-tail .print-tail .ensures)
-    (at-advance5 .advance5 .ensures) (at-advance6 .advance6 .ensures) (c .before .before .before .advance7 .ensures) (c .before .before .advance8 .ensures)
+    (at-size .annotation-size .ensures) (at-advance5 .advance5 .ensures) (at-advance6 .advance6 .ensures) (c .before .before .before .advance7 .ensures) (c .before .before .advance8 .ensures)
     (c .before .advance9 .ensures) (c .advance10 .ensures)
 
 pub print-annotation-spec : {M : Type 1} → statement M
@@ -204,6 +208,7 @@ print-annotation-spec =
     rest-requires-10
     print-adduct-requires
     print-tail-requires
+    annotation-size-requires
     advance-requires-5
     mul-advance-2
     advance-requires-6

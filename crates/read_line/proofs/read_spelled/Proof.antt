@@ -21,7 +21,7 @@ returns : tie.Need-returns
 returns c =
     let at-total = c .before .before .before .before in
     let at-read-at = at-total .before in
-    spelled-refused _ (at-read-at .read-at .ensures) (at-total .total .ensures) (c .before .before .before .first-refusal .ensures) (c .before .if1 .taken) (c .refuse .ensures)
+    spelled-refused _ _ (at-read-at .read-at .ensures) (at-total .total .ensures) (c .before .before .before .first-refusal .ensures) (c .before .if1 .taken) (c .refuse .ensures)
 
 size-of-requires : tie.Need-size-of-requires
 size-of-requires c κs = search needs
@@ -35,7 +35,7 @@ returns-2 c =
     let at-first-refusal = at-if1 .before .before in
     let at-total = at-first-refusal .before in
     let at-read-at = at-total .before in
-    spelled-no-room _ (at-read-at .read-at .ensures) (at-total .total .ensures) (at-first-refusal .first-refusal .ensures) (at-if1 .if1 .left) (c .before .before .size-of .ensures) (omega (arith, c .before .if2 .taken)) (c .refuse2 .ensures)
+    spelled-no-room _ _ (at-read-at .read-at .ensures) (at-total .total .ensures) (at-first-refusal .first-refusal .ensures) (at-if1 .if1 .left) (c .before .before .size-of .ensures) (omega (arith, c .before .if2 .taken)) (c .refuse2 .ensures)
 
 put-header-requires : tie.Need-put-header-requires
 put-header-requires c κs = search needs
@@ -56,7 +56,7 @@ returns-3 c =
     let at-first-refusal = at-if1 .before .before in
     let at-total = at-first-refusal .before in
     let at-read-at = at-total .before in
-    spelled-stored _ (at-read-at .read-at .ensures) (at-total .total .ensures) (at-first-refusal .first-refusal .ensures) (at-if1 .if1 .left) (at-size-of .size-of .ensures) (omega (arith, at-if2 .if2 .left)) (at-put-header .put-header .ensures) (at-store-all .store-all .ensures)
+    spelled-stored _ _ (at-read-at .read-at .ensures) (at-total .total .ensures) (at-first-refusal .first-refusal .ensures) (at-if1 .if1 .left) (at-size-of .size-of .ensures) (omega (arith, at-if2 .if2 .left)) (at-put-header .put-header .ensures) (at-store-all .store-all .ensures)
 
 pub read-spelled-spec : {M : Type 1} → statement M
 read-spelled-spec =

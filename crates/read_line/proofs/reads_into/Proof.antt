@@ -1,4 +1,5 @@
 -- `read_line::reads_into` meets its contract: what was read is compared. Assumes nothing.
+use Rattle.layout.specs.Editions.{editionOf}
 use Rattle.scan_line.specs.Steps.{scannedBy}
 use Rattle.read_line.proofs.Back.{reads-not, reads-same}
 use Rattle.read_line.proofs.Same.{bytes-all}
@@ -17,7 +18,7 @@ returns c =
     let at-read-any = c .before .before .before .before in
     let at-shared-slice-known2 = at-read-any .before .before .before .before in
     let at-args = at-shared-slice-known2 .before .before in
-    let a = (at-args .args) in reads-not (scannedBy (a .machine .now) (a .line .now)) (a .scratch .now) (a .line .now) (a .table .now) (bytes-all (a .line .now) (λ i h. (at-shared-slice-known2 .shared-slice-known2 .given) i .fits)) (at-read-any .read-any .ensures) (c .if1 .taken)
+    let a = (at-args .args) in reads-not (editionOf (a .edition)) (scannedBy (a .machine .now) (a .line .now)) (a .scratch .now) (a .line .now) (a .table .now) (bytes-all (a .line .now) (λ i h. (at-shared-slice-known2 .shared-slice-known2 .given) i .fits)) (at-read-any .read-any .ensures) (c .if1 .taken)
 
 first-of-requires : tie.Need-first-of-requires
 first-of-requires c κs = search needs
@@ -33,7 +34,7 @@ returns-2 c =
     let at-read-any = c .before .before .before .before .before .before .before in
     let at-shared-slice-known2 = at-read-any .before .before .before .before in
     let at-args = at-shared-slice-known2 .before .before in
-    let a = (at-args .args) in reads-same (scannedBy (a .machine .now) (a .line .now)) (a .scratch .now) (a .line .now) (a .table .now) (bytes-all (a .line .now) (λ i h. (at-shared-slice-known2 .shared-slice-known2 .given) i .fits)) (at-read-any .read-any .ensures) (c .before .before .before .if1 .left) (c .before .first-of .ensures) (c .same-bytes .ensures)
+    let a = (at-args .args) in reads-same (editionOf (a .edition)) (scannedBy (a .machine .now) (a .line .now)) (a .scratch .now) (a .line .now) (a .table .now) (bytes-all (a .line .now) (λ i h. (at-shared-slice-known2 .shared-slice-known2 .given) i .fits)) (at-read-any .read-any .ensures) (c .before .before .before .if1 .left) (c .before .first-of .ensures) (c .same-bytes .ensures)
 
 pub reads-into-spec : {M : Type 1} → statement M
 reads-into-spec =

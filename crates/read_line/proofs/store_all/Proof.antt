@@ -2,6 +2,7 @@
 use Rattle.read_line.proofs.Storing.{Storing, storing-begins, storing-length, storing-falls, storing-turns, storing-ends, empty-stored}
 use Rattle.store_sections.proofs.Events.{ran-length}
 use lib.ListN.{length}
+use Rattle.layout.specs.Editions.{editionOf}
 use Prim.Native.Nat.{_-_}
 use mathlib.Core.Path.{sym, _∙_}
 use native.Mathlib.Omega.{arith}
@@ -10,19 +11,19 @@ use Rattle.read_line.proofs.store_all.Statement.{statement}
 use Rattle.read_line.proofs.store_all.Tie as tie
 
 abbrev Inv-loop : tie.InvT-loop
-Inv-loop out₀ line t₀ out t = Storing line out₀ t₀ out t
+Inv-loop out₀ edition line t₀ out t = Storing (editionOf edition) line out₀ t₀ out t
 
 abbrev μ-loop : tie.MeasureT-loop
-μ-loop out₀ line t₀ out t = length line - t .at
+μ-loop out₀ edition line t₀ out t = length line - t .at
 
 returns : tie.Need-returns Inv-loop μ-loop
-returns c = empty-stored _ _ _ _ (omega arith) (c .if1 .taken)
+returns c = empty-stored _ _ _ _ _ (omega arith) (c .if1 .taken)
 
 store-next-requires : tie.Need-store-next-requires Inv-loop μ-loop
 store-next-requires c κs = search needs
 
 loop-holds : tie.Need-loop-holds Inv-loop μ-loop
-loop-holds c = storing-begins _ _ (omega arith)
+loop-holds c = storing-begins _ _ _ (omega arith)
 
 rest-requires : tie.Need-rest-requires Inv-loop μ-loop
 rest-requires c κs = search needs
@@ -47,7 +48,7 @@ loop-less c =
     let at-begins-with = at-if2 .before in
     let at-rest = at-begins-with .before in
     let at-loop = at-rest .before in
-    storing-falls _ (at-loop .loop .inv) (at-rest .rest .ensures) (sym (at-begins-with .begins-with .ensures) ∙ at-if2 .if2 .taken) (at-advance .advance .ensures) (at-read-at .read-at .ensures) (c .before .before .store-next2 .ensures)
+    storing-falls _ _ (at-loop .loop .inv) (at-rest .rest .ensures) (sym (at-begins-with .begins-with .ensures) ∙ at-if2 .if2 .taken) (at-advance .advance .ensures) (at-read-at .read-at .ensures) (c .before .before .store-next2 .ensures)
 
 loop-again : tie.Need-loop-again Inv-loop μ-loop
 loop-again c =
@@ -57,7 +58,7 @@ loop-again c =
     let at-begins-with = at-if2 .before in
     let at-rest = at-begins-with .before in
     let at-loop = at-rest .before in
-    storing-turns _ (at-loop .loop .inv) (at-rest .rest .ensures) (sym (at-begins-with .begins-with .ensures) ∙ at-if2 .if2 .taken) (at-advance .advance .ensures) (at-read-at .read-at .ensures) (c .before .before .store-next2 .ensures)
+    storing-turns _ _ (at-loop .loop .inv) (at-rest .rest .ensures) (sym (at-begins-with .begins-with .ensures) ∙ at-if2 .if2 .taken) (at-advance .advance .ensures) (at-read-at .read-at .ensures) (c .before .before .store-next2 .ensures)
 
 same-length : tie.Need-same-length Inv-loop μ-loop
 same-length c =
@@ -68,7 +69,7 @@ returns-2 : tie.Need-returns-2 Inv-loop μ-loop
 returns-2 c =
     let at-store-next = c .before .before .before .before .before .before in
     let at-if1 = at-store-next .before .before in
-    storing-ends _ (c .before .before .before .loop .inv) (c .before .before .rest .ensures) (at-if1 .if1 .left) (at-store-next .store-next .ensures) (sym (c .before .begins-with .ensures) ∙ c .if2 .left)
+    storing-ends _ _ (c .before .before .before .loop .inv) (c .before .before .rest .ensures) (at-if1 .if1 .left) (at-store-next .store-next .ensures) (sym (c .before .begins-with .ensures) ∙ c .if2 .left)
 
 pub store-all-spec : {M : Type 1} → statement M
 store-all-spec =

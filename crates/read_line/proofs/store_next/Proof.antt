@@ -20,7 +20,7 @@ returns : tie.Need-returns
 returns c =
     let at-store = c .before .before .before .before in
     let at-rest = at-store .before in
-    next-stored _ _ _ (at-rest .rest .ensures) (at-store .store .ensures) (c .advance .ensures)
+    next-stored _ _ _ _ (at-rest .rest .ensures) (at-store .store .ensures) (c .advance .ensures)
 
 pub store-next-spec : {M : Type 1} → statement M
 store-next-spec =

@@ -17,6 +17,7 @@ use Rattle.rules.specs.Losses.{minus, plus}
 use Rattle.rules.specs.Annotations.{SpelledAnnotation}
 use Rattle.rules.specs.Lines.{Spelling, lineText}
 use Rattle.rules.specs.Limits.{lineMarks}
+use Rattle.rules.specs.Editions.{current}
 use Rattle.rules.specs.House.{firstBreach, firstExcess}
 use Rattle.rules.proofs.worked.Spell.{num, times, several, decimal, text, H, C, N, Na, formula, atom, H2O, ion, serial, b, y, z}
 use Rattle.rules.proofs.worked.Spell.{inner, imm, p, label, _with_, marked, analyte, loss, namedLoss, isotope, average, specific}
@@ -40,7 +41,7 @@ pub record Limited (line : List ℕ) (s : Spelling) (marks : List Mark) : Type 0
 pub record Ruled (line : String) (s : Spelling) (first past : Opt ℕ) : Type 0 where
   pub text : lineText s ≡ bytes line
   pub limits : broken (lineMarks s) ≡ []
-  pub breach : firstBreach 0 s ≡ first
+  pub breach : firstBreach current 0 s ≡ first
   pub excess : firstExcess 0 0 s ≡ past
 
 -- ---- numbers

@@ -40,54 +40,54 @@ modifications = refl
 
 pub glycan : Worked "r[Hex[a[b]]c]"
     (ion (reference (name "Hex[a[b]]c" tt)) ∷ [])
-    74
-    (1 ∷ 0 ∷ 74 ∷ 0 ∷ 1 ∷ 0 ∷ 28 ∷ 0 ∷ 0 ∷ 0 ∷ 64 ∷ 0 ∷ 0 ∷ 0 ∷ 64 ∷ 0 ∷ 0 ∷ 0 ∷ 64 ∷ 0 ∷ 0 ∷ 0 ∷ 64 ∷ 0 ∷ 10 ∷ 0 ∷ 64 ∷ 0  -- header
-    ∷ 5 ∷ 0 ∷ 0 ∷ 0 ∷ 0 ∷ 0 ∷ 0 ∷ 0 ∷ 0 ∷ 0 ∷ 1 ∷ 0 ∷ 0 ∷ 0 ∷ 0 ∷ 0 ∷ 0 ∷ 0 ∷ 0 ∷ 0 ∷ 0 ∷ 0 ∷ 0 ∷ 0 ∷ 0 ∷ 0 ∷ 0 ∷ 0 ∷ 10 ∷ 0 ∷ 0 ∷ 0 ∷ 0 ∷ 0 ∷ 0 ∷ 0  -- annotation
+    76
+    (2 ∷ 0 ∷ 76 ∷ 0 ∷ 1 ∷ 0 ∷ 28 ∷ 0 ∷ 0 ∷ 0 ∷ 66 ∷ 0 ∷ 0 ∷ 0 ∷ 66 ∷ 0 ∷ 0 ∷ 0 ∷ 66 ∷ 0 ∷ 0 ∷ 0 ∷ 66 ∷ 0 ∷ 10 ∷ 0 ∷ 66 ∷ 0  -- header
+    ∷ 5 ∷ 0 ∷ 0 ∷ 0 ∷ 0 ∷ 0 ∷ 0 ∷ 0 ∷ 0 ∷ 0 ∷ 1 ∷ 0 ∷ 0 ∷ 0 ∷ 0 ∷ 0 ∷ 0 ∷ 0 ∷ 0 ∷ 0 ∷ 0 ∷ 0 ∷ 0 ∷ 0 ∷ 0 ∷ 0 ∷ 0 ∷ 0 ∷ 10 ∷ 0 ∷ 0 ∷ 0 ∷ 0 ∷ 0 ∷ 0 ∷ 0 ∷ 0 ∷ 0  -- annotation
     ∷ 72 ∷ 101 ∷ 120 ∷ 91 ∷ 97 ∷ 91 ∷ 98 ∷ 93 ∷ 93 ∷ 99  -- text
     ∷ [])
     "r[Hex[a[b]]c]"
 unfolding digits whole lastDigits pointText symbols
-glycan = record { text = refl; limits = refl; rules = refl; sum = refl; long = refl; stores = refl; writes = refl }
+glycan = record { text = refl; limits = refl; form = refl; rules = refl; sum = refl; long = refl; stores = refl; writes = refl }
 
 -- a pair with nothing inside
 pub empty-pair : Worked "r[[]]"
     (ion (reference (name "[]" tt)) ∷ [])
-    66
-    (1 ∷ 0 ∷ 66 ∷ 0 ∷ 1 ∷ 0 ∷ 28 ∷ 0 ∷ 0 ∷ 0 ∷ 64 ∷ 0 ∷ 0 ∷ 0 ∷ 64 ∷ 0 ∷ 0 ∷ 0 ∷ 64 ∷ 0 ∷ 0 ∷ 0 ∷ 64 ∷ 0 ∷ 2 ∷ 0 ∷ 64 ∷ 0  -- header
-    ∷ 5 ∷ 0 ∷ 0 ∷ 0 ∷ 0 ∷ 0 ∷ 0 ∷ 0 ∷ 0 ∷ 0 ∷ 1 ∷ 0 ∷ 0 ∷ 0 ∷ 0 ∷ 0 ∷ 0 ∷ 0 ∷ 0 ∷ 0 ∷ 0 ∷ 0 ∷ 0 ∷ 0 ∷ 0 ∷ 0 ∷ 0 ∷ 0 ∷ 2 ∷ 0 ∷ 0 ∷ 0 ∷ 0 ∷ 0 ∷ 0 ∷ 0  -- annotation
+    68
+    (2 ∷ 0 ∷ 68 ∷ 0 ∷ 1 ∷ 0 ∷ 28 ∷ 0 ∷ 0 ∷ 0 ∷ 66 ∷ 0 ∷ 0 ∷ 0 ∷ 66 ∷ 0 ∷ 0 ∷ 0 ∷ 66 ∷ 0 ∷ 0 ∷ 0 ∷ 66 ∷ 0 ∷ 2 ∷ 0 ∷ 66 ∷ 0  -- header
+    ∷ 5 ∷ 0 ∷ 0 ∷ 0 ∷ 0 ∷ 0 ∷ 0 ∷ 0 ∷ 0 ∷ 0 ∷ 1 ∷ 0 ∷ 0 ∷ 0 ∷ 0 ∷ 0 ∷ 0 ∷ 0 ∷ 0 ∷ 0 ∷ 0 ∷ 0 ∷ 0 ∷ 0 ∷ 0 ∷ 0 ∷ 0 ∷ 0 ∷ 2 ∷ 0 ∷ 0 ∷ 0 ∷ 0 ∷ 0 ∷ 0 ∷ 0 ∷ 0 ∷ 0  -- annotation
     ∷ 91 ∷ 93  -- text
     ∷ [])
     "r[[]]"
 unfolding digits whole lastDigits pointText symbols
-empty-pair = record { text = refl; limits = refl; rules = refl; sum = refl; long = refl; stores = refl; writes = refl }
+empty-pair = record { text = refl; limits = refl; form = refl; rules = refl; sum = refl; long = refl; stores = refl; writes = refl }
 
 -- a modification, and an adduct behind it
 pub modified-adduct : Worked "IC[M[+]][M+H]"
     (imm "C" tt (written (modification "M[+]" tt)) with item plus silent (atom H) ∷ [])
-    80
-    (1 ∷ 0 ∷ 80 ∷ 0 ∷ 1 ∷ 0 ∷ 28 ∷ 0 ∷ 0 ∷ 0 ∷ 64 ∷ 0 ∷ 0 ∷ 0 ∷ 64 ∷ 0 ∷ 1 ∷ 0 ∷ 64 ∷ 0 ∷ 1 ∷ 0 ∷ 70 ∷ 0 ∷ 4 ∷ 0 ∷ 76 ∷ 0  -- header
-    ∷ 3 ∷ 0 ∷ 0 ∷ 67 ∷ 0 ∷ 0 ∷ 0 ∷ 0 ∷ 0 ∷ 0 ∷ 1 ∷ 0 ∷ 0 ∷ 0 ∷ 0 ∷ 0 ∷ 0 ∷ 0 ∷ 0 ∷ 0 ∷ 0 ∷ 0 ∷ 0 ∷ 0 ∷ 0 ∷ 0 ∷ 0 ∷ 0 ∷ 4 ∷ 0 ∷ 0 ∷ 0 ∷ 0 ∷ 0 ∷ 1 ∷ 0  -- annotation
+    82
+    (2 ∷ 0 ∷ 82 ∷ 0 ∷ 1 ∷ 0 ∷ 28 ∷ 0 ∷ 0 ∷ 0 ∷ 66 ∷ 0 ∷ 0 ∷ 0 ∷ 66 ∷ 0 ∷ 1 ∷ 0 ∷ 66 ∷ 0 ∷ 1 ∷ 0 ∷ 72 ∷ 0 ∷ 4 ∷ 0 ∷ 78 ∷ 0  -- header
+    ∷ 3 ∷ 0 ∷ 0 ∷ 67 ∷ 0 ∷ 0 ∷ 0 ∷ 0 ∷ 0 ∷ 0 ∷ 1 ∷ 0 ∷ 0 ∷ 0 ∷ 0 ∷ 0 ∷ 0 ∷ 0 ∷ 0 ∷ 0 ∷ 0 ∷ 0 ∷ 0 ∷ 0 ∷ 0 ∷ 0 ∷ 0 ∷ 0 ∷ 4 ∷ 0 ∷ 0 ∷ 0 ∷ 0 ∷ 0 ∷ 1 ∷ 0 ∷ 0 ∷ 0  -- annotation
     ∷ 1 ∷ 0 ∷ 1 ∷ 0 ∷ 1 ∷ 0  -- adduct item
     ∷ 0 ∷ 0 ∷ 1 ∷ 0 ∷ 1 ∷ 0  -- unit
     ∷ 77 ∷ 91 ∷ 43 ∷ 93  -- text
     ∷ [])
     "IC[M[+]][M+H]"
 unfolding digits whole lastDigits pointText symbols
-modified-adduct = record { text = refl; limits = refl; rules = refl; sum = refl; long = refl; stores = refl; writes = refl }
+modified-adduct = record { text = refl; limits = refl; form = refl; rules = refl; sum = refl; long = refl; stores = refl; writes = refl }
 
 -- `[` comes before every other byte inside a name too
 pub bracket-first : Worked "y1-[Hexa]-[Hex[x]]"
     (y 1 with namedLoss minus silent (lossName "Hexa" tt) with namedLoss minus silent (lossName "Hex[x]" tt) ∷ [])
-    86
-    (1 ∷ 0 ∷ 86 ∷ 0 ∷ 1 ∷ 0 ∷ 28 ∷ 0 ∷ 2 ∷ 0 ∷ 64 ∷ 0 ∷ 0 ∷ 0 ∷ 76 ∷ 0 ∷ 0 ∷ 0 ∷ 76 ∷ 0 ∷ 0 ∷ 0 ∷ 76 ∷ 0 ∷ 10 ∷ 0 ∷ 76 ∷ 0  -- header
-    ∷ 1 ∷ 0 ∷ 0 ∷ 8 ∷ 0 ∷ 0 ∷ 1 ∷ 0 ∷ 0 ∷ 0 ∷ 1 ∷ 0 ∷ 0 ∷ 0 ∷ 0 ∷ 0 ∷ 0 ∷ 0 ∷ 0 ∷ 0 ∷ 0 ∷ 0 ∷ 0 ∷ 0 ∷ 0 ∷ 0 ∷ 0 ∷ 0 ∷ 0 ∷ 0 ∷ 0 ∷ 0 ∷ 2 ∷ 0 ∷ 0 ∷ 0  -- annotation
+    88
+    (2 ∷ 0 ∷ 88 ∷ 0 ∷ 1 ∷ 0 ∷ 28 ∷ 0 ∷ 2 ∷ 0 ∷ 66 ∷ 0 ∷ 0 ∷ 0 ∷ 78 ∷ 0 ∷ 0 ∷ 0 ∷ 78 ∷ 0 ∷ 0 ∷ 0 ∷ 78 ∷ 0 ∷ 10 ∷ 0 ∷ 78 ∷ 0  -- header
+    ∷ 1 ∷ 0 ∷ 0 ∷ 8 ∷ 0 ∷ 0 ∷ 1 ∷ 0 ∷ 0 ∷ 0 ∷ 1 ∷ 0 ∷ 0 ∷ 0 ∷ 0 ∷ 0 ∷ 0 ∷ 0 ∷ 0 ∷ 0 ∷ 0 ∷ 0 ∷ 0 ∷ 0 ∷ 0 ∷ 0 ∷ 0 ∷ 0 ∷ 0 ∷ 0 ∷ 0 ∷ 0 ∷ 2 ∷ 0 ∷ 0 ∷ 0 ∷ 0 ∷ 0  -- annotation
     ∷ 0 ∷ 1 ∷ 1 ∷ 0 ∷ 6 ∷ 0  -- loss
     ∷ 0 ∷ 1 ∷ 1 ∷ 0 ∷ 4 ∷ 0  -- loss
     ∷ 72 ∷ 101 ∷ 120 ∷ 91 ∷ 120 ∷ 93 ∷ 72 ∷ 101 ∷ 120 ∷ 97  -- text
     ∷ [])
     "y1-[Hex[x]]-[Hexa]"
 unfolding digits whole lastDigits pointText symbols
-bracket-first = record { text = refl; limits = refl; rules = refl; sum = refl; long = refl; stores = refl; writes = refl }
+bracket-first = record { text = refl; limits = refl; form = refl; rules = refl; sum = refl; long = refl; stores = refl; writes = refl }
 
 -- ---- 255 bytes, brackets counted
 

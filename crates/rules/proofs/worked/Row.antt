@@ -11,7 +11,7 @@ use Rattle.lang.specs.Parts.{silent}
 use Rattle.rules.specs.Bytes.{bytes}
 use Rattle.rules.specs.Lines.{Spelling, lineText}
 use Rattle.rules.specs.Limits.{lineMarks}
-use Rattle.rules.specs.House.{firstBreach, firstExcess}
+use Rattle.rules.specs.House.{firstForeign, firstBreach, firstExcess}
 use Rattle.rules.specs.Preferred.{preferred}
 use Rattle.rules.specs.Stored.{stored}
 use Rattle.rules.specs.Editions.{current}
@@ -25,7 +25,8 @@ broken (m ∷ ms) = elim (m .broken) [ true ↦ m ∷ broken ms | false ↦ brok
 pub record Worked (line : String) (s : Spelling) (size : ℕ) (table : List ℕ) (best : String) : Type 0 where
   pub text : lineText s ≡ bytes line
   pub limits : broken (lineMarks s) ≡ []
-  pub rules : firstBreach 0 s ≡ silent
+  pub form : firstForeign current 0 s ≡ silent
+  pub rules : firstBreach current 0 s ≡ silent
   pub sum : firstExcess 0 0 s ≡ silent
   pub long : length table ≡ size
   pub stores : stored current (tableOf s) ≡ table

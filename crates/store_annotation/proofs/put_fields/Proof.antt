@@ -13,16 +13,26 @@ put-tail-requires c κs = search needs
 put-counts-requires : tie.Need-put-counts-requires
 put-counts-requires c κs = search needs
 
+put-le-requires : tie.Need-put-le-requires
+put-le-requires c κs = search needs
+
 same-length : tie.Need-same-length
 same-length c = search needs
 
 returns : tie.Need-returns
 returns c =
-    let at-put-tail = c .before .before .before .before .before .before in
+    let at-put-counts = c .before .before .before .before .before .before in
+    let at-put-tail = at-put-counts .before .before .before .before in
     let at-put-front = at-put-tail .before .before .before .before in
-    put-then (at-put-front .put-front .ensures) (put-then (at-put-tail .put-tail .ensures) (c .before .before .put-counts .ensures))
+    put-then (put-then (at-put-front .put-front .ensures) (put-then (at-put-tail .put-tail .ensures) (at-put-counts .put-counts .ensures))) (c .before .before .put-le .ensures)
 
 pub put-fields-spec : {M : Type 1} → statement M
 put-fields-spec =
     tie.close
-    (tie.spec put-front-requires put-tail-requires put-counts-requires same-length returns)
+    (tie.spec
+    put-front-requires
+    put-tail-requires
+    put-counts-requires
+    put-le-requires
+    same-length
+    returns)

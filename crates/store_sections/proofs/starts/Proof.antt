@@ -1,7 +1,10 @@
--- `store_sections::starts` meets its contract. Assumes nothing.
+-- `store_sections::starts` meets its contract: each place by the one before it. Assumes nothing.
 use borrow.Author.Needs.{needs}
 use Rattle.store_sections.proofs.starts.Statement.{statement}
 use Rattle.store_sections.proofs.starts.Tie as tie
+
+annotation-size-requires : tie.Need-annotation-size-requires
+annotation-size-requires c κs = search needs
 
 place-behind-requires : tie.Need-place-behind-requires
 place-behind-requires c κs = search needs
@@ -25,6 +28,7 @@ pub starts-spec : {M : Type 1} → statement M
 starts-spec =
     tie.close
     (tie.spec
+    annotation-size-requires
     place-behind-requires
     place-behind-requires-2
     place-behind-requires-3

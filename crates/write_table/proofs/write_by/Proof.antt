@@ -52,6 +52,9 @@ slice-aggregate-first-of c = search needs
 first-of-requires : tie.Need-first-of-requires
 first-of-requires c κs = search needs
 
+edition-at-requires : tie.Need-edition-at-requires
+edition-at-requires c κs = search needs
+
 reads-to-few-requires : tie.Need-reads-to-few-requires
 reads-to-few-requires c κs = search needs
 
@@ -64,7 +67,8 @@ same-length-3 c = search needs
 returns-3 : tie.Need-returns-3
 returns-3 c =
     let at-reads-to-few = c .before .before .before .before in
-    let at-first-of = at-reads-to-few .before in
+    let at-edition-at = at-reads-to-few .before in
+    let at-first-of = at-edition-at .before in
     let at-if2 = at-first-of .before .before in
     let at-if1 = at-if2 .before in
     let at-print-table = at-if1 .before .before in
@@ -75,7 +79,7 @@ returns-3 c =
     let within = printed-within {most = few} printed (omega arith) not-past in
     written-few (a .machine .now) (a .table .now) (length (a .out .now)) within (at-if2 .if2 .left)
     (found-within (a .machine .now) few (zeros few) (printedTable (a .table .now)) (a .table .now) (length (a .out .now))
-    (at-first-of .first-of .ensures ∙ printed-first {most = few} printed (omega arith) not-past) within (at-reads-to-few .reads-to-few .ensures) (c .before .before .finish .ensures))
+    (at-first-of .first-of .ensures ∙ printed-first {most = few} printed (omega arith) not-past) within (at-edition-at .edition-at .ensures) (at-reads-to-few .reads-to-few .ensures) (c .before .before .finish .ensures))
 
 pub write-by-spec : {M : Type 1} → statement M
 write-by-spec =
@@ -91,6 +95,7 @@ write-by-spec =
     returns-2
     slice-aggregate-first-of
     first-of-requires
+    edition-at-requires
     reads-to-few-requires
     finish-requires
     same-length-3

@@ -42,6 +42,9 @@ slice-aggregate-first-of c = search needs
 first-of-requires : tie.Need-first-of-requires
 first-of-requires c κs = search needs
 
+edition-at-requires : tie.Need-edition-at-requires
+edition-at-requires c κs = search needs
+
 reads-to-requires : tie.Need-reads-to-requires
 reads-to-requires c κs = search needs
 
@@ -54,7 +57,8 @@ same-length-2 c = search needs
 returns-2 : tie.Need-returns-2
 returns-2 c =
     let at-reads-to = c .before .before .before .before in
-    let at-first-of = at-reads-to .before in
+    let at-edition-at = at-reads-to .before in
+    let at-first-of = at-edition-at .before in
     let at-if1 = at-first-of .before .before in
     let at-print-table = at-if1 .before .before in
     let at-args = at-print-table .before .before .before .before .before in
@@ -63,7 +67,7 @@ returns-2 c =
     let not-past = at-if1 .if1 .left in
     found-within (a .machine .now) longestPrinted (zeros maxAnyTable) (printedTable (a .table .now)) (a .table .now) (length (a .out .now))
     (at-first-of .first-of .ensures ∙ printed-first {most = longestPrinted} printed (omega arith) not-past)
-    (printed-within {most = longestPrinted} printed (omega arith) not-past) (at-reads-to .reads-to .ensures) (c .before .before .finish .ensures)
+    (printed-within {most = longestPrinted} printed (omega arith) not-past) (at-edition-at .edition-at .ensures) (at-reads-to .reads-to .ensures) (c .before .before .finish .ensures)
 
 pub write-many-spec : {M : Type 1} → statement M
 write-many-spec =
@@ -77,6 +81,7 @@ write-many-spec =
     returns
     slice-aggregate-first-of
     first-of-requires
+    edition-at-requires
     reads-to-requires
     finish-requires
     same-length-2

@@ -1,0 +1,3 @@
+-- Laws of sequences as they are read.
+pub mod Bytes
+pub mod Walks
