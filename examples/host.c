@@ -18,17 +18,20 @@ struct kind {
     const char *name, *inputs, *answers;
     int hex_in;  /* inputs are hexadecimal digits */
     int told;    /* answers are NUMBER PLACE LENGTH DIGITS, else the result itself, or `!`, number and place */
+    int headed;  /* inputs and results are tables, and are handed over behind the head of a stored row */
     own_call *own;
     lent_call *lent;
 };
 
 static const struct kind kinds[] = {
-    {"read", "crates/reads/stdin", "crates/reads/stdout", 0, 1, mzpaf_read, mzpaf_read_with},
-    {"write", "crates/writes/stdin", "crates/writes/stdout", 1, 1, mzpaf_write, mzpaf_write_with},
-    {"relabel", "crates/relabel/stdin", "crates/relabel/stdout", 0, 0, mzpaf_relabel, mzpaf_relabel_with},
-    {"read_row", "crates/row_reads/stdin", "crates/row_reads/stdout", 0, 1, mzpaf_read_row, mzpaf_read_row_with},
-    {"write_row", "crates/row_writes/stdin", "crates/row_writes/stdout", 1, 1, mzpaf_write_row, mzpaf_write_row_with},
-    {"relabel_row", "crates/peaks/stdin", "crates/peaks/stdout", 0, 0, mzpaf_relabel_row, mzpaf_relabel_row_with},
+    {"read", "crates/reads/stdin", "crates/reads/stdout", 0, 1, 0, mzpaf_read, mzpaf_read_with},
+    {"write", "crates/writes/stdin", "crates/writes/stdout", 1, 1, 0, mzpaf_write, mzpaf_write_with},
+    {"convert", "crates/converts/stdin", "crates/converts/stdout", 1, 1, 0, mzpaf_convert, mzpaf_convert_with},
+    {"relabel", "crates/relabel/stdin", "crates/relabel/stdout", 0, 0, 0, mzpaf_relabel, mzpaf_relabel_with},
+    {"read_row", "crates/row_reads/stdin", "crates/row_reads/stdout", 0, 1, 0, mzpaf_read_row, mzpaf_read_row_with},
+    {"write_row", "crates/row_writes/stdin", "crates/row_writes/stdout", 1, 1, 0, mzpaf_write_row, mzpaf_write_row_with},
+    {"convert_row", "crates/converts/stdin", "crates/converts/stdout", 1, 1, 1, mzpaf_convert_row, mzpaf_convert_row_with},
+    {"relabel_row", "crates/peaks/stdin", "crates/peaks/stdout", 0, 0, 0, mzpaf_relabel_row, mzpaf_relabel_row_with},
 };
 
 enum { ROOM = 65536, GUARD = 16, MARK = 0xA5 };
@@ -119,6 +122,21 @@ static struct bytes from_hex(struct bytes text)
     return b;
 }
 
+/* ---- a table as a stored row, of m/z 500.25 and intensity 7, and what is due of it */
+
+static const uint8_t head[20] = {0x69, 0xC3, 0, 0, 0, 0, 0, 0, 7, 0, 0, 0, 0, 0, 0, 0, 2, 0, 0, 0};
+
+enum { THIRD_AT = sizeof "500.25\t7\t" - 1 };
+
+static struct bytes behind_head(struct bytes table)
+{
+    struct bytes b = {room_for(sizeof head + table.len), sizeof head + table.len};
+    memcpy(b.at, head, sizeof head);
+    memcpy(b.at + sizeof head, table.at, table.len);
+    free(table.at);
+    return b;
+}
+
 /* ---- what is due */
 
 struct due {
@@ -134,6 +152,16 @@ static unsigned long number_of(struct bytes *text)
     while (text->len && '0' <= *text->at && *text->at <= '9')
         n = n * 10 + (unsigned long)(*text->at++ - '0'), text->len--;
     return n;
+}
+
+/* The same of a stored row: 9 has no place in it. */
+static struct due headed(struct due d)
+{
+    if (d.number == 0)
+        d.result = behind_head(d.result);
+    else if (d.number != 9)
+        d.place += THIRD_AT;
+    return d;
 }
 
 static struct due due_of(struct bytes text, int told)
@@ -238,6 +266,10 @@ static void every_line(const struct kind *k)
             continue;
         in = k->hex_in ? from_hex(line) : copy_of(line.at, line.len);
         d = due_of(said, k->told);
+        if (k->headed) {
+            in = behind_head(in);
+            d = headed(d);
+        }
         done++;
         refused += d.number != 0;
         for (int lent = 0; lent < 2; lent++) {

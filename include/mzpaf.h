@@ -13,14 +13,16 @@
  *
  *   number  0 done; 1 longer than 4,096 bytes (a row: 4,160); 2 a stray byte; 3 could still become a line; 4 a number past its bound;
  *           5 too many; 6 a rule for one annotation is broken; 7 the confidences exceed 1; 8 too short a buffer; 9 the bytes are no
- *           table or stored row; 11 a sequence in braces is not of the plain form; 12 a bad m/z; 13 a bad intensity.
+ *           table or stored row; 10 a table of edition 1, which is to be converted first; 11 a sequence in braces is not of the plain
+ *           form; 12 a bad m/z; 13 a bad intensity.
  *           docs/REFUSALS.md says each in plain words.
- *   place   the byte of in that the number speaks of, counted from 0; for 8 the bytes needed; 0 for 0 and 9.
+ *   place   the byte of in that the number speaks of, counted from 0, and where a table is converted the byte of its line, in preferred
+ *           spelling; for 8 the bytes needed; 0 for 0, 9 and 10.
  *   length  how many bytes of out the result has; 0 unless the number is 0.
  *
  * Editions: a table begins with the number of its edition. Reading gives edition 2, in which an annotation has 38 bytes; the last two
- * are the count of residues of its sequence. Writing takes editions 1 and 2. A table of edition 1, in which an annotation has 36 bytes
- * and no such count, is written if the edition 2 table of the same fields is a table too; the line that it gives reads to that one.
+ * are the count of residues of its sequence. Writing takes edition 2. A table of edition 1, in which an annotation has 36 bytes and no
+ * such count, is taken by mzpaf_convert alone, which gives the table of edition 2 of the same line.
  *
  * Who owns what: the caller owns every buffer, and may free or reuse it once the call has returned. Nothing is allocated, kept or
  * written but out, answer and the machine that is prepared. All bytes of out and answer are written by every call, so they need not
@@ -49,6 +51,7 @@ extern "C" {
 #define MZPAF_MAX_ROW 4160        /* bytes of a row, and enough for every result of mzpaf_write_row and mzpaf_relabel_row */
 #define MZPAF_MAX_TABLE 21372     /* enough for every result of mzpaf_read */
 #define MZPAF_MAX_STORED_ROW 21392  /* enough for every result of mzpaf_read_row */
+#define MZPAF_MORE_CONVERTED 32   /* so many bytes more than the old table, or the old stored row, are enough for what it is converted to */
 
 /* ---- one line, one table, one row of a peak list. These make the machine at each call, which takes some 12 microseconds; whoever has
  *      many should prepare one and use the calls below. */
@@ -56,8 +59,12 @@ extern "C" {
 /* The table that a line spells, of edition 2. docs/TABLE.md has its bytes. */
 uint16_t mzpaf_read(const uint8_t *line, size_t line_len, uint8_t *out, size_t out_len, uint8_t *answer, size_t answer_len);
 
-/* The line that spells a table of edition 1 or 2, in preferred spelling. */
+/* The line that spells a table of edition 2, in preferred spelling. */
 uint16_t mzpaf_write(const uint8_t *table, size_t table_len, uint8_t *out, size_t out_len, uint8_t *answer, size_t answer_len);
+
+/* The table of edition 2 of the line that a table of edition 1 has, also where that line has more than 4,096 bytes. It is what mzpaf_read
+ * gives for the line; 11 and 6 are refused as there, at the place in the line. A table of edition 2 is 9 here. */
+uint16_t mzpaf_convert(const uint8_t *table, size_t table_len, uint8_t *out, size_t out_len, uint8_t *answer, size_t answer_len);
 
 /* A line in preferred spelling: what mzpaf_write gives for what mzpaf_read gives. */
 uint16_t mzpaf_relabel(const uint8_t *line, size_t line_len, uint8_t *out, size_t out_len, uint8_t *answer, size_t answer_len);
@@ -66,8 +73,11 @@ uint16_t mzpaf_relabel(const uint8_t *line, size_t line_len, uint8_t *out, size_
  * edition 2. */
 uint16_t mzpaf_read_row(const uint8_t *row, size_t row_len, uint8_t *out, size_t out_len, uint8_t *answer, size_t answer_len);
 
-/* The row of a stored row, whose table may have either edition, in preferred spelling, without a line feed. */
+/* The row of a stored row, whose table is of edition 2, in preferred spelling, without a line feed. */
 uint16_t mzpaf_write_row(const uint8_t *stored, size_t stored_len, uint8_t *out, size_t out_len, uint8_t *answer, size_t answer_len);
+
+/* The stored row with the table of edition 2, of one with a table of edition 1; places are those of its row in preferred spelling. */
+uint16_t mzpaf_convert_row(const uint8_t *stored, size_t stored_len, uint8_t *out, size_t out_len, uint8_t *answer, size_t answer_len);
 
 /* A row in preferred spelling. */
 uint16_t mzpaf_relabel_row(const uint8_t *row, size_t row_len, uint8_t *out, size_t out_len, uint8_t *answer, size_t answer_len);
@@ -84,12 +94,16 @@ uint16_t mzpaf_read_with(const uint8_t *machine, size_t machine_len, const uint8
                          uint8_t *answer, size_t answer_len);
 uint16_t mzpaf_write_with(const uint8_t *machine, size_t machine_len, const uint8_t *table, size_t table_len, uint8_t *out, size_t out_len,
                           uint8_t *answer, size_t answer_len);
+uint16_t mzpaf_convert_with(const uint8_t *machine, size_t machine_len, const uint8_t *table, size_t table_len, uint8_t *out, size_t out_len,
+                            uint8_t *answer, size_t answer_len);
 uint16_t mzpaf_relabel_with(const uint8_t *machine, size_t machine_len, const uint8_t *line, size_t line_len, uint8_t *out, size_t out_len,
                             uint8_t *answer, size_t answer_len);
 uint16_t mzpaf_read_row_with(const uint8_t *machine, size_t machine_len, const uint8_t *row, size_t row_len, uint8_t *out, size_t out_len,
                              uint8_t *answer, size_t answer_len);
 uint16_t mzpaf_write_row_with(const uint8_t *machine, size_t machine_len, const uint8_t *stored, size_t stored_len, uint8_t *out,
                               size_t out_len, uint8_t *answer, size_t answer_len);
+uint16_t mzpaf_convert_row_with(const uint8_t *machine, size_t machine_len, const uint8_t *stored, size_t stored_len, uint8_t *out,
+                                size_t out_len, uint8_t *answer, size_t answer_len);
 uint16_t mzpaf_relabel_row_with(const uint8_t *machine, size_t machine_len, const uint8_t *row, size_t row_len, uint8_t *out, size_t out_len,
                                 uint8_t *answer, size_t answer_len);
 

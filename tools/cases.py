@@ -21,7 +21,7 @@ sys.dont_write_bytecode = True
 import decode
 
 # The flags of the other implementation for the requests that have landed here and change answers.
-LANDED = ("--m100", "--m102", "--m105")
+LANDED = ("--m100", "--m102", "--m105", "--m112")
 
 ROOT = os.path.join(os.path.dirname(os.path.abspath(__file__)), "..", "crates")
 ROOM, MAX_LINE = 21372, 4096

@@ -1,16 +1,17 @@
 #!/usr/bin/env python3
-"""Compares two writers on damaged tables.
+"""Compares two writers, or two programs that convert, on damaged tables.
 
-    python3 tools/compare_tables.py OURS OTHER.. [--tables N] [--seed S] [--show K] [--room R]
+    python3 tools/compare_tables.py OURS OTHER.. [--tables N] [--seed S] [--show K] [--room R] [--first]
 
 OURS is "tools/run writes", a path or words between quotes; OTHER is another writer, with its words behind it: both read stored tables in
 hexadecimal digits from standard input, one a line, and print one answer a line. N (20,000 unless said) tables are made: from fields, with
 each field at or past its bound now and then, or from the stored output of the program `reads`, of edition 2 or 1; then bytes, words and whole
 records are changed, swapped, repeated and cut, with the header set right again or not, the edition is changed, with the records or without
 them, and counts of residues are; some have long texts, for lines around their bound, some names have brackets inside, which mostly pair up,
-and the texts of series and internal ions are mostly sequences with residues enough. The same S makes the same tables. With R, OURS is "tools/run try_write_sized", given an
-output of R bytes for each, and OTHER's words have to say the same. Prints each difference (K of them, 20 unless said) and how often each
-number was answered; the exit status is 1 where the answers differ.
+and the texts of series and internal ions are mostly sequences with residues enough. The same S makes the same tables.
+With --first, for "tools/run converts" and another program that converts tables of edition 1, most tables are of that edition, more of their lines
+are long, and more texts are no sequences. With R, OURS is "tools/run try_write_sized", given an output of R bytes for each, and OTHER's words have to say the same.
+Prints each difference (K of them, 20 unless said) and how often each number was answered; the exit status is 1 where the answers differ.
 """
 import argparse
 import collections
@@ -31,9 +32,10 @@ ODD = [b"M+H", b"2H1", b"[", b"a]", b"{", b"a}", b"\x1f", b"\x7f", b"", b"x" * 2
 
 
 class Maker:
-    def __init__(self, seed, good):
+    def __init__(self, seed, good, first=False):
         self.random = random.Random(seed)
         self.good = good
+        self.first = first
         self.long = False
 
     def rarely(self, usual, odd, chance=0.004):
@@ -105,7 +107,7 @@ class Maker:
     def sequenced(self, fields):
         """A text that is mostly a sequence, a position that it mostly has residues enough for, and now and then another count of them."""
         made, count = sequence(self.random, lambda: self.random.choice(NAMES).decode() if self.random.random() < 0.7 else self.random.choice(["", "a"]) + nested(self.random, 3).replace("{", "").replace("}", ""))
-        if self.random.random() < 0.06:
+        if self.random.random() < (0.12 if self.first else 0.06):
             made = sequence_changed(self.random, made)
         many = self.rarely(self.random.randint(1, count), [count, count + 1, 65535], 0.2)
         fields = dict(position=many) if fields["kind"] == 1 else dict(end=min(fields["position"] + many - 1, 65535))
@@ -162,8 +164,8 @@ class Maker:
         return annotation(**fields)
 
     def fresh(self):
-        self.long = self.random.random() < 0.03
-        edition = self.random.choice([2, 2, 1])
+        self.long = self.random.random() < (0.1 if self.first else 0.03)
+        edition = self.random.choice([1, 1, 1, 1, 2] if self.first else [2, 2, 1])
         if self.long:
             return table(*[self.fresh_annotation() for _ in range(self.random.choice([2, 3, 4, 5, 6, 7, 8]))], edition=edition)
         n = self.random.choice([0, 1, 1, 1, 1, 1, 1, 1, 2, 2, 3, 5, 16]) if self.random.random() < 0.995 else 17
@@ -249,7 +251,7 @@ class Maker:
     def good_table(self):
         """One of those that `reads` gave, or the edition 1 table of its fields."""
         made = self.random.choice(self.good)
-        return made if self.random.random() < 0.6 else first_edition(made)
+        return made if self.random.random() < (0.1 if self.first else 0.6) else first_edition(made)
 
     def table(self):
         made = self.good_table() if self.random.random() < 0.3 else self.fresh()
@@ -270,12 +272,13 @@ def main():
     parser.add_argument("--seed", type=int, default=1)
     parser.add_argument("--show", type=int, default=20)
     parser.add_argument("--room", type=int)
-    # the other writer's words may begin with dashes too
+    parser.add_argument("--first", action="store_true")
+    # the other program's words may begin with dashes too
     given, others = parser.parse_known_args()
     given.other += others
     with open(os.path.join(os.path.dirname(os.path.abspath(__file__)), "..", "crates", "reads", "stdout"), "rb") as f:
         good = [bytes.fromhex(line.split(b" ")[3].decode()) for line in f.read().split(b"\n") if line.startswith(b"0 ")]
-    maker = Maker(given.seed, good)
+    maker = Maker(given.seed, good, given.first)
     numbers = collections.Counter()
     differences = 0
     # by stretches, so that neither the tables nor the answers of a long run are held at once

@@ -13,7 +13,7 @@ stored rows in hexadecimal digits and prints the same of the row's text; what is
 prints each in preferred spelling, or `!NUMBER PLACE`. FOLDER is that of an implementation other than this repository's, so that two agree on
 the stored outputs: `cross --rows`, `cross --write-rows --hex` and `relabel --rows`. Lines that are no pairs of digits are not asked of it.
 
-Each case has its whole answer, by request M-101 of document 02, its readings, and document 01: a refusal (`no`), or the two numbers and the
+Each case has its whole answer, by requests M-101 and M-112 of document 02, their readings, and document 01: a refusal (`no`), or the two numbers and the
 fields of each annotation (`yes`), from which the bytes are made as "The stored table" has them. Of the lines of tools/cases.py the number and
 the place are stated there, and the table is in the stored output of `reads`: in a row they are the same, the place moved by the columns
 before the line. Outputs that are too short (8) are asked for by `try_read_row_sized` and `try_write_row_sized`, whose lines begin with the
@@ -94,6 +94,11 @@ def unsound(row):
 
 def too_long(row):
     ask_stored(row.hex().encode(), 1, MAX_LINE, b"")
+
+
+def old(row):
+    """A row whose table is a sound one of edition 1: document 02, M-112."""
+    ask_stored(row.hex().encode(), 10, 0, b"")
 
 
 def sound(row):
@@ -404,6 +409,11 @@ def empty():
     return stored_row((0, 0), (0, 0), table())
 
 
+def in_first_edition(row):
+    """A stored row with the edition 1 table of the same fields."""
+    return row[:FRONT] + first_edition(row[FRONT:])
+
+
 def stored_numbers():
     """A value and its decimals at their bounds and past them, in both places."""
     one, line = (1, 0), table(annotation())
@@ -455,7 +465,7 @@ def stored_lengths():
 
 def stored_tables_behind():
     """Tables and what is none, as tools/table_cases.py states of them: behind a sound front they are answered the same."""
-    answers = {(0, 0): sound, (1, MAX_LINE): too_long, (9, 0): unsound}
+    answers = {(0, 0): sound, (1, MAX_LINE): too_long, (9, 0): unsound, (10, 0): old}
     for part in (table_cases.fields, table_cases.kinds, table_cases.sums, table_cases.ordered, table_cases.nested, table_cases.editions, table_cases.counts,
                  table_cases.sequences):
         before = len(table_cases.cases)
@@ -473,28 +483,33 @@ def stored_tables_behind():
 
 
 def stored_editions():
-    """Rows with tables of either edition, and with tables that name others."""
+    """Rows with tables of either edition, and with tables that name others. Those of edition 1 are 10, and 9 goes before it."""
     for row in (small(), large(), empty()):
-        old = row[:FRONT] + first_edition(row[FRONT:])
+        before = in_first_edition(row)
         sound(row)
-        sound(old)
-        for n in range(FRONT, len(old)):
-            unsound(old[:n])
-        for tail in (b"\0", b"\0\0", b"\0" * 36, old[FRONT:], old):
-            unsound(old + tail)
+        old(before)
+        for n in range(FRONT, len(before)):
+            unsound(before[:n])
+        for tail in (b"\0", b"\0\0", b"\0" * 36, before[FRONT:], before):
+            unsound(before + tail)
         for edition in (0, 3, 256, 257, 258, 513, 65535):
             unsound(changed(row, FRONT, edition, 2))
-            unsound(changed(old, FRONT, edition, 2))
+            unsound(changed(before, FRONT, edition, 2))
+        for at, value in ((7, 1), (15, 1), (16, 10), (17, 10), (18, 1), (19, 1)):
+            unsound(changed(before, at, value))
         if row != empty():
             unsound(changed(row, FRONT, 1, 2))
-            unsound(changed(old, FRONT, 2, 2))
+            unsound(changed(before, FRONT, 2, 2))
+    for made in (annotation(text=b"x"), annotation(position=4, text=b"PEP"), annotation(2, position=1, end=1)):
+        unsound(stored_row((1, 0), (1, 0), table(made, edition=1)))
 
 
 def stored_long():
-    """Lines at their bound and past it: 1 at 4096 is by the line, whatever the columns; 9 goes before it."""
+    """Lines at their bound and past it: 1 at 4096 is by the line, whatever the columns; 9 goes before it, and 10."""
     for i, (_, mz, intensity) in enumerate(FRONTS):
         for last, answer in ((252, sound), (253, sound), (254, too_long), (255, too_long), (256, unsound)):
-            answer(stored_row(mz, intensity, texts(*[252] * 15, last, edition=2 - i % 2)))
+            edition = 2 - i % 2
+            (old if edition == 1 and answer != unsound else answer)(stored_row(mz, intensity, texts(*[252] * 15, last, edition=edition)))
     over = stored_row((1, 0), (1, 0), texts(*[252] * 15, 254))
     for at, value in ((5, 1), (13, 1), (16, 10), (17, 10), (18, 1), (19, 1)):
         unsound(changed(over, at, value))
@@ -506,7 +521,7 @@ def stored_long():
     most = stored_row((10**12 - 1, 9), (10**12 - 1, 9), table(*[largest()] * 16))
     assert len(most) == FRONT + 43628
     too_long(most)
-    too_long(most[:FRONT] + first_edition(most[FRONT:]))
+    old(in_first_edition(most))
     unsound(most + b"\0")
 
 
@@ -567,19 +582,19 @@ def read_rooms():
 
 
 def write_rooms():
-    """Outputs around the length of a row. 9 and 1 go before 8."""
+    """Outputs around the length of a row. 9, 10 and 1 go before 8."""
     full, most = texts(*[252] * 15, 253), (10**12 - 1, 9)
     at_bound = (stored_row((1, 0), (1, 0), full), stored_row(most, most, full))
     nested = stored_row((1, 0), (1, 0), table(annotation(3, series=67, text=b"[M+]", losses=[(0, 1, 1, b"a[b]")])))
-    old = [row[:FRONT] + first_edition(row[FRONT:]) for row in (empty(), small(), large())]
-    for row in (empty(), small(), large(), stored_row(most, most, table(annotation(4))), nested, *old, *at_bound):
+    for row in (empty(), small(), large(), stored_row(most, most, table(annotation(4))), nested, *at_bound):
         text = row_text(row)
         for room in sizes_around(len(text), 3, 4, 27, 28, MAX_LINE, MAX_ROW):
             yield room, row.hex().encode(), (0, 0, text) if len(text) <= room else (8, len(text), b"")
     over = stored_row((1, 0), (1, 0), texts(*[252] * 15, 254))
     unpaired = stored_row((1, 0), (1, 0), table(annotation(5, text=b"a[b")))
     short = stored_row((1, 0), (1, 0), table(annotation(position=4, text=b"PEP"), edition=1))
-    for row, refusal, place in ((b"", 9, 0), (small()[:-1], 9, 0), (changed(small(), 18, 1), 9, 0), (unpaired, 9, 0), (short, 9, 0), (over, 1, MAX_LINE)):
+    before = [(in_first_edition(row), 10, 0) for row in (empty(), small(), large(), over)]
+    for row, refusal, place in ((b"", 9, 0), (small()[:-1], 9, 0), (changed(small(), 18, 1), 9, 0), (unpaired, 9, 0), (short, 9, 0), *before, (over, 1, MAX_LINE)):
         for room in (0, 1, 20, MAX_ROW):
             yield room, row.hex().encode(), (refusal, place, b"")
 

@@ -1,16 +1,17 @@
 #!/usr/bin/env python3
-"""The cases of the programs `writes` and `try_write_sized`: stored tables, and what the rules say of them in words.
+"""The cases of the programs `writes`, `try_write_sized`, `converts` and `convert`: stored tables, and what the rules say of them in words.
 
-    python3 tools/table_cases.py                  writes crates/writes/stdin and crates/try_write_sized/stdin
+    python3 tools/table_cases.py                  writes the stored inputs of the four programs, crates/NAME/stdin
     python3 tools/table_cases.py --check          holds the stored outputs to what is stated here; prints differences
     python3 tools/table_cases.py --with FOLDER    makes the stored outputs by the program `cross` in FOLDER, then checks
 
 `cross`, with `--write --hex`, reads tables in hexadecimal digits from standard input, one a line, and prints `NUMBER PLACE LENGTH HEX`
-for each, HEX being the line, `-` where it is none or empty; with `--out N` too it does so with an output of N bytes. It is a writer
-other than this repository's, so that two agree on the stored outputs. Lines that are no pairs of digits are not asked of it: they are
-no table. Tables are made here from fields, by the section "The stored table" of document 01 and by request M-105 of document 02, in edition 2
-unless edition 1 is asked for; those of the program `reads` come from its stored output, so tools/cases.py goes first. Where a table is
-written, its line is held to the fields that its bytes have.
+for each, HEX being the line, `-` where it is none or empty; with `--out N` too it does so with an output of N bytes; with `--convert --hex`
+HEX is the table of edition 2. It is a writer other than this repository's, so that two agree on the stored outputs. Lines that are no pairs of
+digits are not asked of it: they are no table. Tables are made here from fields, by the section "The stored table" of document 01 and by request
+M-105 of document 02, in edition 2 unless edition 1 is asked for; those of the program `reads` come from its stored output, so tools/cases.py
+goes first. By request M-112 a sound table of edition 1 is 10 where it is to be written. Where a table is written, its line is held to the fields
+that its bytes have; where one is converted, the new table, and where its sequences break the rules, the number and the place.
 """
 import copy
 import os
@@ -171,11 +172,45 @@ def spelled_annotation(table, c):
     return made + ("*" + decimal(number(r, 24, 4), r[14]) if r[13] else "")
 
 
+# ---- a table of edition 1, sound but for its sequences
+
+def second_edition(table):
+    """The edition 2 table of the same fields as one of edition 1."""
+    counts, sections = sections_of(table)
+    records = [record + little(residues(text) or 0 if record[0] in (1, 2) else 0, 2) for record, text, _ in texts_of(table)]
+    return framed(counts, [b"".join(records), *sections[1:]], 2)
+
+
+def texts_of(table):
+    """The record of each annotation of an edition 1 table, the text of its ion, and its place in the preferred line."""
+    c, place = Cursor(table), 0
+    for _ in range(number(table, 4)):
+        record, at = table[c.at[0]:c.at[0] + 36], c.at[5]
+        yield record, table[at:at + number(record, 28)], place
+        place += len(spelled_annotation(table, c)) + 1
+
+
+def converted(table):
+    """What converting answers: 11 at the first sequence of another form, else 6 at the first with too few residues, else the other table."""
+    foreign, short = [], []
+    for record, text, place in texts_of(table):
+        if record[0] in (1, 2) and text:
+            count = residues(text)
+            needed = number(record, 6) if record[0] == 1 else number(record, 8) + 1 - number(record, 6)
+            (foreign if count is None else short if count < needed else []).append(place)
+    if foreign or short:
+        return 11 if foreign else 6, (foreign or short)[0], b""
+    return 0, 0, second_edition(table)
+
+
 # ---- cases
 
 cases = []    # lines of digits, in order
 stated = {}   # line: (number, place)
 spare = []    # (room, line, stated)
+turned = []   # lines of digits that are converted, in order
+turns = {}    # line: (number, place)
+briefly = []  # lines of digits for the program `convert`, each with its stated answer
 
 
 def ask(data):
@@ -188,16 +223,26 @@ def state(data, *answer):
     assert stated.setdefault(digits, answer) == answer, (digits, answer)
 
 
+def today(data, *answer):
+    """The answer to a sound table: one of edition 1 is 10, before all but 9 (document 02, M-112)."""
+    return (10, 0, 0)[:len(answer)] if number(data, 0) == 1 else answer
+
+
 def no(data):
     state(data, 9, 0)
 
 
 def yes(data):
-    state(data, 0, 0)
+    state(data, *today(data, 0, 0))
+
+
+def over(data):
+    """A table whose line is too long."""
+    state(data, *today(data, 1, 4096))
 
 
 def both(answer, *annotations):
-    """One answer to the tables of both editions."""
+    """The tables of both editions are sound, or neither is."""
     for edition in (2, 1):
         answer(table(*annotations, edition=edition))
 
@@ -376,13 +421,11 @@ def sequences():
     both(yes, annotation(position=3, text=b"PEP"), annotation(4), annotation(2, position=3, end=5, text=b"PEP"))
     # lines of 4,096 bytes, and longer ones, which are 1 unless they are no tables
     full = [annotation(text=b"A" * 251)] * 15
-    for last, answer in ((b"A" * 252, (0, 0)), (b"A" * 253, (1, 4096)), (b"A" * 255, (1, 4096)), (b"A" * 256, (9, 0)), (b"a" * 252, (9, 0)), (b"a" * 253, (9, 0))):
-        for edition in (2, 1):
-            state(table(*full, annotation(text=last), edition=edition), *answer)
-    for edition in (2, 1):
-        state(table(*full, annotation(text=b"A" * 252), annotation(4), edition=edition), 9, 0)
-        state(table(*full, annotation(position=254, text=b"A" * 253), edition=edition), 9, 0)
-        state(table(*full, annotation(position=253, text=b"A" * 253), edition=edition), 1, 4096)
+    for last, answer in ((b"A" * 252, yes), (b"A" * 253, over), (b"A" * 255, over), (b"A" * 256, no), (b"a" * 252, no), (b"a" * 253, no)):
+        both(answer, *full, annotation(text=last))
+    both(no, *full, annotation(text=b"A" * 252), annotation(4))
+    both(no, *full, annotation(position=254, text=b"A" * 253))
+    both(over, *full, annotation(position=253, text=b"A" * 253))
 
 
 def ordered():
@@ -550,10 +593,9 @@ def nested():
     bad(losses=[(0, 1, 1, b"H[a]"), (0, 0, 1, [(2, 1, 1)])])
     # 4,096 bytes of such names, and one more
     full = [annotation(5, text=b"[]" * 126)] * 15
-    for edition in (2, 1):
-        yes(table(*full, annotation(5, text=b"[]" * 126 + b"x"), edition=edition))
-        state(table(*full, annotation(5, text=b"[]" * 127), edition=edition), 1, 4096)
-        no(table(*full, annotation(5, text=b"[]" * 126 + b"x]"), edition=edition))
+    both(yes, *full, annotation(5, text=b"[]" * 126 + b"x"))
+    both(over, *full, annotation(5, text=b"[]" * 127))
+    both(no, *full, annotation(5, text=b"[]" * 126 + b"x]"))
 
 
 def sums():
@@ -582,13 +624,13 @@ def texts(*lengths, edition=2):
 
 
 def long():
-    """Lines at their bound, and tables whose lines are longer: 1, unless they are no tables."""
+    """Lines at their bound, and tables whose lines are longer: 1, unless they are no tables or of edition 1."""
     full = [252] * 15
     for edition in (2, 1):
-        for last, answer in ((252, (0, 0)), (253, (0, 0)), (254, (1, 4096)), (255, (1, 4096)), (256, (9, 0))):
-            state(texts(*full, last, edition=edition), *answer)
+        for last, answer in ((252, yes), (253, yes), (254, over), (255, over), (256, no)):
+            answer(texts(*full, last, edition=edition))
         two = table(largest(), largest(), edition=edition)
-        state(two, 1, 4096)
+        over(two)
         no(two + b"\0")
         no(two[:-1])
         no(changed(two, len(two) - 1, 10))
@@ -597,11 +639,14 @@ def long():
         # the largest table of all, with one byte more, and with its last adduct item out of order
         most = table(*[largest()] * 16, edition=edition)
         assert len(most) == {1: 43596, 2: 43628}[edition]
-        state(most, 1, 4096)
+        over(most)
         no(most + b"\0")
         last = largest()
         last["items"] = last["items"][:3] + [(0, 0, 998, last["items"][0][3])]
         no(table(*[largest()] * 15, last, edition=edition))
+        # a line of 4,604 bytes whose last sequence keeps the rules, or breaks them
+        for last, answer in ((annotation(text=b"K"), over), (annotation(position=2, text=b"K"), no), (annotation(text=b"k"), no)):
+            answer(table(*line_of_4598(), last, edition=edition))
         # lines and tables around 1,024 bytes
         for n in (249, 250, 251):
             yes(texts(253, 253, 253, n, edition=edition))
@@ -622,8 +667,9 @@ def digits():
         cases.append(line)
         stated[line] = (9, 0)
     for edition in (2, 1):
-        cases.append(table(rich(), edition=edition).hex().upper().encode())
-        stated[cases[-1]] = (0, 0)
+        made = table(rich(), edition=edition)
+        cases.append(made.hex().upper().encode())
+        stated[cases[-1]] = today(made, 0, 0)
 
 
 def rooms():
@@ -634,72 +680,281 @@ def rooms():
                  table(annotation(position=3, text=b"PEP"), edition=1)):
         n = len(spelled(made))
         for room in dict.fromkeys((n, max(n - 1, 0), min(n + 1, 4096), 0) + (() if n > 1000 else (1, 28, 4096))):
-            spare.append((room, made, (0, 0, n) if n <= room else (8, n, 0)))
+            spare.append((room, made, today(made, *((0, 0, n) if n <= room else (8, n, 0)))))
     for made, answer in ((b"", (9, 0, 0)), (b"\0", (9, 0, 0)), (table(annotation()) + b"\0", (9, 0, 0)), (table(annotation(4, position=1)), (9, 0, 0)), (texts(*[252] * 15, 254), (1, 4096, 0)), (table(largest(), largest()), (1, 4096, 0)),
                          (changed(table(annotation()), 0, 1, 2), (9, 0, 0)), (table(annotation(position=3, text=b"PEP", residues=2)), (9, 0, 0)), (table(annotation(position=4, text=b"PEP"), edition=1), (9, 0, 0)),
-                         (table(annotation(text=b"x"), edition=1), (9, 0, 0)), (texts(*[252] * 15, 254, edition=1), (1, 4096, 0))):
+                         (table(annotation(text=b"x"), edition=1), (9, 0, 0)), (texts(*[252] * 15, 254, edition=1), (10, 0, 0))):
         for room in (0, 1, 2, 4096):
             spare.append((room, made, answer))
 
 
+# ---- conversions
+
+def turn(data, *answer):
+    """A table to be converted, with the number and the place, or without."""
+    digits = data.hex().encode()
+    turned.append(digits)
+    assert not answer or turns.setdefault(digits, answer) == answer, (digits, answer)
+
+
+def show(data, *answer):
+    """The same, of the program `convert` too."""
+    turn(data, *answer)
+    briefly.append(turned[-1])
+
+
+def first(*annotations):
+    return table(*annotations, edition=1)
+
+
+def line_of_4598():
+    """Three annotations, of which the preferred line has 4,598 bytes."""
+    most, rest = annotation(4, losses=[(0, 1, 1, b"x" * 255)] * 8), annotation(4, losses=[(0, 1, 1, b"x" * 204), (0, 1, 1, b"x" * 255)])
+    assert len(spelled(first(most, most, rest))) == 4598
+    return most, most, rest
+
+
+def of_request():
+    """What request M-112 and its readings name: 9 as document 01 with M-100 has it, then 11 or 6 at the place in the preferred line, however long."""
+    pep, short, foreign = annotation(position=3, text=b"PEP"), annotation(position=4, text=b"PEP"), annotation(text=b"x")
+    show(first(), 0, 0)
+    show(first(annotation()), 0, 0)
+    show(first(pep), 0, 0)
+    assert len(converted(first())[2]) == 28 and len(converted(first(pep))[2]) == 69 and number(converted(first(pep))[2], 28 + 36) == 3
+    show(first(annotation(4), short), 6, 2)
+    show(first(short), 6, 0)
+    show(first(foreign), 11, 0)
+    show(first(annotation(4), foreign), 11, 2)
+    # 11 goes before 6, whichever stands first, and each is that of the first such annotation
+    show(first(short, foreign), 11, 8)
+    show(first(foreign, short), 11, 0)
+    show(first(pep, foreign, short, foreign), 11, 8)
+    show(first(pep, short, pep, short), 6, 8)
+    # what breaks a rule of document 01 is no table, and so are tables of edition 2, and what is neither
+    for broken in (annotation(2, position=1, end=1), annotation(2, position=3, end=2), annotation(kind=8, text=b"CN"), annotation(position=0), annotation(text=b"A" * 256), annotation(5, text=b"a[b")):
+        (show if broken["kind"] == 2 else turn)(first(broken), 9, 0)
+        turn(first(broken, foreign), 9, 0)
+        turn(first(short, broken), 9, 0)
+    for made in (table(), table(annotation()), table(pep), table(short), table(foreign)):
+        (show if made == table(pep) else turn)(made, 9, 0)
+    show(b"", 9, 0)
+    show(changed(first(pep), 0, 2, 2), 9, 0)
+    show(changed(table(pep), 0, 1, 2), 9, 0)
+    show(changed(first(pep), 29, 2), 9, 0)
+    show(first(pep) + b"\0", 9, 0)
+    show(first(pep)[:-1], 9, 0)
+    turn(first(*[annotation(sure=1, sure_decimals=1, confidence=6)] * 2), 9, 0)
+    turn(first(annotation(losses=[(0, 0, 1, H), (0, 0, 1, C)])), 9, 0)
+    turn(first(*[annotation(4)] * 17), 9, 0)
+    # lines of 4,604 bytes, and one of 4,097
+    for last, answer in ((annotation(text=b"K"), (0, 0)), (annotation(position=2, text=b"K"), (6, 4599)), (annotation(text=b"k"), (11, 4599))):
+        made = first(*line_of_4598(), last)
+        assert len(spelled(made)) == 4604
+        turn(made, *answer)
+    turn(texts(*[252] * 15, 254, edition=1), 0, 0)
+    # the largest table of all is that of the largest of edition 1
+    most = first(*[largest()] * 16)
+    turn(most, 0, 0)
+    assert len(converted(most)[2]) == 43628
+
+
+def of_fields():
+    """Tables of many fields, of which the other edition has the same."""
+    some = [annotation(6, text=b"x"), annotation(8, text=b"CN", items=[(1, 0, 1, H)]), annotation(5, text=b"PEP"), annotation(3, series=67, text=b"PEP"), annotation(7, units=C), annotation(9, position=17)]
+    for made in ((rich(),), tuple(other()), (rich(), *other()), (*other(), rich()), tuple(some), (*some, rich()), (annotation(4),) * 16):
+        (show if len(made) < 3 else turn)(first(*made), 0, 0)
+        turn(table(*made), 9, 0)
+    # the place is that in the preferred line
+    for before in ((rich(),), tuple(other()), (rich(), *other()), tuple(some)):
+        place = len(spelled(first(*before))) + 1
+        turn(first(*before, annotation(text=b"x"), annotation(4)), 11, place)
+        turn(first(*before, annotation(position=8, text=b"PEPTIDE"), annotation(4)), 6, place)
+    # names of losses stand between the sequences
+    named = annotation(position=2, text=b"MK", losses=[(0, 1, 1, b"Hex"), (0, 1, 2, b"x")])
+    turn(first(named, named, annotation(4), named), 0, 0)
+    turn(first(named, annotation(position=3, text=b"MK", losses=[(0, 1, 1, b"KKK")])), 6, len(spelled(first(named))) + 1)
+    for edition in (0, 3, 256, 257, 258, 513, 65535):
+        turn(changed(first(rich()), 0, edition, 2), 9, 0)
+        turn(changed(first(), 0, edition, 2), 9, 0)
+
+
+def of_sequences():
+    """Sequences, and texts that are none."""
+    internal = dict(kind=2, position=2, end=2)
+    for text in (b"A", b"PEPTIDE", b"[Acetyl]-M", b"K-[am]", b"[a]-K-[b]", b"M[a][b]", b"M[[]]", b"M[a[b]c]", b"M[K]", b"[KK]-M", b"M[,/*0.5]", b"A" * 255):
+        count = residues(text)
+        turn(first(annotation(position=count, text=text)), 0, 0)
+        turn(first(annotation(position=count + 1, text=text)), 6, 0)
+        turn(first(annotation(2, position=2, end=count + 1, text=text)), 0, 0)
+        turn(first(annotation(2, position=2, end=count + 2, text=text)), 6, 0)
+    for text in (b"x", b"Ax", b"xA", b" A", b"A1", b"P(a)", b"-", b"A-", b"A-B", b"[a]", b"[a]-", b"[a]A", b"[]-A", b"A-[]", b"A[]", b"A[", b"A]", b"A[[a]", b"[A]-[B]-M", b"A-[a]B", b"][", b"A" * 254 + b"x"):
+        turn(first(annotation(text=text)), 11, 0)
+        turn(first(annotation(text=text, **internal)), 11, 0)
+        turn(first(annotation(6, text=text)), 0, 0)
+    for start, end, answer in ((65533, 65535, 0), (65532, 65535, 6), (2, 4, 0), (2, 5, 6), (2, 65535, 6), (1, 3, 9), (3, 2, 9)):
+        turn(first(annotation(2, position=start, end=end, text=b"PEP")), answer, 0)
+    turn(first(annotation(position=65535, text=b"PEP")), 6, 0)
+
+
+def of_lines_read():
+    """The edition 1 tables of the fields of short lines: each gives the table that the line is read to."""
+    with open(os.path.join(ROOT, "reads", "stdin"), "rb") as lines, open(os.path.join(ROOT, "reads", "stdout"), "rb") as answers:
+        pairs = zip(lines.read().split(b"\n"), answers.read().split(b"\n"))
+    for made in dict.fromkeys(bytes.fromhex(a.split(b" ")[3].decode()) for line, a in pairs if a.startswith(b"0 ") and len(line) <= 5):
+        assert converted(first_edition(made)) == (0, 0, made)
+        turn(first_edition(made), 0, 0)
+
+
+def of_damage():
+    """Bytes changed, tables cut and made longer."""
+    small, made = first(annotation(position=3, text=b"PEP")), first(rich())
+    for i, b in enumerate(small):
+        for value in dict.fromkeys(((b + 1) % 256, (b + 255) % 256, 0, 255)):
+            if value != b:
+                turn(changed(small, i, value))
+    for i, b in enumerate(made):
+        turn(changed(made, i, (b + 1) % 256))
+    for n in range(len(small)):
+        turn(small[:n], 9, 0)
+    for tail in (b"\0", b"\0\0", b"\0" * 36, b"\0" * 38, small):
+        turn(small + tail, 9, 0)
+        turn(changed(small + tail, 2, len(small + tail), 2), 9, 0)
+    for counts, sections in (sections_of(small), sections_of(table(annotation(position=3, text=b"PEP")))):
+        for edition in (1, 2):
+            if len(sections[0]) != WIDTH[edition]:
+                turn(framed(counts, sections, edition), 9, 0)
+
+
+def of_digits():
+    """Lines that are no pairs of digits, and capitals, which are digits."""
+    digits = first(annotation(position=3, text=b"PEP")).hex().encode()
+    for line in (b"zz", digits[:-1], digits + b" ", b"0x" + digits, b"-"):
+        turned.append(line)
+        turns[line] = (9, 0)
+        briefly.append(line)
+    turned.append(digits.upper())
+    turns[turned[-1]] = (0, 0)
+    briefly.append(turned[-1])
+
+
 # ---- answers
+
+def parts_of(answer):
+    """Number, place and length, and the bytes."""
+    found = answer.split(b" ")
+    return tuple(int(n) for n in found[:3]), b"" if found[3] == b"-" else bytes.fromhex(found[3].decode())
+
 
 def fault(data, answer, expected):
     """What is wrong with an answer to a table, by what is stated and by the table's own fields."""
-    found = answer.split(b" ")
-    line = b"" if found[3] == b"-" else bytes.fromhex(found[3].decode())
-    got = tuple(int(n) for n in found[:3])
+    got, line = parts_of(answer)
     if len(line) != got[2]:
         return "a line of the length that is said"
     if got[:len(expected)] != expected:
         return expected
     if got[0] == 0 and line != spelled(data):
         return spelled(data)
-    if got[0] not in (0, 1, 8, 9):
-        return "0, 1, 8 or 9"
+    if got[0] not in (0, 1, 8, 9, 10):
+        return "0, 1, 8, 9 or 10"
+    if got[0] != 9 and number(data, 0) != (1 if got[0] == 10 else 2):
+        return "10 for a table of edition 1, and no other number but 9"
     return None
+
+
+def turn_fault(data, answer, expected):
+    """What is wrong with an answer to a table that is converted."""
+    got, made = parts_of(answer)
+    if len(made) != got[2]:
+        return "a table of the length that is said"
+    if got[:len(expected)] != expected:
+        return expected
+    if got[0] not in (0, 6, 9, 11):
+        return "0, 6, 9 or 11"
+    if got[0] != 9 and (number(data, 0) != 1 or (*got[:2], made) != converted(data)):
+        return "9, or what the fields of the table say"
+    return None
+
+
+def brief(answer):
+    """What the program `convert` prints of an answer."""
+    got, made = parts_of(answer)
+    return b"!%d %d" % got[:2] if got[0] else made.hex().encode()
 
 
 def is_pairs(line):
     return len(line) % 2 == 0 and all(b in b"0123456789abcdefABCDEF" for b in line)
 
 
+def faults(name, given, fault):
+    """What is wrong with the stored answers of a program to lines, by what is stated of each."""
+    answers = stored(name, "stdout").split(b"\n")[:-1]
+    assert len(answers) == len(given), (name, len(answers), len(given))
+    for (line, expected), answer in zip(given, answers):
+        what = fault(bytes.fromhex(line.decode()) if is_pairs(line) else b"", answer, expected)
+        if what is not None:
+            yield line, what, answer
+
+
+def brief_faults():
+    """`convert` prints what `converts` does, in its own form."""
+    said = dict(zip(turned, stored("converts", "stdout").split(b"\n")))
+    answers = stored("convert", "stdout").split(b"\n")[:-1]
+    assert len(answers) == len(briefly), (len(answers), len(briefly))
+    return [(line, brief(said[line]), answer) for line, answer in zip(briefly, answers) if answer != brief(said[line])]
+
+
 def check():
-    wrong = []
-    for name, given in (("writes", [(line, stated.get(line, ())) for line in cases]), ("try_write_sized", [(made.hex().encode(), answer) for _, made, answer in spare])):
-        answers = stored(name, "stdout").split(b"\n")[:-1]
-        assert len(answers) == len(given), (name, len(answers), len(given))
-        for (line, expected), answer in zip(given, answers):
-            what = fault(bytes.fromhex(line.decode()) if is_pairs(line) else b"", answer, expected)
-            if what is not None:
-                wrong.append((line, what, answer))
+    wrong = [*faults("writes", [(line, stated.get(line, ())) for line in cases], fault),
+             *faults("try_write_sized", [(made.hex().encode(), answer) for _, made, answer in spare], fault),
+             *faults("converts", [(line, turns.get(line, ())) for line in turned], turn_fault), *brief_faults()]
     for line, expected, got in wrong:
         print("table %s: stated %r, stored %s" % (line[:400].decode("latin-1"), expected, got[:200].decode()))
-    written = sum(answer.startswith(b"0 ") for answer in stored("writes", "stdout").split(b"\n"))
-    print("%d tables, %d of them with a stated answer, %d written; %d rooms; %d differences" % (len(cases), sum(line in stated for line in cases), written, len(spare), len(wrong)))
+    done = [sum(answer.startswith(b"0 ") for answer in stored(name, "stdout").split(b"\n")) for name in ("writes", "converts")]
+    print("%d tables, %d of them with a stated answer, %d written; %d rooms" % (len(cases), sum(line in stated for line in cases), done[0], len(spare)))
+    print("%d to be converted, %d of them with a stated answer, %d converted; %d in brief" % (len(turned), sum(line in turns for line in turned), done[1], len(briefly)))
+    print("%d differences" % len(wrong))
     return not wrong
 
 
-def lines_by(folder, given, *words):
-    """What the writer of the other implementation prints."""
-    return answers_by(folder, "cross", given, "--write", "--hex", *words)
+def answers_of(folder, given, *words):
+    """What the other implementation prints for each line of digits; what is no pairs of digits is no table."""
+    asked = b"".join(line + b"\n" for line in given if is_pairs(line))
+    answers = iter(answers_by(folder, "cross", asked, "--hex", *words).splitlines())
+    return [next(answers) if is_pairs(line) else b"9 0 0 -" for line in given]
+
+
+def lined(answers):
+    return b"".join(answer + b"\n" for answer in answers)
+
+
+def store_inputs():
+    """The last line of some lacks its line feed, as it may."""
+    store("writes", "stdin", b"\n".join(cases))
+    store("try_write_sized", "stdin", lined(b"%d " % room + made.hex().encode() for room, made, _ in spare))
+    store("converts", "stdin", b"\n".join(turned))
+    store("convert", "stdin", lined(briefly))
+
+
+def store_outputs(folder):
+    store("writes", "stdout", lined(answers_of(folder, cases, "--write")))
+    store("try_write_sized", "stdout", lined(answer for room, made, _ in spare for answer in answers_of(folder, [made.hex().encode()], "--write", "--out", str(room))))
+    store("converts", "stdout", lined(answers_of(folder, turned, "--convert")))
+    store("convert", "stdout", lined(brief(answer) for answer in answers_of(folder, briefly, "--convert")))
 
 
 def main(words):
     for part in (of_lines, bytes_changed, cut_and_longer, editions, counts, sequences, ordered, fields, kinds, nested, sums, long, digits, rooms):
         part()
+    for part in (of_request, of_fields, of_sequences, of_lines_read, of_damage, of_digits):
+        part()
     # each once
     cases[:] = dict.fromkeys(cases)
+    turned[:] = dict.fromkeys(turned)
     if words[:1] == ["--check"]:
         return 0 if check() else 1
-    # the last line lacks its line feed, as it may
-    store("writes", "stdin", b"\n".join(cases))
-    store("try_write_sized", "stdin", b"".join(b"%d " % room + made.hex().encode() + b"\n" for room, made, _ in spare))
+    store_inputs()
     if words[:1] == ["--with"]:
-        given = [line for line in cases if is_pairs(line)]
-        answers = iter(lines_by(words[1], b"".join(line + b"\n" for line in given)).splitlines(keepends=True))
-        store("writes", "stdout", b"".join(next(answers) if is_pairs(line) else b"9 0 0 -\n" for line in cases))
-        store("try_write_sized", "stdout", b"".join(lines_by(words[1], made.hex().encode() + b"\n", "--out", str(room)) for room, made, _ in spare))
+        store_outputs(words[1])
         return 0 if check() else 1
     return 0
 

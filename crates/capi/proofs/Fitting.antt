@@ -1,4 +1,5 @@
--- Two bytes hold each number of the answer to a line or a table: places lie in the line, and no table has more than 43,628 bytes.
+-- Two bytes hold each number of the answer to a line or a table: places lie in the line, which has no more than 51,071 bytes where a table is converted,
+-- and no table has more than 43,628.
 -- Assumes nothing.
 use Prim.Native.Nat.{ℕ, _≤_}
 use mathlib.Core.Path.{_≡_}
@@ -9,13 +10,17 @@ use Rattle.lang.specs.Parts.{silent}
 use Rattle.lang.specs.Mark.{Kept}
 use Rattle.rules.specs.Lines.{Spelling, stray, short}
 use Rattle.rules.specs.Limits.{lineMarks}
-use Rattle.rules.specs.House.{firstForeign, firstBreach}
-use Rattle.rules.specs.Editions.{current}
-use Rattle.rules.specs.Answers.{Answer, Delivers, no-room, done, Sound, ReadsSum, ReadsRules, ReadsForm, ReadsSpelling, Reads, Writes}
+use Rattle.rules.specs.Fields.{Table}
+use Rattle.rules.specs.Preferred.{preferredSpelling}
+use Rattle.rules.specs.House.{formed, annotationRules, firstForeign, firstBreach}
+use Rattle.rules.specs.Editions.{ed1, current}
+use Rattle.rules.specs.Answers.{Answer, Delivers, no-room, done, Sound, ReadsSum, ReadsRules, ReadsForm, ReadsSpelling, Reads, Holds, Writes, Converts, held}
 use Rattle.rules.proofs.Rises.{line-rises}
 use Rattle.rules.proofs.Sizes.{sizes-fit}
-use Rattle.read_row.proofs.LinePlaces.{reads-place}
+use Rattle.print_table.proofs.Short.{longestLine, line-short}
+use Rattle.read_row.proofs.LinePlaces.{failing-within, line-length, reads-place}
 use Rattle.lines.specs.Relabels.{Relabels, refused, relabelled}
+use Rattle.lines.proofs.Converted.{Answers, form, rule, read, form-answers}
 use Rattle.pack_answer.specs.Handed.{AtMost, most}
 
 -- what a result of few bytes is answered by
@@ -63,8 +68,27 @@ mostOfRow = 4160
 
 pub writes-most : {bytes : List ℕ} {room : ℕ} {a : Answer} → Writes bytes room a → AtMost mostOfRow a
 writes-most (Writes.no-table n) = record { number = omega arith; place = omega arith; size = omega arith }
+writes-most (Writes.old t h o) = record { number = omega arith; place = omega arith; size = omega arith }
 writes-most (Writes.long t h l) = record { number = omega arith; place = omega arith; size = omega arith }
 writes-most (Writes.fits t h l d) = delivered-most (omega arith) (omega arith) d
+
+-- ---- converting: the line of an old table may be longer than one that is read
+
+abbrev pub mostOfConverted : ℕ
+mostOfConverted = longestLine
+
+pub converted-most : {bytes : List ℕ} (t : Table) (h : Holds ed1 bytes t) (room : ℕ) {a : Answer} → Answers t h room a → AtMost mostOfConverted a
+converted-most t h room (form p z) =
+    let s = preferredSpelling t in
+    record { number = omega arith; place = omega (arith, failing-within (λ a. formed current (a .ion)) 0 s p z, line-length s, line-short t (h .sound)); size = omega arith }
+converted-most t h room (rule p z) =
+    let s = preferredSpelling t in
+    record { number = omega arith; place = omega (arith, failing-within (annotationRules current) 0 s p z, line-length s, line-short t (h .sound)); size = omega arith }
+converted-most t h room (read y) = delivered-most (omega (arith, sizes-fit current t (h .sound))) (omega arith) (y .delivers)
+
+converts-most : {bytes : List ℕ} {room : ℕ} {a : Answer} → Converts bytes room a → AtMost mostOfConverted a
+converts-most (Converts.no-table n) = record { number = omega arith; place = omega arith; size = omega arith }
+converts-most {room = room} (held t h x) = converted-most t h room (form-answers t h room x)
 
 -- ---- two bytes
 
@@ -76,6 +100,9 @@ reads-fit r = at-most (omega arith) (reads-most r)
 
 pub writes-fit : {bytes : List ℕ} {room : ℕ} {a : Answer} → Writes bytes room a → AtMost most a
 writes-fit w = at-most (omega arith) (writes-most w)
+
+pub converts-fit : {bytes : List ℕ} {room : ℕ} {a : Answer} → Converts bytes room a → AtMost most a
+converts-fit x = at-most (omega arith) (converts-most x)
 
 pub relabels-fit : {line : List ℕ} {room : ℕ} {a : Answer} → Relabels line room a → AtMost most a
 relabels-fit (refused r n) = let h = reads-fit r in record { number = h .number; place = h .place; size = omega arith }

@@ -1,6 +1,6 @@
 -- Two bytes hold each number of the answer to a row or a stored row: its columns are short, and its line is answered by few.
 -- Assumes nothing.
-use Prim.Native.Nat.{ℕ, _+_, _≤_}
+use Prim.Native.Nat.{ℕ, _+_, _-_, _≤_}
 use mathlib.Core.Path.{ap}
 use mathlib.Core.List.{List, [], _∷_, _++_}
 use native.Mathlib.Omega.{arith}
@@ -13,23 +13,24 @@ use Rattle.rules.specs.Limits.{maxLine}
 use Rattle.rules.specs.Fields.{Table}
 use Rattle.rules.specs.Preferred.{preferred}
 use Rattle.rules.specs.Answers.{Answer}
-use Rattle.rules.specs.Rows.{Row, tab, thirdText, preferredThird, preferredRow}
-use Rattle.rules.specs.RowAnswers.{Cut, Moves, ReadsThird, ReadsIntensity, ReadsRow, WritesRow}
+use Rattle.rules.specs.Rows.{Row, tab, rowHeadSize, thirdText, preferredThird, preferredRow}
+use Rattle.rules.specs.RowAnswers.{Cut, Moves, ReadsThird, ReadsIntensity, ReadsRow, WritesRow, thirdAt, ConvertsRow}
 use Rattle.read_row.proofs.Decimals.{decimal-short}
 use Rattle.read_row.proofs.Right.{cut-place, cut-rest}
 use Rattle.rows.specs.Relabels.{RelabelsRow}
+use Rattle.lines.proofs.Converted.{form-answers}
 use Rattle.pack_answer.specs.Handed.{AtMost, most}
-use Rattle.capi.proofs.Fitting.{delivered-most, mostOfLine, reads-most, mostOfRow, at-most}
+use Rattle.capi.proofs.Fitting.{delivered-most, reads-most, mostOfRow, mostOfConverted, converted-most, at-most}
 
 -- ---- reading
 
-moved-fit : {head : List ℕ} {at room : ℕ} {line a : Answer} → at ≤ 8320 → AtMost mostOfLine line → Moves head at room line a → AtMost most a
-moved-fit g h (Moves.done e) = record { number = omega arith; place = omega arith; size = omega (arith, h .size) }
-moved-fit g h (Moves.no-room e) = record { number = omega arith; place = omega (arith, h .place); size = omega arith }
-moved-fit g h (Moves.refused e f) = record { number = omega (arith, h .number); place = omega (arith, h .place); size = omega arith }
+moved-fit : {m : ℕ} {head : List ℕ} {at room : ℕ} {line a : Answer} → at + m ≤ most → rowHeadSize + m ≤ most → AtMost m line → Moves head at room line a → AtMost most a
+moved-fit g k h (Moves.done e) = record { number = omega arith; place = omega arith; size = omega (arith, h .size) }
+moved-fit g k h (Moves.no-room e) = record { number = omega arith; place = omega (arith, h .place); size = omega arith }
+moved-fit g k h (Moves.refused e f) = record { number = omega (arith, h .number); place = omega (arith, h .place); size = omega arith }
 
 third-fits : {mz intensity : Decimal} {third : List ℕ} {at room : ℕ} {a : Answer} → at ≤ 8320 → ReadsThird mz intensity third at room a → AtMost most a
-third-fits g (ReadsThird.line r m) = moved-fit g (reads-most r) m
+third-fits g (ReadsThird.line r m) = moved-fit (omega arith) (omega arith) (reads-most r) m
 
 intensity-fits : {mz : Decimal} {bytes : List ℕ} {at room : ℕ} {a : Answer} → at ≤ 4160 → length bytes ≤ 4160 → ReadsIntensity mz bytes at room a → AtMost most a
 intensity-fits g l (ReadsIntensity.bad c b) = record { number = omega arith; place = omega arith; size = omega arith }
@@ -66,8 +67,30 @@ row-short r m i h =
 
 pub writes-row-fit : {bytes : List ℕ} {room : ℕ} {a : Answer} → WritesRow bytes room a → AtMost most a
 writes-row-fit (WritesRow.no-row n) = record { number = omega arith; place = omega arith; size = omega arith }
+writes-row-fit (WritesRow.old r h o) = record { number = omega arith; place = omega arith; size = omega arith }
 writes-row-fit (WritesRow.long r h l) = record { number = omega arith; place = omega arith; size = omega arith }
 writes-row-fit (WritesRow.fits r h l d) = at-most (omega arith) (delivered-most (row-short r (h .mz) (h .intensity) l) (omega arith) d)
+
+-- ---- converting
+
+-- two columns and two tabs
+third-near : (r : Row) → T (Limits.fits (r .mz)) → T (Limits.fits (r .intensity)) → thirdAt r ≤ 64
+third-near r m i =
+    let second = decimalText (r .intensity) ++ tab in
+    omega (
+      arith,
+      length-append (decimalText (r .mz)) (tab ++ second),
+      length-append tab second,
+      length-append (decimalText (r .intensity)) tab,
+      decimal-short (r .mz) m,
+      decimal-short (r .intensity) i,
+    )
+
+pub converts-row-fit : {bytes : List ℕ} {room : ℕ} {a : Answer} → ConvertsRow bytes room a → AtMost most a
+converts-row-fit (ConvertsRow.no-row n) = record { number = omega arith; place = omega arith; size = omega arith }
+converts-row-fit {room = room} (ConvertsRow.held r h x m) =
+    let b = converted-most (r .table) (h .table) (room - rowHeadSize) (form-answers (r .table) (h .table) (room - rowHeadSize) x) in
+    moved-fit (omega (arith, third-near r (h .mz) (h .intensity))) (omega arith) b m
 
 pub relabels-row-fit : {row : List ℕ} {room : ℕ} {a : Answer} → RelabelsRow row room a → AtMost most a
 relabels-row-fit (RelabelsRow.refused r n) = let h = reads-row-fit r in record { number = h .number; place = h .place; size = omega arith }

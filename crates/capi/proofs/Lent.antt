@@ -12,8 +12,8 @@ use lib.Seq.{getD-append-add}
 use borrow.Author.Tests.{ltb-true, le-leb}
 use Rattle.lang.specs.Parts.{flat}
 use Rattle.rules.specs.Stored.{little}
-use Rattle.rules.specs.Answers.{Reads, Writes}
-use Rattle.rules.specs.RowAnswers.{ReadsRow, WritesRow}
+use Rattle.rules.specs.Answers.{Reads, Writes, Converts}
+use Rattle.rules.specs.RowAnswers.{ReadsRow, WritesRow, ConvertsRow}
 use Rattle.shape.specs.Tables.{states, kinds, rowsAt, endsAt, size, packed}
 use Rattle.put_bytes.specs.Puts.{maxPlace}
 use Rattle.scan_line.specs.declared.Progress.{Progress}
@@ -24,9 +24,9 @@ use Rattle.scan_line.proofs.Walks.{moves-alike, taken-run}
 use Rattle.scan_line.proofs.Scans.{by-machine}
 use Rattle.read_line.specs.Readings.{readOf}
 use Rattle.read_line.proofs.Right.{read-right}
-use Rattle.write_table.specs.Writings.{writtenOf}
+use Rattle.write_table.specs.Writings.{writtenOf, convertedOf}
 use Rattle.write_table.proofs.Low.{bytes-each}
-use Rattle.write_table.proofs.Right.{write-right}
+use Rattle.write_table.proofs.Right.{write-right, convert-right}
 use Rattle.lines.specs.Relabels.{Relabels, relabelledOf}
 use Rattle.lines.proofs.Right.{relabel-right}
 use Rattle.read_row.specs.Readings.{readRowOf}
@@ -34,6 +34,8 @@ use Rattle.read_row.proofs.Right.{read-row-right}
 use Rattle.write_row.specs.Writings.{writeRowOf}
 use Rattle.write_row.proofs.Heads.{Bytes, bytes-drop}
 use Rattle.write_row.proofs.Right.{write-row-right}
+use Rattle.convert_row.specs.Conversions.{convertRowOf}
+use Rattle.convert_row.proofs.Right.{convert-row-right}
 use Rattle.respell_row.specs.Relabelled.{relabelledRowOf}
 use Rattle.rows.specs.Relabels.{RelabelsRow}
 use Rattle.rows.proofs.RelabelRow.{relabel-row-right}
@@ -41,8 +43,8 @@ use Rattle.pack_answer.specs.Handed.{Hands, handedOf}
 use Rattle.capi.specs.Prepared.{machineIn}
 use Rattle.capi.proofs.Preparing.{machine-size}
 use Rattle.pack_answer.proofs.Packs.{hands}
-use Rattle.capi.proofs.Fitting.{reads-fit, writes-fit, relabels-fit}
-use Rattle.capi.proofs.FittingRows.{reads-row-fit, writes-row-fit, relabels-row-fit}
+use Rattle.capi.proofs.Fitting.{reads-fit, writes-fit, converts-fit, relabels-fit}
+use Rattle.capi.proofs.FittingRows.{reads-row-fit, writes-row-fit, converts-row-fit, relabels-row-fit}
 
 -- ---- the machine consists of bytes
 
@@ -139,6 +141,9 @@ module _ (k : ℕ) where
     pub write-lent : (table : List ℕ) → Hands (Writes table room) room n (handedOf room (writtenOf (machineIn k) table room) n)
     write-lent table = let r = write-right (machineIn k) table room (λ l b h. judged l (bytes-each l b) (omega arith)) in hands _ r (writes-fit r) refl refl
 
+    pub convert-lent : (table : List ℕ) → Hands (Converts table room) room n (handedOf room (convertedOf (machineIn k) table room) n)
+    convert-lent table = let r = convert-right (machineIn k) table room small (λ l b h. judged l (bytes-each l b) (omega arith)) in hands _ r (converts-fit r) refl refl
+
     pub relabel-lent : (line : List ℕ) → Bytes line → length line < 2 ^ 64
         → Hands (Relabels line room) room n (handedOf room (relabelledOf (scannedBy (machineIn k) line) line room) n)
     relabel-lent line y h = let r = relabel-right (scannedBy (machineIn k) line) line room (judged line y h) in hands _ r (relabels-fit r) refl refl
@@ -149,6 +154,10 @@ module _ (k : ℕ) where
     pub write-row-lent : (stored : List ℕ) → Bytes stored → Hands (WritesRow stored room) room n (handedOf room (writeRowOf (machineIn k) stored room) n)
     write-row-lent stored y =
         let r = write-row-right (machineIn k) stored room small y (λ l b h. judged l (bytes-each l b) (omega arith)) in hands _ r (writes-row-fit r) refl refl
+
+    pub convert-row-lent : (stored : List ℕ) → Bytes stored → Hands (ConvertsRow stored room) room n (handedOf room (convertRowOf (machineIn k) stored room) n)
+    convert-row-lent stored y =
+        let r = convert-row-right (machineIn k) stored room small y (λ l b h. judged l (bytes-each l b) (omega arith)) in hands _ r (converts-row-fit r) refl refl
 
     pub relabel-row-lent : (row : List ℕ) → Bytes row → length row < 2 ^ 64
         → Hands (RelabelsRow row room) room n (handedOf room (relabelledRowOf (machineIn k) row room) n)

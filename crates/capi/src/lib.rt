@@ -2,18 +2,21 @@
 // programmer.
 ghost use mathlib.Core.Path.{_≡_};
 ghost use lib.ListN.{length};
-ghost use Rattle.rules.specs.Answers.{Reads, Writes};
-ghost use Rattle.rules.specs.RowAnswers.{ReadsRow, WritesRow};
+ghost use Rattle.rules.specs.Answers.{Reads, Writes, Converts};
+ghost use Rattle.rules.specs.RowAnswers.{ReadsRow, WritesRow, ConvertsRow};
 ghost use Rattle.scan_line.specs.Steps.{scannedBy};
 ghost use Rattle.read_line.specs.Readings.{readOf};
-ghost use Rattle.write_table.specs.Writings.{writtenOf};
+ghost use Rattle.write_table.specs.Writings.{writtenOf, convertedOf};
 ghost use Rattle.lines.specs.Relabels.{Relabels, relabelledOf};
 ghost use Rattle.read_row.specs.Readings.{readRowOf};
 ghost use Rattle.write_row.specs.Writings.{writeRowOf};
+ghost use Rattle.convert_row.specs.Conversions.{convertRowOf};
 ghost use Rattle.respell_row.specs.Relabelled.{relabelledRowOf};
 ghost use Rattle.rows.specs.Relabels.{RelabelsRow};
 ghost use Rattle.pack_answer.specs.Handed.{handed, handedOf, Hands};
 ghost use Rattle.capi.specs.Prepared.{prepared, preparedOf};
+use convert_row::convert_row_by;
+use lines::convert;
 use lines::read;
 use lines::relabel_by;
 use lines::relabel_line;
@@ -24,11 +27,13 @@ use put_bytes::put_run;
 use read_line::read_by;
 use read_row::read_row_by;
 use respell_row::relabel_row_by;
+use rows::convert_row;
 use rows::read_row;
 use rows::relabel_row;
 use rows::write_row;
 use scan_line;
 use write_row::write_row_by;
+use write_table::convert_by;
 use write_table::write_by;
 
 // ---- lines and tables
@@ -48,6 +53,15 @@ pub extern "C" fn mzpaf_write(table: &[u8], out: &mut [u8], answer: &mut [u8]) -
     ensures { λ r. ⌜ Hands (Writes (now (table .entry)) (length (now (out .entry)))) (length (now (out .entry))) (length (now (answer .entry))) (handed r (now (out .exit)) (now (answer .exit))) ⌝ }
 {
     let a = write(table, out);
+    hand_over(a, out, answer)
+}
+
+// The table of edition 2 of the line that a stored table of edition 1 has. Document 02, M-112.
+#[no_mangle]
+pub extern "C" fn mzpaf_convert(table: &[u8], out: &mut [u8], answer: &mut [u8]) -> u16
+    ensures { λ r. ⌜ Hands (Converts (now (table .entry)) (length (now (out .entry)))) (length (now (out .entry))) (length (now (answer .entry))) (handed r (now (out .exit)) (now (answer .exit))) ⌝ }
+{
+    let a = convert(table, out);
     hand_over(a, out, answer)
 }
 
@@ -77,6 +91,15 @@ pub extern "C" fn mzpaf_write_row(stored: &[u8], out: &mut [u8], answer: &mut [u
     ensures { λ r. ⌜ Hands (WritesRow (now (stored .entry)) (length (now (out .entry)))) (length (now (out .entry))) (length (now (answer .entry))) (handed r (now (out .exit)) (now (answer .exit))) ⌝ }
 {
     let a = write_row(stored, out);
+    hand_over(a, out, answer)
+}
+
+// The stored row whose table is of edition 2, of a stored row whose table is of edition 1.
+#[no_mangle]
+pub extern "C" fn mzpaf_convert_row(stored: &[u8], out: &mut [u8], answer: &mut [u8]) -> u16
+    ensures { λ r. ⌜ Hands (ConvertsRow (now (stored .entry)) (length (now (out .entry)))) (length (now (out .entry))) (length (now (answer .entry))) (handed r (now (out .exit)) (now (answer .exit))) ⌝ }
+{
+    let a = convert_row(stored, out);
     hand_over(a, out, answer)
 }
 
@@ -132,6 +155,19 @@ pub extern "C" fn mzpaf_write_with(
 }
 
 #[no_mangle]
+pub extern "C" fn mzpaf_convert_with(
+    machine: &[u8],
+    table: &[u8],
+    out: &mut [u8],
+    answer: &mut [u8],
+) -> u16
+    ensures { λ r. ⌜ handed r (now (out .exit)) (now (answer .exit)) ≡ handedOf (length (now (out .entry))) (convertedOf (now (machine .entry)) (now (table .entry)) (length (now (out .entry)))) (length (now (answer .entry))) ⌝ }
+{
+    let a = convert_by(machine, table, out);
+    hand_over(a, out, answer)
+}
+
+#[no_mangle]
 pub extern "C" fn mzpaf_relabel_with(
     machine: &[u8],
     line: &[u8],
@@ -167,6 +203,19 @@ pub extern "C" fn mzpaf_write_row_with(
     ensures { λ r. ⌜ handed r (now (out .exit)) (now (answer .exit)) ≡ handedOf (length (now (out .entry))) (writeRowOf (now (machine .entry)) (now (stored .entry)) (length (now (out .entry)))) (length (now (answer .entry))) ⌝ }
 {
     let a = write_row_by(machine, stored, out);
+    hand_over(a, out, answer)
+}
+
+#[no_mangle]
+pub extern "C" fn mzpaf_convert_row_with(
+    machine: &[u8],
+    stored: &[u8],
+    out: &mut [u8],
+    answer: &mut [u8],
+) -> u16
+    ensures { λ r. ⌜ handed r (now (out .exit)) (now (answer .exit)) ≡ handedOf (length (now (out .entry))) (convertRowOf (now (machine .entry)) (now (stored .entry)) (length (now (out .entry)))) (length (now (answer .entry))) ⌝ }
+{
+    let a = convert_row_by(machine, stored, out);
     hand_over(a, out, answer)
 }
 

@@ -1,13 +1,15 @@
--- Digits of bytes, one after the other. Assumes nothing.
+-- Digits of bytes, one after the other, and answers by their number. Assumes nothing.
 use Prim.Native.Nat.{ℕ, _+_, _/_, _%_, _≤_, _<_}
-use mathlib.Core.Path.{_≡_, refl, ap, ap₂}
+use mathlib.Core.Path.{_≡_, refl, sym, ap, ap₂, _∙_}
+use mathlib.Core.Bool.{Bool, cond}
 use mathlib.Core.List.{List, [], _∷_, _++_}
 use native.Mathlib.Omega.{arith}
-use lib.ListN.{length, getD, drop, drop-of-length-le}
-use borrow.Author.Tests.{lt-ltb, le-ltb}
+use lib.ListN.{length, getD, take, drop, drop-of-length-le}
+use borrow.Author.Tests.{lt-ltb, le-ltb, eq-eqb, ne-eqb}
 use Rattle.lang.specs.Parts.{flat}
 use Rattle.put_bytes.proofs.PutLoop.{run-more}
-use Rattle.io_answers.specs.Tells.{hexDigit, hexByte, shown}
+use Rattle.answers.specs.declared.Answer.{Answer}
+use Rattle.io_answers.specs.Tells.{hexDigit, hexByte, shown, refusalText, toldBriefly}
 
 pub low : (d : ℕ) → d < 10 → 48 + d ≡ hexDigit d
 unfolding hexDigit
@@ -35,3 +37,13 @@ pub shown-some : (s : List ℕ) → 1 ≤ length s → flat hexByte s ≡ shown 
 unfolding shown
 shown-some [] h = absurd (omega arith)
 shown-some (b ∷ s) h = refl
+
+module _ (a : Answer) (table : List ℕ) where
+  abbrev briefBy : Bool → List ℕ
+  briefBy b = cond b (flat hexByte (take (a .len) table)) (refusalText a) ++ (10 ∷ [])
+
+  pub brief-refused : (a .number ≡ 0 → ⊥) → refusalText a ++ (10 ∷ []) ≡ toldBriefly a table
+  brief-refused h = ap briefBy (sym (ne-eqb (a .number) 0 h))
+
+  pub brief-digits : {p : List ℕ} → a .number ≡ 0 → p ≡ take (a .len) table → flat hexByte p ++ (10 ∷ []) ≡ toldBriefly a table
+  brief-digits h e = ap (λ (l : List ℕ). flat hexByte l ++ (10 ∷ [])) e ∙ ap briefBy (sym (eq-eqb (a .number) 0 h))

@@ -2,7 +2,7 @@
 use Prim.Native.Nat.{ℕ, _+_, _*_, _/_, _%_}
 use mathlib.Core.Bool.{cond}
 use mathlib.Core.List.{List, [], _∷_, _++_}
-use lib.Dec.{ltb}
+use lib.Dec.{eqb, ltb}
 use lib.ListN.{take}
 use Rattle.lang.specs.Parts.{flat}
 use Rattle.rules.specs.Numbers.{digits}
@@ -30,3 +30,11 @@ longestAnswer n = 64 + 2 * n
 
 abbrev pub told : Answer → List ℕ → List ℕ
 told a table = field (a .number) ++ (field (a .place) ++ (field (a .len) ++ (shown (take (a .len) table) ++ (10 ∷ []))))
+
+-- `!`, the number, a space and the place
+abbrev pub refusalText : Answer → List ℕ
+refusalText a = (33 ∷ []) ++ (field (a .number) ++ digits (a .place))
+
+-- the table in digits, or the refusal
+abbrev pub toldBriefly : Answer → List ℕ → List ℕ
+toldBriefly a table = cond (eqb (a .number) 0) (flat hexByte (take (a .len) table)) (refusalText a) ++ (10 ∷ [])

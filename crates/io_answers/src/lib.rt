@@ -1,11 +1,12 @@
-// What a line of the input asks, where it begins with the length of its output; and what is answered, as a line of text: its number, place and length, and the table in hexadecimal digits, `-` where there is none.
+// What a line of the input asks, where it begins with the length of its output; and what is answered, as a line of text: its number, place and length, and the table in hexadecimal digits, `-` where there is none; or
+// the digits alone, and for a refusal `!`, the number and the place.
 ghost use Prim.Native.Nat.{_/_, _%_};
 ghost use mathlib.Core.Path.{_≡_};
 ghost use mathlib.Core.Bool.{true};
 ghost use Rattle.lang.specs.Parts.{flat};
 ghost use Rattle.put_bytes.specs.Puts.{Put};
 ghost use Rattle.io_answers.specs.Asked.{behindSize, roomIn};
-ghost use Rattle.io_answers.specs.Tells.{hexDigit, hexByte, field, shown, told};
+ghost use Rattle.io_answers.specs.Tells.{hexDigit, hexByte, field, shown, told, refusalText, toldBriefly};
 use answers::Answer;
 use numbers::put_number;
 use numbers::read_number;
@@ -93,4 +94,25 @@ pub fn put_answer(out: &mut [u8], at: usize, a: Answer, table: &[u8]) -> usize
     let r = put_field(out, q, a.len as u64);
     let t = put_shown(out, r, first_of(table, a.len));
     put8(out, t, b'\n')
+}
+
+// `!`, the number of a refusal, a space and the place.
+pub fn put_refusal(out: &mut [u8], at: usize, a: Answer) -> usize
+    ensures { λ r. ⌜ Put (now (out .entry)) at (refusalText a) (now (out .exit)) r ⌝ }
+{
+    let p = put8(out, at, b'!');
+    let q = put_field(out, p, a.number as u64);
+    put_number(out, q, a.place as u64)
+}
+
+// The table that an answer speaks of, or its refusal; it ends with a line feed.
+pub fn put_briefly(out: &mut [u8], at: usize, a: Answer, table: &[u8]) -> usize
+    ensures { λ r. ⌜ Put (now (out .entry)) at (toldBriefly a (now (table .entry))) (now (out .exit)) r ⌝ }
+{
+    if a.number != 0 {
+        let p = put_refusal(out, at, a);
+        return put8(out, p, b'\n');
+    }
+    let q = put_hex(out, at, first_of(table, a.len));
+    put8(out, q, b'\n')
 }

@@ -9,20 +9,20 @@ use Rattle.rules.specs.Fields.{Table, Spells}
 use Rattle.rules.specs.Limits.{maxLine, maxAnnotations}
 use Rattle.rules.specs.Preferred.{preferred, preferredSpelling}
 use Rattle.rules.specs.Stored.{stored}
-use Rattle.rules.specs.Answers.{Answer, refuses, gives, Delivers, no-room, done, Sound, Holds, Takes, Reads, ReadsSpelling, ReadsForm, ReadsRules, ReadsSum, Writes, no-table, long, fits}
+use Rattle.rules.specs.Answers.{Answer, refuses, gives, Delivers, no-room, done, Sound, Holds, Reads, ReadsSpelling, ReadsForm, ReadsRules, ReadsSum, Writes, no-table, old, long, fits}
 use Rattle.rules.specs.Largest.{maxTable}
 use Rattle.rules.specs.Editions.{current}
 use Rattle.rules.proofs.Bounds.{each-length, table-few}
 use Rattle.rules.proofs.PreferredSpells.{said-in-order, preferred-says}
-use Rattle.rules.proofs.WritesOne.{takes-one, writes-one}
-use Rattle.rules.proofs.SoundEditions.{takes-current}
+use Rattle.rules.proofs.OneWriting.{taken}
+use Rattle.rules.proofs.WritesOne.{holds-one, two-editions, writes-one}
 use Rattle.shape.proofs.Unambiguous.{reads-one}
 use Rattle.write_table.proofs.Prefers.{preferred-kept, preferred-form, preferred-rules, preferred-sum}
 use Rattle.write_table.proofs.Longer.{preferred-longer}
 use Rattle.write_table.proofs.Holds.{take-given}
 use Rattle.lines.specs.Relabels.{Relabels, refused, relabelled}
 use Rattle.lines.proofs.Enough.{delivers-enough, read-enough}
-use Rattle.lines.proofs.Right.{reads-table, bytes-read}
+use Rattle.lines.proofs.Right.{reads-table, bytes-read, holds-read}
 
 -- ---- reading what was written
 
@@ -40,32 +40,24 @@ delivered-back t s l (no-room h) e room′ g = absurd (omega arith)
 delivered-back t s l {room} (done h) e room′ g =
     subst (λ (w : List ℕ). Reads w room′ (gives room′ (stored current t))) (sym (take-given room (preferred t))) (reads-preferred t s l room′ g)
 
--- what was written is the line of a table that the bytes are; reading it gives the current edition's table of the same fields
+-- what was written is the line of the table that the bytes are; reading it gives these very bytes
 pub record ReadsBack (bytes line : List ℕ) : Type 0 where
   pub table : Table
-  pub takes : Takes bytes table
+  pub holds : Holds current bytes table
   pub reads : (room′ : ℕ) → length (stored current table) ≤ room′ → Reads line room′ (gives room′ (stored current table))
 
 pub read-back : {bytes : List ℕ} {room : ℕ} {a : Answer} → Writes bytes room a → a .number ≡ 0 → ReadsBack bytes (take (a .size) (a .out))
 read-back (no-table n) e = absurd (omega arith)
+read-back (old t h o) e = absurd (omega arith)
 read-back (long t h l) e = absurd (omega arith)
-read-back (fits t h l d) e = record { table = t; takes = h; reads = λ room′ g. delivered-back t (h .also) l d e room′ g }
+read-back (fits t h l d) e = record { table = t; holds = h; reads = λ room′ g. delivered-back t (h .sound) l d e room′ g }
 
--- so from bytes of the current edition reading gives these very bytes, in some answer, and so in every one
-pub read-back-one : {bytes : List ℕ} {t : Table} {room room′ : ℕ} {a b : Answer} → Writes bytes room a → a .number ≡ 0 → Holds current bytes t → length bytes ≤ room′
+-- in some answer, and so in every one
+pub read-back-one : {bytes : List ℕ} {room room′ : ℕ} {a b : Answer} → Writes bytes room a → a .number ≡ 0 → length bytes ≤ room′
     → Reads (take (a .size) (a .out)) room′ b → b ≡ gives room′ bytes
-read-back-one {t = t} {room′ = room′} w e h g r =
+read-back-one {room′ = room′} w e g r =
     let x = read-back w e in
-    let y = takes-current t (h .sound) (h .is) in
-    let q : stored current (x .table) ≡ _ = ap (stored current) (takes-one (x .takes) y) ∙ h .is in
-    reads-one r (x .reads room′ (omega (arith, ap length q))) ∙ ap (gives room′) q
-
--- and from bytes of any edition the current edition's of the same fields
-pub read-back-any : {bytes : List ℕ} {t : Table} {room room′ : ℕ} {a b : Answer} → Writes bytes room a → a .number ≡ 0 → Takes bytes t → length (stored current t) ≤ room′
-    → Reads (take (a .size) (a .out)) room′ b → b ≡ gives room′ (stored current t)
-read-back-any {t = t} {room′ = room′} w e h g r =
-    let x = read-back w e in
-    let q : stored current (x .table) ≡ stored current t = ap (stored current) (takes-one (x .takes) h) in
+    let q = x .holds .is in
     reads-one r (x .reads room′ (omega (arith, ap length q))) ∙ ap (gives room′) q
 
 -- ---- writing what was read
@@ -76,10 +68,11 @@ pub data HandsOver (room : ℕ) (line : List ℕ) : Answer → Type 0 where
   within : length line ≤ maxLine → {b : Answer} → Delivers room line b → HandsOver room line b
 
 -- the bytes are this table's: every answer of writing hands over its preferred line
-hands-over : {bytes : List ℕ} (t : Table) → Takes bytes t → {room : ℕ} {b : Answer} → Writes bytes room b → HandsOver room (preferred t) b
-hands-over t h (no-table n) = absurd (n t h)
-hands-over t h {room} (long u g k) = subst (λ (x : Table). HandsOver room (preferred x) (refuses room 1 maxLine)) (takes-one g h) (past k)
-hands-over t h {room} {b} (fits u g k d) = subst (λ (x : Table). HandsOver room (preferred x) b) (takes-one g h) (within k d)
+pub hands-over : {bytes : List ℕ} (t : Table) → Holds current bytes t → {room : ℕ} {b : Answer} → Writes bytes room b → HandsOver room (preferred t) b
+hands-over t h (no-table n) = absurd (n t (taken h (h .sound)))
+hands-over t h (old u g o) = absurd (two-editions g h)
+hands-over t h {room} (long u g k) = subst (λ (x : Table). HandsOver room (preferred x) (refuses room 1 maxLine)) (holds-one current current g h) (past k)
+hands-over t h {room} {b} (fits u g k d) = subst (λ (x : Table). HandsOver room (preferred x) b) (holds-one current current g h) (within k d)
 
 -- what was read, and what it is written as
 pub record Written (line bytes : List ℕ) : Type 0 where
@@ -96,7 +89,7 @@ write-back line {room} {a} r e =
     let q = bytes-read line room x in
     let k : length (preferred t) ≤ length line + maxAnnotations =
     omega (arith, preferred-longer (x .says), ap length (x .text), each-length (x .says), table-few t (x .sound)) in
-    let h : Takes (take (a .size) (a .out)) t = takes-current t (x .sound) (sym q) in
+    let h = holds-read line room x in
     record { table = t; spells = record { spelling = x .spelling; text = x .text; says = x .says }; is = sym q; longer = k; writes = λ room b w. hands-over t h w }
 
 -- ---- both

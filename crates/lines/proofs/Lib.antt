@@ -1,6 +1,7 @@
 pub mod Relabelled
 pub mod Right
 pub mod Back
+pub mod Converted
 pub mod Small
 pub mod Enough
 pub mod One

@@ -2,7 +2,7 @@
 use mathlib.Core.Path.{_≡_}
 use mathlib.Core.List.{List}
 use Prim.Native.Nat.{ℕ}
-use Rattle.rules.specs.Answers.{Reads, Writes}
+use Rattle.rules.specs.Answers.{Reads, Writes, Converts}
 use Rattle.rules.proofs.WritesOne as rules
 use Rattle.shape.proofs.Unambiguous as shape
 use Rattle.answers.specs.declared.Answer.{Answer}
@@ -17,6 +17,9 @@ module _ {room : ℕ} {r q : Answer} {e f : List ℕ} where
 
   pub writes-one : (table : List ℕ) → Writes table room (answered r e) → Writes table room (answered q f) → (e ≡ f) × (r ≡ q)
   writes-one table a b = answered-one (rules.writes-one a b)
+
+  pub converts-one : (table : List ℕ) → Converts table room (answered r e) → Converts table room (answered q f) → (e ≡ f) × (r ≡ q)
+  converts-one table a b = answered-one (shape.converts-one a b)
 
   pub relabels-one : (line : List ℕ) → Relabels line room (answered r e) → Relabels line room (answered q f) → (e ≡ f) × (r ≡ q)
   relabels-one line a b = answered-one (back.relabels-one line a b)

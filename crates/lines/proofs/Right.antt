@@ -15,10 +15,9 @@ use Rattle.rules.specs.Fields.{Table, Says}
 use Rattle.rules.specs.Limits.{maxLine, lineMarks}
 use Rattle.rules.specs.Preferred.{preferred}
 use Rattle.rules.specs.Stored.{stored}
-use Rattle.rules.specs.Answers.{Answer, refuses, gives, Sound, Takes, Reads}
+use Rattle.rules.specs.Answers.{Answer, refuses, gives, Sound, Holds, Reads}
 use Rattle.rules.specs.Largest.{maxTable}
 use Rattle.rules.specs.Editions.{current}
-use Rattle.rules.proofs.SoundEditions.{takes-current}
 use Rattle.scan_line.specs.declared.Verdict.{Verdict}
 use Rattle.scan_line.specs.declared.Verdict.the-variants.{Fine, Short, Stray}
 use Rattle.scan_line.specs.Steps.{machineBytes, scannedBy}
@@ -63,14 +62,14 @@ reads-table line room (Reads.spelled h s q r) e =
 pub bytes-read : (line : List ℕ) (room : ℕ) {a : Answer} (x : Read line room a) → take (a .size) (a .out) ≡ stored current (x .table)
 bytes-read line room {a} x = ap (λ (y : Answer). take (y .size) (y .out)) (x .is) ∙ take-given room (stored current (x .table))
 
-holds-read : (line : List ℕ) (room : ℕ) {a : Answer} (x : Read line room a) → Takes (take (a .size) (a .out)) (x .table)
-holds-read line room x = takes-current (x .table) (x .sound) (sym (bytes-read line room x))
+pub holds-read : (line : List ℕ) (room : ℕ) {a : Answer} (x : Read line room a) → Holds current (take (a .size) (a .out)) (x .table)
+holds-read line room x = record { sound = x .sound; is = sym (bytes-read line room x) }
 
 -- what is spelled for it
-spelled-read : (line : List ℕ) (room : ℕ) {a : Answer} (x : Read line room a) → spellingOf line (totalsOf line) (partsAt line 0) ≡ preferred (x .table)
+spelled-read : (line : List ℕ) (room : ℕ) {a : Answer} (x : Read line room a) → spellingOf line (totalsOf current line) (partsAt line 0) ≡ preferred (x .table)
 spelled-read line room x =
     let s = x .spelling in
-    ap (λ (w : List ℕ). spellingOf w (totalsOf w) (partsAt w 0)) (sym (x .text))
+    ap (λ (w : List ℕ). spellingOf w (totalsOf current w) (partsAt w 0)) (sym (x .text))
     ∙ spelling-preferred s (x .table) (omega (arith, x .short, ap length (x .text))) (x .says) (x .limits)
 
 -- ---- the same refusals
@@ -78,14 +77,14 @@ spelled-read line room x =
 -- what reading answers, with the spelling in the place of the table
 abbrev answerBy : List ℕ → ℕ → Answer → Answer
 answerBy line room a =
-    cond (eqb (a .number) 0) (lineOver (spellingOf line (totalsOf line) (partsAt line 0)) room) (refuses room (a .number) (a .place))
+    cond (eqb (a .number) 0) (lineOver (spellingOf line (totalsOf current line) (partsAt line 0)) room) (refuses room (a .number) (a .place))
 
 module _ (line : List ℕ) (room : ℕ) where
   abbrev zeros : List ℕ
   zeros = replicate maxTable 0
 
   abbrev t : Totals
-  t = totalsOf line
+  t = totalsOf current line
 
   over-is : (spelledOver current zeros line .number ≡ 8 → ⊥) → relabelledOver line room ≡ answerBy line room (spelledOver current zeros line)
   unfolding relabelledOver spelledOver
@@ -120,12 +119,12 @@ module _ (line : List ℕ) (room : ℕ) where
 -- ---- by the rules
 
 relabel-from : (line : List ℕ) (room : ℕ) (a : Answer) → Reads line maxTable a → (b : Bool) → eqb (a .number) 0 ≡ b
-    → Relabels line room (cond b (lineOver (spellingOf line (totalsOf line) (partsAt line 0)) room) (refuses room (a .number) (a .place)))
+    → Relabels line room (cond b (lineOver (spellingOf line (totalsOf current line) (partsAt line 0)) room) (refuses room (a .number) (a .place)))
 relabel-from line room a r true e =
     let n = eqb-true (a .number) 0 e in
     let x = reads-table line maxTable r n in
     relabelled r n
-    (line-right (take (a .size) (a .out)) room (x .table) (holds-read line maxTable x) (spellingOf line (totalsOf line) (partsAt line 0)) (spelled-read line maxTable x))
+    (line-right (take (a .size) (a .out)) room (x .table) (holds-read line maxTable x) (spellingOf line (totalsOf current line) (partsAt line 0)) (spelled-read line maxTable x))
 relabel-from line room a r false e = refused r (eqb-false (a .number) 0 e)
 
 pub relabel-right : (v : Verdict) (line : List ℕ) (room : ℕ) → JudgedBy line v → Relabels line room (relabelledOf v line room)

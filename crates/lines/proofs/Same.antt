@@ -8,11 +8,9 @@ use Rattle.rules.specs.Lines.{lineText}
 use Rattle.rules.specs.Limits.{maxLine}
 use Rattle.rules.specs.Preferred.{preferred}
 use Rattle.rules.specs.Stored.{stored}
-use Rattle.rules.specs.Answers.{Answer, gives, no-room, done, Reads, Writes, no-table, long, fits}
+use Rattle.rules.specs.Answers.{Answer, gives, no-room, done, Reads, Writes, no-table, old, long, fits}
 use Rattle.rules.specs.Largest.{maxTable}
 use Rattle.rules.specs.Editions.{current}
-use Rattle.rules.proofs.WritesOne.{takes-one}
-use Rattle.rules.proofs.SoundEditions.{takes-current}
 use Rattle.write_table.proofs.Holds.{take-given}
 use Rattle.lines.specs.Relabels.{Relabels, refused, relabelled}
 use Rattle.lines.proofs.Small.{table-small}
@@ -23,6 +21,7 @@ use Rattle.lines.proofs.Back.{read-back, relabels-one}
 writes-again : {bytes : List ℕ} {room room′ : ℕ} {a : Answer} → Writes bytes room a → a .number ≡ 0 → a .size ≤ room′
     → Writes bytes room′ (gives room′ (take (a .size) (a .out)))
 writes-again (no-table n) e l = absurd (omega arith)
+writes-again (old t h o) e l = absurd (omega arith)
 writes-again (long t h g) e l = absurd (omega arith)
 writes-again (fits t h g (no-room d)) e l = absurd (omega arith)
 writes-again {bytes} {room} {room′} (fits t h g (done d)) e l =
@@ -40,10 +39,8 @@ pub given-again : {line : List ℕ} {room room′ : ℕ} {a : Answer} → Relabe
     → Relabels (take (a .size) (a .out)) room′ (gives room′ (take (a .size) (a .out)))
 given-again (refused r h) e l = absurd (h e)
 given-again {line} {room} {room′} {a} (relabelled {a = t} r n w) e l =
-    let x = reads-table line maxTable r n in
-    let q = bytes-read line maxTable x in
     let y = read-back w e in
-    let s : stored current (y .table) ≡ take (t .size) (t .out) = ap (stored current) (takes-one (y .takes) (takes-current (x .table) (x .sound) (sym q))) ∙ sym q in
+    let s : stored current (y .table) ≡ take (t .size) (t .out) = y .holds .is in
     let read = subst (λ (v : List ℕ). Reads (take (a .size) (a .out)) maxTable (gives maxTable v)) s (y .reads maxTable (omega (arith, ap length s, read-small line r n))) in
     let back = sym (take-given maxTable (take (t .size) (t .out))) in
     relabelled read refl (subst (λ (v : List ℕ). Writes v room′ (gives room′ (take (a .size) (a .out)))) back (writes-again w e l))

@@ -5,7 +5,7 @@ use mathlib.Core.List.{List}
 use native.Mathlib.Omega.{arith}
 use lib.ListN.{length, take}
 use Rattle.rules.specs.Limits.{maxLine}
-use Rattle.rules.specs.Answers.{Answer, refuses, Writes, no-table, long, fits}
+use Rattle.rules.specs.Answers.{Answer, refuses, Writes, no-table, old, long, fits}
 use Rattle.rules.proofs.StrayStays.{delivers-not-two, stray-answered}
 use Rattle.lines.specs.Relabels.{Relabels, refused, relabelled}
 use Rattle.lines.proofs.Back.{relabels-one}
@@ -13,6 +13,7 @@ use Rattle.lines.proofs.Back.{relabels-one}
 -- 2 is the reader's
 writes-not-two : {bytes : List ℕ} {room : ℕ} {a : Answer} → Writes bytes room a → a .number ≡ 2 → ⊥
 writes-not-two (no-table n) e = omega arith
+writes-not-two (old t h o) e = omega arith
 writes-not-two (long t h l) e = omega arith
 writes-not-two (fits t h l d) e = delivers-not-two d e
 

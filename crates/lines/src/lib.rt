@@ -1,7 +1,7 @@
-// Lines and tables: the reader, the writer, and the preferred spelling of a line. Document 01, "Numbers of refusal".
+// Lines and tables: the reader, the writer, the conversion of old tables, and the preferred spelling of a line. Document 01, "Numbers of refusal", and document 02, M-112.
 ghost use mathlib.Core.Path.{_≡_};
 ghost use lib.ListN.{length};
-ghost use Rattle.rules.specs.Answers.{Reads, Writes};
+ghost use Rattle.rules.specs.Answers.{Reads, Writes, Converts};
 ghost use Rattle.scan_line.specs.Steps.{scannedBy};
 ghost use Rattle.answers.specs.Delivered.{answered};
 ghost use Rattle.lines.specs.Relabels.{Relabels, relabelledOf};
@@ -14,6 +14,7 @@ use respell_line::relabel_spelled;
 use scan_line::Verdict;
 use scan_line::machine;
 use scan_line::scan_by;
+use write_table::convert_by;
 use write_table::write_by;
 
 // The table that a line spells, or why there is none.
@@ -30,6 +31,14 @@ pub fn write(table: &[u8], out: &mut [u8]) -> Answer
 {
     let made = machine();
     write_by(&made, table, out)
+}
+
+// The table of edition 2 of the line that a stored table of edition 1 has, or why there is none.
+pub fn convert(table: &[u8], out: &mut [u8]) -> Answer
+    ensures { λ r. ⌜ Converts (now (table .entry)) (length (now (out .entry))) (answered r (now (out .exit))) ⌝ }
+{
+    let made = machine();
+    convert_by(&made, table, out)
 }
 
 // The preferred spelling of a line, by a lent machine: whoever has many lines makes the machine once. It is spelled from the line itself;

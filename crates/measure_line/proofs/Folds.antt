@@ -11,7 +11,7 @@ use borrow.Author.Tests.{leb-true, leb-false, lt-leb}
 use Rattle.lang.specs.Parts.{Opt, silent, written}
 use Rattle.rules.specs.Annotations.{SpelledAnnotation, annotationText}
 use Rattle.rules.specs.Lines.{Spelling}
-use Rattle.rules.specs.Editions.{current}
+use Rattle.rules.specs.Editions.{Edition}
 use Rattle.rules.specs.House.{formed, annotationRules, share, one, firstFailing, firstForeign, firstBreach, firstExcess}
 use Rattle.numbers.specs.Shares.{largest}
 use Rattle.faults.specs.declared.Fault.{Fault}
@@ -28,11 +28,11 @@ abbrev pub foldFailing : (SpelledAnnotation → Bool) → ℕ → Fault → ℕ 
 foldFailing test number f at [] = f
 foldFailing test number f at (a ∷ more) = foldFailing test number (noted f number at (test a)) (behind at a) more
 
-abbrev pub foldForm : Fault → ℕ → Spelling → Fault
-foldForm f at s = foldFailing (λ a. formed current (a .ion)) 11 f at s
+abbrev pub foldForm : Edition → Fault → ℕ → Spelling → Fault
+foldForm e f at s = foldFailing (λ a. formed e (a .ion)) 11 f at s
 
-abbrev pub foldBreach : Fault → ℕ → Spelling → Fault
-foldBreach f at s = foldFailing (annotationRules current) 6 f at s
+abbrev pub foldBreach : Edition → Fault → ℕ → Spelling → Fault
+foldBreach e f at s = foldFailing (annotationRules e) 6 f at s
 
 -- a confidence as it is told
 abbrev pub shareIn : SpelledAnnotation → ℕ
@@ -86,11 +86,11 @@ failing-told test number h at (a ∷ more) = by (failing-told test number h (beh
         ap (λ (g : Fault). foldFailing test number g (behind at a) more) (note-broken number at)
         ∙ failing-known test number (fault number at) (behind at a) more h
 
-pub form-told : (at : ℕ) (s : Spelling) → foldForm (fault 0 0) at s ≡ told 11 (firstForeign current at s)
-form-told at s = failing-told (λ (a : SpelledAnnotation). formed current (a .ion)) 11 (λ e. omega arith) at s
+pub form-told : (e : Edition) (at : ℕ) (s : Spelling) → foldForm e (fault 0 0) at s ≡ told 11 (firstForeign e at s)
+form-told e at s = failing-told (λ (a : SpelledAnnotation). formed e (a .ion)) 11 (λ z. omega arith) at s
 
-pub breach-told : (at : ℕ) (s : Spelling) → foldBreach (fault 0 0) at s ≡ told 6 (firstBreach current at s)
-breach-told at s = failing-told (annotationRules current) 6 (λ e. omega arith) at s
+pub breach-told : (e : Edition) (at : ℕ) (s : Spelling) → foldBreach e (fault 0 0) at s ≡ told 6 (firstBreach e at s)
+breach-told e at s = failing-told (annotationRules e) 6 (λ z. omega arith) at s
 
 -- a sum that is not past 1 was told as it is
 sum-within : (sum c : ℕ) → sum + c ≤ one → summed sum (min c largest) ≡ sum + c

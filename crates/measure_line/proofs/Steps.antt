@@ -8,6 +8,7 @@ use lib.ListN.{length, drop, length-drop}
 use Rattle.lang.proofs.Tests.{not-t}
 use Rattle.rules.specs.Bytes.{bytes}
 use Rattle.rules.specs.Texts.{startsWith}
+use Rattle.rules.specs.Editions.{Edition}
 use Rattle.read_annotation.specs.declared.Parts.{Parts}
 use Rattle.measure_line.specs.declared.Totals.{Totals}
 use Rattle.measure_line.specs.Totals.{goesOn, addOf, addNext}
@@ -21,9 +22,9 @@ comma-some (b ∷ s) e = omega arith
 pub goes-inside : (line : List ℕ) (at : ℕ) → goesOn line at ≡ true → at < length line
 goes-inside line at e = let h = comma-some (drop at line) e in omega (arith, length-drop at line)
 
-pub add-falls : (line : List ℕ) (t : Totals) → goesOn line (t .at) ≡ true → length line - addNext line t .at < length line - t .at
+pub add-falls : (e : Edition) (line : List ℕ) (t : Totals) → goesOn line (t .at) ≡ true → length line - addNext e line t .at < length line - t .at
 unfolding addOf
-add-falls line t e = let h = goes-inside line (t .at) e in omega arith
+add-falls e line t g = let h = goes-inside line (t .at) g in omega arith
 
 pub done-falls : {X : Type 0} (give : List ℕ → Parts → List X) (line : List ℕ) (a : Done X) → goesOn line (a .at) ≡ true
     → length line - doneNext give line a .at < length line - a .at

@@ -14,6 +14,7 @@ use Rattle.rules.specs.Annotations.{SpelledAnnotation, annotationText}
 use Rattle.rules.specs.Lines.{Spelling, nextText, lineText}
 use Rattle.rules.specs.Fields.{filledAnnotation}
 use Rattle.rules.specs.Limits.{annotationMarks, nextMarks, rowMarks, lineMarks}
+use Rattle.rules.specs.Editions.{Edition}
 use Rattle.rules.specs.House.{one}
 use Rattle.rules.proofs.Confidences.{zeroLeftOut}
 use Rattle.rules.proofs.Keeps.{kept-left, kept-right}
@@ -50,17 +51,17 @@ anyFree [] = false
 anyFree (a ∷ s) = zeroLeftOut (a .confidence) || anyFree s
 
 -- faults, where the limits ms are those of the annotations s, the first of which begins at a place
-pub record Finds (ms : List Mark) (s : Spelling) (from : ℕ) (t u : Totals) : Type 0 where
+pub record Finds (edition : Edition) (ms : List Mark) (s : Spelling) (from : ℕ) (t u : Totals) : Type 0 where
   pub limit : u .limit ≡ after (t .limit) ms
-  pub form : Kept ms → u .form ≡ foldForm (t .form) from s
-  pub breach : Kept ms → u .breach ≡ foldBreach (t .breach) from s
+  pub form : Kept ms → u .form ≡ foldForm edition (t .form) from s
+  pub breach : Kept ms → u .breach ≡ foldBreach edition (t .breach) from s
   pub excess : Kept ms → u .excess ≡ foldExcess (t .excess) (t .sum) from s
 
 -- what is counted of a spelled line
-pub record TotalsRead (s : Spelling) (u : Totals) : Type 0 where
+pub record TotalsRead (edition : Edition) (s : Spelling) (u : Totals) : Type 0 where
   pub counts : u .counts ≡ plus noCounts (spelledCounts s)
   pub free : u .free ≡ anyFree s
-  pub finds : Finds (lineMarks s) s 0 nothing u
+  pub finds : Finds edition (lineMarks s) s 0 nothing u
 
 or-none : (b : Bool) → (b || false) ≡ b
 or-none true = refl
@@ -82,10 +83,10 @@ rest-ends (a ∷ more) = at-comma (annotationText a ++ flat nextText more)
 
 -- ---- one annotation
 
-module _ (line : List ℕ) (small : length line ≤ maxPlace) where
+module _ (edition : Edition) (line : List ℕ) (small : length line ≤ maxPlace) where
   -- the annotation that begins at `from`, of which m was measured
   module _ (a : SpelledAnnotation) (t : Totals) (from : ℕ) (m : Measured) (g : from + length (annotationText a) ≤ length line)
-      (h : Measures (t .counts .annotations) a from (t .limit) m) where
+      (h : Measures edition (t .counts .annotations) a from (t .limit) m) where
     one-counts : addedWith line t from m .counts ≡ plus (t .counts) (countsIn a)
     one-counts = ap (plus (t .counts)) (h .counts) ∙ plus-capped (t .counts) (countsIn a)
 
@@ -101,7 +102,7 @@ module _ (line : List ℕ) (small : length line ≤ maxPlace) where
     one-sum : Kept (annotationMarks (t .counts .annotations) a from) → addedWith line t from m .sum ≡ summed (t .sum) (shareIn a)
     one-sum k = ap (summed (t .sum)) (h .share k)
 
-    one-finds : Finds (annotationMarks (t .counts .annotations) a from) (a ∷ []) from t (addedWith line t from m)
+    one-finds : Finds edition (annotationMarks (t .counts .annotations) a from) (a ∷ []) from t (addedWith line t from m)
     one-finds =
         record {
           limit = h .fault;
@@ -115,8 +116,8 @@ module _ (line : List ℕ) (small : length line ≤ maxPlace) where
 
   record AddedRead (a : SpelledAnnotation) (t : Totals) (from : ℕ) : Type 0 where
     m : Measured
-    is : addOf line t from ≡ addedWith line t from m
-    measures : Measures (t .counts .annotations) a from (t .limit) m
+    is : addOf edition line t from ≡ addedWith line t from m
+    measures : Measures edition (t .counts .annotations) a from (t .limit) m
     inside : from + length (annotationText a) ≤ length line
 
   added-read : (a : SpelledAnnotation) (k : List ℕ) (t : Totals) (from : ℕ) → from ≤ length line → drop from line ≡ annotationText a ++ k → EndsAnnotation k
@@ -125,12 +126,12 @@ module _ (line : List ℕ) (small : length line ≤ maxPlace) where
   added-read a k t from h e ends =
       let l : length (annotationText a ++ k) ≡ length line - from = sym (ap length e) ∙ length-drop from line in
       let p : length line - length (annotationText a ++ k) ≡ from = omega arith in
-      let m = measureOf (t .counts .annotations) (length line) (annotationText a ++ k) (t .limit) in
-      let r = measure-read a k (t .counts .annotations) (length line) (t .limit) ends (omega arith) in
+      let m = measureOf edition (t .counts .annotations) (length line) (annotationText a ++ k) (t .limit) in
+      let r = measure-read edition a k (t .counts .annotations) (length line) (t .limit) ends (omega arith) in
       record {
         m = m;
-        is = ap (λ (z : List ℕ). addedWith line t from (measureOf (t .counts .annotations) (length line) z (t .limit))) e;
-        measures = subst (λ (z : ℕ). Measures (t .counts .annotations) a z (t .limit) m) p r;
+        is = ap (λ (z : List ℕ). addedWith line t from (measureOf edition (t .counts .annotations) (length line) z (t .limit))) e;
+        measures = subst (λ (z : ℕ). Measures edition (t .counts .annotations) a z (t .limit) m) p r;
         inside = omega (arith, length-append (annotationText a) k);
       }
 
@@ -140,11 +141,11 @@ module _ (line : List ℕ) (small : length line ≤ maxPlace) where
   record Through (more : Spelling) (t u : Totals) : Type 0 where
     counts : u .counts ≡ plus (t .counts) (spelledCounts more)
     free : u .free ≡ (t .free || anyFree more)
-    finds : Finds (rowMarks nextText nextMarks (t .counts .annotations) more (t .at)) more (t .at + 1) t u
+    finds : Finds edition (rowMarks nextText nextMarks (t .counts .annotations) more (t .at)) more (t .at + 1) t u
 
   -- the first of them begins at `from`
   module _ (a : SpelledAnnotation) (more : Spelling) (t : Totals) (from : ℕ) (m : Measured) (room : t .counts .annotations + 1 ≤ maxPlace)
-      (g : from + length (annotationText a) ≤ length line) (h : Measures (t .counts .annotations) a from (t .limit) m) where
+      (g : from + length (annotationText a) ≤ length line) (h : Measures edition (t .counts .annotations) a from (t .limit) m) where
     abbrev next : Totals
     next = addedWith line t from m
 
@@ -160,16 +161,16 @@ module _ (line : List ℕ) (small : length line ≤ maxPlace) where
     begins-are : next .at + 1 ≡ behind from a
     begins-are = ap (λ (n : ℕ). n + 1) (one-at a t from m g h)
 
-    finds-more : {u : Totals} → Through more next u → Finds (marks ++ others) (a ∷ more) from t u
+    finds-more : {u : Totals} → Through more next u → Finds edition (marks ++ others) (a ∷ more) from t u
     finds-more {u} r =
         let o = one-finds a t from m g h in
-        let f = subst (λ (ns : List Mark). Finds ns more (next .at + 1) next u) others-are (r .finds) in
+        let f = subst (λ (ns : List Mark). Finds edition ns more (next .at + 1) next u) others-are (r .finds) in
         record {
           limit = f .limit ∙ ap (λ (e : Fault). after e others) (o .limit) ∙ sym (after-append (t .limit) marks others);
           form = λ k.
-              f .form (kept-right marks others k) ∙ ap₂ (λ (e : Fault) (n : ℕ). foldForm e n more) (o .form (kept-left marks others k)) begins-are;
+              f .form (kept-right marks others k) ∙ ap₂ (λ (e : Fault) (n : ℕ). foldForm edition e n more) (o .form (kept-left marks others k)) begins-are;
           breach = λ k.
-              f .breach (kept-right marks others k) ∙ ap₂ (λ (e : Fault) (n : ℕ). foldBreach e n more) (o .breach (kept-left marks others k)) begins-are;
+              f .breach (kept-right marks others k) ∙ ap₂ (λ (e : Fault) (n : ℕ). foldBreach edition e n more) (o .breach (kept-left marks others k)) begins-are;
           excess = λ k.
               let l = kept-left marks others k in
               f .excess (kept-right marks others k)
@@ -189,9 +190,9 @@ module _ (line : List ℕ) (small : length line ≤ maxPlace) where
 
   -- t is a sum already
   through : (more : Spelling) (n : ℕ) (t : Totals) → t .counts ≡ plus (t .counts) noCounts → length line - t .at ≤ n → t .at ≤ length line → drop (t .at) line ≡ flat nextText more
-      → t .counts .annotations + length (flat nextText more) ≤ maxPlace → Through more t (totalsFrom line n t)
+      → t .counts .annotations + length (flat nextText more) ≤ maxPlace → Through more t (totalsFrom edition line n t)
   through [] n t s l i e r =
-      let q = loop-ends (λ (t : Totals). goesOn line (t .at)) (addNext line) n t (rw e) in
+      let q = loop-ends (λ (t : Totals). goesOn line (t .at)) (addNext edition line) n t (rw e) in
       subst (λ (u : Totals). Through [] t u) (sym q) (record { counts = s; free = sym (or-none (t .free)); finds = record { limit = refl; form = λ k. refl; breach = λ k. refl; excess = λ k. refl } })
   through (a ∷ more) n t s l i e r =
       let w = annotationText a ++ flat nextText more in
@@ -203,19 +204,19 @@ module _ (line : List ℕ) (small : length line ≤ maxPlace) where
       let m = x .m in
       let u = addedWith line t (t .at + 1) m in
       let o = one-at a t (t .at + 1) m (x .inside) (x .measures) in
-      let on = loop-on (λ (t : Totals). goesOn line (t .at)) (addNext line) (λ (t : Totals). length line - t .at) (add-falls line) n t l (rw e) in
-      let is : addNext line t ≡ u = ap (addOf line t) b ∙ x .is in
+      let on = loop-on (λ (t : Totals). goesOn line (t .at)) (addNext edition line) (λ (t : Totals). length line - t .at) (add-falls edition line) n t l (rw e) in
+      let is : addNext edition line t ≡ u = ap (addOf edition line t) b ∙ x .is in
       let p : drop (u .at) line ≡ flat nextText more =
       ap (λ (n : ℕ). drop n line) o ∙ sym (drop-drop (length (annotationText a)) (t .at + 1) line) ∙ ap (drop (length (annotationText a))) f
       ∙ drop-append-seam (annotationText a) (flat nextText more) in
       let b₁ = one-annotation a t (t .at + 1) m (x .inside) (x .measures) in
       let y = through more n u (sym (plus-none (t .counts) (m .counts))) (omega arith) (omega arith) p (omega arith) in
-      subst (λ (v : Totals). Through (a ∷ more) t v) (sym (on ∙ ap (totalsFrom line n) is))
+      subst (λ (v : Totals). Through (a ∷ more) t v) (sym (on ∙ ap (totalsFrom edition line n) is))
       (record {
         counts = counted-more a more t (t .at + 1) m (omega arith) (x .inside) (x .measures) y;
         free = free-more a more t (t .at + 1) m (omega arith) (x .inside) (x .measures) y;
         finds =
-            subst (λ (at : ℕ). Finds (nextMarks (t .counts .annotations) a (t .at) ++ rowMarks nextText nextMarks (t .counts .annotations + 1) more at) (a ∷ more) (t .at + 1) t (totalsFrom line n u))
+            subst (λ (at : ℕ). Finds edition (nextMarks (t .counts .annotations) a (t .at) ++ rowMarks nextText nextMarks (t .counts .annotations + 1) more at) (a ∷ more) (t .at + 1) t (totalsFrom edition line n u))
             (omega arith) (finds-more a more t (t .at + 1) m (omega arith) (x .inside) (x .measures) y);
       })
 
@@ -223,7 +224,7 @@ module _ (line : List ℕ) (small : length line ≤ maxPlace) where
 
   -- an empty line has no annotations; of another, the first begins at 0
   first-through : (a : SpelledAnnotation) (more : Spelling) → line ≡ lineText (a ∷ more)
-      → TotalsRead (a ∷ more) (totalsFrom line (length line) (addOf line nothing 0))
+      → TotalsRead edition (a ∷ more) (totalsFrom edition line (length line) (addOf edition line nothing 0))
   first-through a more e =
       let c : length line ≡ length (annotationText a) + length (flat nextText more) = ap length e ∙ length-append (annotationText a) (flat nextText more) in
       let b = annotation-some a in
@@ -236,25 +237,25 @@ module _ (line : List ℕ) (small : length line ≤ maxPlace) where
       ap (λ (n : ℕ). drop n line) o ∙ ap (drop (length (annotationText a))) e ∙ drop-append-seam (annotationText a) (flat nextText more) in
       let b₁ = one-annotation a nothing 0 m (x .inside) (x .measures) in
       let y = through more (length line) u (sym (plus-none noCounts (m .counts))) (omega arith) (omega arith) p (omega arith) in
-      subst (TotalsRead (a ∷ more)) (sym (ap (totalsFrom line (length line)) (x .is)))
+      subst (TotalsRead edition (a ∷ more)) (sym (ap (totalsFrom edition line (length line)) (x .is)))
       (record {
         counts = counted-more a more nothing 0 m (omega arith) (x .inside) (x .measures) y;
         free = free-more a more nothing 0 m (omega arith) (x .inside) (x .measures) y;
         finds =
-            subst (λ (at : ℕ). Finds (annotationMarks 0 a 0 ++ rowMarks nextText nextMarks 1 more at) (a ∷ more) 0 nothing (totalsFrom line (length line) u))
+            subst (λ (at : ℕ). Finds edition (annotationMarks 0 a 0 ++ rowMarks nextText nextMarks 1 more at) (a ∷ more) 0 nothing (totalsFrom edition line (length line) u))
             z (finds-more a more nothing 0 m (omega arith) (x .inside) (x .measures) y);
       })
 
 -- ---- for callers
 
-pub totals-read : (s : Spelling) → length (lineText s) ≤ maxPlace → TotalsRead s (totalsOf (lineText s))
+pub totals-read : (edition : Edition) (s : Spelling) → length (lineText s) ≤ maxPlace → TotalsRead edition s (totalsOf edition (lineText s))
 unfolding totalsBy addOf
-totals-read [] h =
+totals-read edition [] h =
     record { counts = refl; free = refl; finds = record { limit = refl; form = λ k. refl; breach = λ k. refl; excess = λ k. refl } }
-totals-read (a ∷ more) h =
+totals-read edition (a ∷ more) h =
     let line = lineText (a ∷ more) in
     let b = annotation-some a in
     let l = length-append (annotationText a) (flat nextText more) in
     let n : (length line ≡ 0 → ⊥) = λ e. omega arith in
-    let x = first-through line h a more refl in
+    let x = first-through edition line h a more refl in
     rw (ne-eqb (length line) 0 n) x

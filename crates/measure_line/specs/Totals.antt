@@ -6,6 +6,7 @@ use lib.Dec.{eqb, leb}
 use lib.ListN.{length, drop}
 use Rattle.rules.specs.Bytes.{bytes}
 use Rattle.rules.specs.Texts.{startsWith}
+use Rattle.rules.specs.Editions.{Edition}
 use Rattle.rules.specs.House.{one}
 use Rattle.numbers.specs.Shares.{largest}
 use Rattle.counts.specs.Sums.{noCounts, plus}
@@ -55,11 +56,11 @@ addedWith line t from m =
     }
 
 -- the annotation that begins at `from`, of which p was read
-abbrev pub addedBy : List ℕ → Totals → ℕ → Parts → Totals
-addedBy line t from p = addedWith line t from (measuredOf (drop from line) p)
+abbrev pub addedBy : Edition → List ℕ → Totals → ℕ → Parts → Totals
+addedBy e line t from p = addedWith line t from (measuredOf e (drop from line) p)
 
-unfoldable pub addOf : List ℕ → Totals → ℕ → Totals
-addOf line t from = addedBy line t from (partsOf (t .counts .annotations) (length line) (drop from line) (t .limit))
+unfoldable pub addOf : Edition → List ℕ → Totals → ℕ → Totals
+addOf e line t from = addedBy e line t from (partsOf (t .counts .annotations) (length line) (drop from line) (t .limit))
 
 -- a comma: one annotation more, behind it
 abbrev pub goesOn : List ℕ → ℕ → Bool
@@ -68,19 +69,19 @@ goesOn line at = startsWith (bytes ",") (drop at line)
 abbrev pub behindComma : List ℕ → ℕ → ℕ
 behindComma line at = min (at + 1) (length line)
 
-abbrev pub addNext : List ℕ → Totals → Totals
-addNext line t = addOf line t (behindComma line (t .at))
+abbrev pub addNext : Edition → List ℕ → Totals → Totals
+addNext e line t = addOf e line t (behindComma line (t .at))
 
-abbrev pub totalsFrom : List ℕ → ℕ → Totals → Totals
-totalsFrom line n t = loop (λ t. goesOn line (t .at)) (addNext line) n t
+abbrev pub totalsFrom : Edition → List ℕ → ℕ → Totals → Totals
+totalsFrom e line n t = loop (λ t. goesOn line (t .at)) (addNext e line) n t
 
 -- the annotation that begins at `from`, read as the first of its line
 abbrev pub partsAt : List ℕ → ℕ → Parts
 partsAt line from = partsOf 0 (length line) (drop from line) (fault 0 0)
 
 -- of the first annotation, p was read; the empty line has no annotations
-unfoldable pub totalsBy : List ℕ → Parts → Totals
-totalsBy line p = cond (eqb (length line) 0) nothing (totalsFrom line (length line) (addedBy line nothing 0 p))
+unfoldable pub totalsBy : Edition → List ℕ → Parts → Totals
+totalsBy e line p = cond (eqb (length line) 0) nothing (totalsFrom e line (length line) (addedBy e line nothing 0 p))
 
-abbrev pub totalsOf : List ℕ → Totals
-totalsOf line = totalsBy line (partsAt line 0)
+abbrev pub totalsOf : Edition → List ℕ → Totals
+totalsOf e line = totalsBy e line (partsAt line 0)

@@ -2,11 +2,13 @@
 // Document 01, "Numbers of refusal", and document 02, M-105: 4 and 5, the lowest place winning; then 11; 6; 7.
 ghost use mathlib.Core.Path.{_≡_};
 ghost use mathlib.Core.Bool.{_||_};
+ghost use Rattle.layout.specs.Editions.{editionOf};
 ghost use Rattle.measure_line.specs.Totals.{nothing, noted, summed, partsAt, addedBy, addNext, totalsBy};
 ghost use Rattle.measure_line.specs.Refusals.{firstOf};
 use counts::Counts;
 use counts::plus;
 use faults::Fault;
+use layout::Edition;
 use limits::ONE;
 use read_annotation::Parts;
 use read_annotation::measure;
@@ -17,7 +19,7 @@ use slices::minus_or_zero;
 use slices::rest;
 
 // What was counted of the annotations up to `at`: how many of each kind, whether one has a free spelling that no count tells of, the sum of
-// confidences in billionths, the first broken limit, the first annotation whose sequence is outside the plain form, the first that breaks
+// confidences in billionths, the first broken limit, the first annotation whose sequence is outside the form that the edition asks for, the first that breaks
 // a rule, the first that takes the sum past 1.
 pub struct Totals {
     pub counts: Counts,
@@ -94,8 +96,8 @@ pub fn read_at(line: &[u8], from: usize) -> Parts
 }
 
 // One annotation more, which begins at a place and was read.
-fn add(t: Totals, line: &[u8], from: usize, p: Parts) -> Totals
-    ensures { λ r. ⌜ r ≡ addedBy (now (line .entry)) t from p ⌝ }
+fn add(edition: Edition, t: Totals, line: &[u8], from: usize, p: Parts) -> Totals
+    ensures { λ r. ⌜ r ≡ addedBy (editionOf edition) (now (line .entry)) t from p ⌝ }
 {
     let s = rest(line, from);
     let place = minus_or_zero(line.len(), s.len());
@@ -103,7 +105,7 @@ fn add(t: Totals, line: &[u8], from: usize, p: Parts) -> Totals
     let form = t.form;
     let breach = t.breach;
     let excess = t.excess;
-    let m = measure(s, p);
+    let m = measure(edition, s, p);
     let own = m.counts;
     let fault = m.fault;
     let sum = sum_of(t.sum, m.share);
@@ -120,25 +122,25 @@ fn add(t: Totals, line: &[u8], from: usize, p: Parts) -> Totals
 }
 
 // One annotation more, which begins behind a comma.
-fn add_next(t: Totals, line: &[u8]) -> Totals
-    ensures { λ r. ⌜ r ≡ addNext (now (line .entry)) t ⌝ }
+fn add_next(edition: Edition, t: Totals, line: &[u8]) -> Totals
+    ensures { λ r. ⌜ r ≡ addNext (editionOf edition) (now (line .entry)) t ⌝ }
 {
     let so_far = t.counts;
     let limit = t.limit;
     let from = advance(t.at, 1, line.len());
     let p = read_parts(so_far.annotations, rest(line, from), line.len(), limit);
-    add(t, line, from, p)
+    add(edition, t, line, from, p)
 }
 
 // The first annotation, which was read: there is nothing before it, so that no sum is needed.
-fn add_first(line: &[u8], p: Parts) -> Totals
-    ensures { λ r. ⌜ r ≡ addedBy (now (line .entry)) nothing 0 p ⌝ }
+fn add_first(edition: Edition, line: &[u8], p: Parts) -> Totals
+    ensures { λ r. ⌜ r ≡ addedBy (editionOf edition) (now (line .entry)) nothing 0 p ⌝ }
 {
     let none = Fault {
         number: 0,
         place: 0,
     };
-    let m = measure(line, p);
+    let m = measure(edition, line, p);
     let own = m.counts;
     let fault = m.fault;
     Totals {
@@ -153,17 +155,17 @@ fn add_first(line: &[u8], p: Parts) -> Totals
     }
 }
 
-// All annotations of a line, of which the first was read.
-pub fn total(line: &[u8], first: Parts) -> Totals
-    ensures { λ r. ⌜ r ≡ totalsBy (now (line .entry)) first ⌝ }
+// All annotations of a line, of which the first was read, by the rules of an edition.
+pub fn total(edition: Edition, line: &[u8], first: Parts) -> Totals
+    ensures { λ r. ⌜ r ≡ totalsBy (editionOf edition) (now (line .entry)) first ⌝ }
 {
     let none = before_all();
     if line.len() < 1 {
         return none;
     }
-    let mut t = add_first(line, first);
+    let mut t = add_first(edition, line, first);
     while begins_with(rest(line, t.at), b',') {
-        let more = add_next(t, line);
+        let more = add_next(edition, t, line);
         t = more;
     }
     t

@@ -60,7 +60,7 @@ confidence-short silent h = omega arith
 confidence-short (written d) h = let v = h .value in omega (arith, decimal-short d (h .places) (omega arith))
 
 -- 1 + 6 + 269 + 2104 + 56 + 699 + 6 + 27 + 23 is 3191
-pub annotation-short : (a : TableAnnotation) → InRange a → Bounded a → length (annotationText (shortenedAnnotation a)) ≤ 4095
+pub annotation-short : (a : TableAnnotation) → InRange a → Bounded a → length (annotationText (shortenedAnnotation a)) ≤ 3191
 annotation-short a r b =
     let s = shortenedAnnotation a in
     let confidence = optText confidenceText (s .confidence) in
@@ -94,9 +94,12 @@ annotation-short a r b =
 
 -- ---- a line
 
--- at most 16 annotations, each with a comma
-joined-short : (t : Table) → length t ≤ maxAnnotations → ((a : TableAnnotation) → In a t → length (annotationText (shortenedAnnotation a)) ≤ 4095)
-    → length (preferred t) ≤ 65536
+-- at most 16 annotations, and a comma before each but the first
+abbrev pub longestLine : ℕ
+longestLine = 51071
+
+joined-short : (t : Table) → length t ≤ maxAnnotations → ((a : TableAnnotation) → In a t → length (annotationText (shortenedAnnotation a)) ≤ 3191)
+    → length (preferred t) ≤ longestLine
 joined-short [] few h = omega arith
 joined-short (a ∷ t) few h =
     let next = flat nextText (map shortenedAnnotation t) in
@@ -104,8 +107,8 @@ joined-short (a ∷ t) few h =
       arith,
       length-append (annotationText (shortenedAnnotation a)) next,
       h a here,
-      row-short nextText shortenedAnnotation 4096 t (λ b i. omega (arith, h b (later i))),
+      row-short nextText shortenedAnnotation 3192 t (λ b i. omega (arith, h b (later i))),
     )
 
-pub line-short : {e : Edition} (t : Table) → Sound e t → length (preferred t) ≤ 65536
+pub line-short : {e : Edition} (t : Table) → Sound e t → length (preferred t) ≤ longestLine
 line-short t s = joined-short t (table-few t s) (λ a i. annotation-short a (table-in-range t s a i) (table-bounded t s a i))

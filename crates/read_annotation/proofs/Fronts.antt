@@ -12,7 +12,7 @@ use Rattle.rules.specs.Formulas.{Written}
 use Rattle.rules.specs.Ions.{Ion, ionText}
 use Rattle.rules.specs.Annotations.{flagText, analyteText}
 use Rattle.rules.specs.Limits.{optPart, analytePart, ionParts}
-use Rattle.rules.specs.Editions.{current}
+use Rattle.rules.specs.Editions.{ed2}
 use Rattle.rules.specs.House.{formed}
 use Rattle.rules.specs.Stored.{flag, present, valueOr0, residueCount}
 use Rattle.faults.specs.declared.Fault.{Fault}
@@ -57,7 +57,7 @@ module _ (m : Bool) (n : Opt ℕ) (x : Ion Written) (k : List ℕ) where
           analyte = valueOr0 capped n;
           at = prefixLength m n;
           ion = r;
-          formed = formed current x;
+          formed = formed ed2 x;
           residues = residueCount x;
           len = prefixLength m n + length (ionText x);
         }

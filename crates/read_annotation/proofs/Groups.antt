@@ -8,6 +8,7 @@ use lib.ListN.{length, drop}
 use Rattle.lang.proofs.Tests.{not-t}
 use Rattle.rules.specs.Bytes.{bytes}
 use Rattle.rules.specs.Texts.{startsWith}
+use Rattle.rules.specs.Editions.{Edition}
 use Rattle.rules.specs.Limits.{maxLosses, maxAnnotations, manyMark}
 use Rattle.counts.specs.declared.Counts.{Counts}
 use Rattle.counts.specs.Sums.{sum, plus}
@@ -32,7 +33,7 @@ use Rattle.read_annotation.specs.declared.Parts.{Parts}
 use Rattle.read_annotation.specs.Parts.{prefixOf, adductOf}
 use Rattle.read_annotation.specs.Sequences.{sequenceOfIon}
 use Rattle.read_annotation.specs.Groups.{frontOf, middleOf, tailOf}
-use Rattle.read_annotation.specs.House.{rulesOf, shareOf}
+use Rattle.read_annotation.specs.House.{ifAsked, rulesOf, shareOf}
 use Rattle.read_annotation.specs.Measured.{ownCounts, partsOf, measuredOf}
 
 -- ---- `[M`
@@ -84,10 +85,11 @@ module _ (end : ℕ) (s : List ℕ) (f : Fault) {t u : List ℕ} where
 
 -- ---- what was read, measured
 
-pub measure-is : (s : List ℕ) (p : Parts) {t u v : List ℕ} {o n : Counts} {share q : ℕ} {kept : Bool} → share ≡ shareOf (p .tail .confidence)
+pub measure-is : (e : Edition) (s : List ℕ) (p : Parts) {t u v : List ℕ} {o n : Counts} {share q : ℕ} {formed kept : Bool} → share ≡ shareOf (p .tail .confidence)
     → t ≡ drop (p .front .len) s → u ≡ drop (p .middle .len) t → o ≡ ownCounts (p .front .ion) → n ≡ plus o (p .middle .counts)
-    → kept ≡ rulesOf (p .front .ion) (p .front .residues) (p .middle .counts .items) (p .tail .deviation) share → v ≡ drop (p .tail .len) u → q ≡ length s - length v
-    → record { counts = n; free = p .tail .confidence .bare; share = share; formed = p .front .formed; kept = kept; len = q; fault = p .tail .confidence .fault }
-    ≡ measuredOf s p
+    → formed ≡ ifAsked e (p .front .formed)
+    → kept ≡ rulesOf e (p .front .ion) (p .front .residues) (p .middle .counts .items) (p .tail .deviation) share → v ≡ drop (p .tail .len) u → q ≡ length s - length v
+    → record { counts = n; free = p .tail .confidence .bare; share = share; formed = formed; kept = kept; len = q; fault = p .tail .confidence .fault }
+    ≡ measuredOf e s p
 unfolding measuredOf
-measure-is s p ps pt pu po pn pk pv pq = rw (pn, po, ← ps, ← pt, ← pu, ← pk, ← pv, ← pq)
+measure-is e s p ps pt pu po pn pf pk pv pq = rw (pn, po, pf, ← ps, ← pt, ← pu, ← pk, ← pv, ← pq)

@@ -13,7 +13,7 @@ use Rattle.lang.specs.Mark.{Kept, here, later, marksOf}
 use Rattle.rules.specs.Texts.{Text, isText}
 use Rattle.rules.specs.Formulas.{Written}
 use Rattle.rules.specs.Sequences.{residues}
-use Rattle.rules.specs.Editions.{current}
+use Rattle.rules.specs.Editions.{ed2}
 use Rattle.rules.specs.Ions.{Ion, series, internal, immonium, precursor, reference, named, composed, smiles, unknown, ionText}
 use Rattle.rules.specs.House.{formed, longEnough}
 use Rattle.rules.specs.Limits.{maxPosition, numberPart, ionParts}
@@ -50,7 +50,7 @@ text-some t = by (t .bytes) (t .good)
 
 -- a sequence as it is read
 abbrev pub sequenceRead : Ion Written → SequenceRead
-sequenceRead x = record { formed = formed current x; residues = residueCount x }
+sequenceRead x = record { formed = formed ed2 x; residues = residueCount x }
 
 pub sequence-read : (x : Ion Written) (k : List ℕ) (g : Fault) → sequenceRead x ≡ sequenceOfIon (ionText x ++ k) (ionRead x g)
 unfolding hasSequence
@@ -69,7 +69,7 @@ sequence-read (smiles t) k g = sequence-none (ionText (smiles t) ++ k) (ionRead 
 sequence-read (unknown n) k g = sequence-none (ionText (unknown n) ++ k) (ionRead (unknown n) g) refl
 
 -- within the limits positions are read as they are, so that the rule is that of the rules
-pub sequence-rule : (x : Ion Written) (g : Fault) (at : ℕ) → Kept (marksOf at (ionParts x)) → longEnoughOf (ionRead x g) (residueCount x) ≡ longEnough current x
+pub sequence-rule : (x : Ion Written) (g : Fault) (at : ℕ) → Kept (marksOf at (ionParts x)) → longEnoughOf (ionRead x g) (residueCount x) ≡ longEnough ed2 x
 unfolding longEnoughOf hasSequence coveredOf
 sequence-rule (series s n silent) g at k = refl
 sequence-rule (series s n (written t)) g at k =

@@ -9,15 +9,16 @@ use lib.ListN.{length, length-append, length-map}
 use Rattle.lang.specs.Parts.{optText, flat}
 use Rattle.lang.specs.Mark.{Kept, here, later, marksOf}
 use Rattle.rules.specs.Bytes.{bytes}
-use Rattle.rules.specs.Ions.{ionText, ionMap}
+use Rattle.rules.specs.Formulas.{Written}
+use Rattle.rules.specs.Ions.{Ion, ionText, ionMap}
 use Rattle.rules.specs.Losses.{lossText, lossMap}
 use Rattle.rules.specs.Isotopes.{isotopesText, isotopesMap}
 use Rattle.rules.specs.Adducts.{adductText, itemMap}
 use Rattle.rules.specs.Confidences.{confidenceText}
 use Rattle.rules.specs.Annotations.{SpelledAnnotation, flagText, analyteText, chargeText, deviationText, annotationText}
 use Rattle.rules.specs.Fields.{filledAnnotation, filled}
-use Rattle.rules.specs.Editions.{current}
-use Rattle.rules.specs.House.{share, one, formed, annotationRules}
+use Rattle.rules.specs.Editions.{Edition, ed1, ed2}
+use Rattle.rules.specs.House.{share, one, formed, longEnough, annotationRules}
 use Rattle.rules.proofs.Confidences.{zeroLeftOut}
 use Rattle.rules.specs.Limits.{part, optPart, ionParts, deviationPart, confidencePart, annotationParts, annotationMarks}
 use Rattle.rules.specs.Stored.{ionFields, lostUnits, lostName, addedUnits, isotopeRecords, residueCount}
@@ -31,7 +32,7 @@ use Rattle.read_tail.proofs.SpelledTail.{deviationRead, confidenceRead}
 use Rattle.read_ion.specs.declared.IonRead.{IonRead}
 use Rattle.read_ion.proofs.SpelledIon.{ionRead}
 use Rattle.read_annotation.specs.declared.Measured.{Measured}
-use Rattle.read_annotation.specs.House.{rulesOf, shareOf}
+use Rattle.read_annotation.specs.House.{ifAsked, rulesOf, shareOf}
 use Rattle.read_annotation.specs.Measured.{ownCounts, measuredOf, measureOf}
 use Rattle.read_annotation.proofs.Groups.{measure-is}
 use Rattle.read_annotation.proofs.Chains.{drop-three}
@@ -43,17 +44,25 @@ use Rattle.read_annotation.proofs.Rules.{deviation-rule, share-told, sh
 use Rattle.read_annotation.proofs.Wholes.{third, second, first, text-is, fault1, fault2, fault3, marks-are}
 use Rattle.read_annotation.proofs.Readings.{fault0, partsRead, parts-read}
 
--- annotation number i of a line, at a place: what is measured of it
-pub record Measures (i : ℕ) (a : SpelledAnnotation) (at : ℕ) (f : Fault) (m : Measured) : Type 0 where
+-- annotation number i of a line, at a place: what is measured of it by the rules of an edition
+pub record Measures (edition : Edition) (i : ℕ) (a : SpelledAnnotation) (at : ℕ) (f : Fault) (m : Measured) : Type 0 where
   pub fault : m .fault ≡ after f (annotationMarks i a at)
   pub len : m .len ≡ length (annotationText a)
   pub counts : m .counts ≡ plus noCounts (annotationCounts (filledAnnotation a))
   pub free : m .free ≡ zeroLeftOut (a .confidence)
-  pub formed : m .formed ≡ formed current (a .ion)
-  pub kept : Kept (annotationMarks i a at) → m .kept ≡ annotationRules current a
+  pub formed : m .formed ≡ formed edition (a .ion)
+  pub kept : Kept (annotationMarks i a at) → m .kept ≡ annotationRules edition a
   pub share : Kept (annotationMarks i a at) → m .share ≡ min (share a) largest
 
-module _ (a : SpelledAnnotation) (k : List ℕ) (i end : ℕ) (f : Fault) where
+form-asked : (e : Edition) (x : Ion Written) → ifAsked e (formed ed2 x) ≡ formed e x
+form-asked ed1 x = refl
+form-asked ed2 x = refl
+
+length-asked : (e : Edition) (x : Ion Written) {kept : Bool} → kept ≡ longEnough ed2 x → ifAsked e kept ≡ longEnough e x
+length-asked ed1 x h = refl
+length-asked ed2 x h = h
+
+module _ (edition : Edition) (a : SpelledAnnotation) (k : List ℕ) (i end : ℕ) (f : Fault) where
   abbrev shareRead : ℕ
   shareRead = shareOf (confidenceRead (a .confidence) (fault3 a k end (fault0 a k i end f)))
 
@@ -66,8 +75,8 @@ module _ (a : SpelledAnnotation) (k : List ℕ) (i end : ℕ) (f : Fault) where
         counts = plus (ownCounts measuredIon) (partsRead a k i end f .middle .counts);
         free = confidenceRead (a .confidence) (fault3 a k end (fault0 a k i end f)) .bare;
         share = shareRead;
-        formed = formed current (a .ion);
-        kept = rulesOf measuredIon (residueCount (a .ion)) (length (a .adduct)) (deviationRead (a .deviation) (deviationFault (a .charge) (a .deviation) (a .confidence) k end (fault2 a k end (fault0 a k i end f)))) shareRead;
+        formed = formed edition (a .ion);
+        kept = rulesOf edition measuredIon (residueCount (a .ion)) (length (a .adduct)) (deviationRead (a .deviation) (deviationFault (a .charge) (a .deviation) (a .confidence) k end (fault2 a k end (fault0 a k i end f)))) shareRead;
         len = length (annotationText a);
         fault = confidenceRead (a .confidence) (fault3 a k end (fault0 a k i end f)) .fault;
       }
@@ -78,14 +87,14 @@ module _ (a : SpelledAnnotation) (k : List ℕ) (i end : ℕ) (f : Fault) where
     long : length (annotationText a) ≡ length (first a k) - length k
     long = omega (arith, length-append (annotationText a) k, ap length (text-is a k))
 
-    measured-is : measured ≡ measureOf i end (first a k) f
+    measured-is : measured ≡ measureOf edition i end (first a k) f
     measured-is =
-        measure-is (first a k) (partsRead a k i end f) refl
+        measure-is edition (first a k) (partsRead a k i end f) refl
         (sym (drop-three (flagText (bytes "&") (a .marked)) (optText analyteText (a .analyte)) (ionText (a .ion)) (second a k)))
         (sym (drop-three (flat lossText (a .losses)) (isotopesText (a .isotopes)) (adductText (a .adduct)) (third a k)))
-        refl refl refl
+        refl refl (sym (form-asked edition (a .ion))) refl
         (sym (drop-three (optText chargeText (a .charge)) (optText deviationText (a .deviation)) (optText confidenceText (a .confidence)) k)) long
-        ∙ ap (measuredOf (first a k)) (parts-read a k i end f e h)
+        ∙ ap (measuredOf edition (first a k)) (parts-read a k i end f e h)
 
     -- ---- how much of everything
 
@@ -119,7 +128,7 @@ module _ (a : SpelledAnnotation) (k : List ℕ) (i end : ℕ) (f : Fault) where
           let p = kept-part (end - length (first a k)) (annotationParts a) (kept-tail kept) (optPart confidencePart (a .confidence)) (later (later (later (later (later (later (later (later here)))))))) in
           share-told (a .confidence) (p .0) (fault3 a k end (fault0 a k i end f)) (p .1)
 
-      rules-are : measured .kept ≡ annotationRules current a
+      rules-are : measured .kept ≡ annotationRules edition a
       unfolding rulesOf
       rules-are =
           let at = end - length (first a k) in
@@ -131,9 +140,9 @@ module _ (a : SpelledAnnotation) (k : List ℕ) (i end : ℕ) (f : Fault) where
           (ap₂ (λ (x y : Bool). x && y)
           (deviation-rule (a .deviation) (q .0) (deviationFault (a .charge) (a .deviation) (a .confidence) k end (fault2 a k end (fault0 a k i end f))) (q .1))
           (ap (λ (n : ℕ). leb n one) share-is ∙ share-test (share a))))
-          (sequence-rule (a .ion) g (p .0) (p .1))
+          (length-asked edition (a .ion) (sequence-rule (a .ion) g (p .0) (p .1)))
 
-    measured-read : Measures i a (end - length (first a k)) f measured
+    measured-read : Measures edition i a (end - length (first a k)) f measured
     measured-read =
         record {
           fault = confidence-fault (a .confidence) (fault3 a k end (fault0 a k i end f)) ∙ sym (marks-are a k end (fault0 a k i end f) h);
@@ -145,14 +154,14 @@ module _ (a : SpelledAnnotation) (k : List ℕ) (i end : ℕ) (f : Fault) where
           share = share-is;
         }
 
-pub measure-read : (a : SpelledAnnotation) (k : List ℕ) (i end : ℕ) (f : Fault) → EndsAnnotation k → length (annotationText a ++ k) ≤ end
-    → Measures i a (end - length (annotationText a ++ k)) f (measureOf i end (annotationText a ++ k) f)
-measure-read a k i end f e h =
+pub measure-read : (edition : Edition) (a : SpelledAnnotation) (k : List ℕ) (i end : ℕ) (f : Fault) → EndsAnnotation k → length (annotationText a ++ k) ≤ end
+    → Measures edition i a (end - length (annotationText a ++ k)) f (measureOf edition i end (annotationText a ++ k) f)
+measure-read edition a k i end f e h =
     let t = text-is a k in
     let g : length (first a k) ≤ end = subst (λ (s : List ℕ). length s ≤ end) t h in
-    subst (λ (s : List ℕ). Measures i a (end - length s) f (measureOf i end s f)) (sym t)
-    (subst (Measures i a (end - length (first a k)) f) (measured-is a k i end f e g) (measured-read a k i end f e g))
+    subst (λ (s : List ℕ). Measures edition i a (end - length s) f (measureOf edition i end s f)) (sym t)
+    (subst (Measures edition i a (end - length (first a k)) f) (measured-is edition a k i end f e g) (measured-read edition a k i end f e g))
 
-pub measure-within : (i end : ℕ) (s : List ℕ) (f : Fault) → measureOf i end s f .len ≤ length s
+pub measure-within : (edition : Edition) (i end : ℕ) (s : List ℕ) (f : Fault) → measureOf edition i end s f .len ≤ length s
 unfolding measuredOf
-measure-within i end s f = omega arith
+measure-within edition i end s f = omega arith

@@ -2,6 +2,7 @@
 use Prim.Native.Nat.{ℕ, _+_, _-_}
 use mathlib.Core.Bool.{Bool, true, cond, not, _&&_, _||_}
 use lib.Dec.{eqb, leb}
+use Rattle.rules.specs.Editions.{Edition, ed1, ed2}
 use Rattle.rules.specs.House.{one}
 use Rattle.numbers.specs.Shares.{billionthsOf}
 use Rattle.read_ion.specs.declared.IonRead.{IonRead}
@@ -24,8 +25,13 @@ coveredOf x = cond (eqb (x .kind) 2) (x .last + 1 - x .position) (x .position)
 unfoldable pub longEnoughOf : IonRead → ℕ → Bool
 longEnoughOf x residues = not (hasSequence x) || leb (coveredOf x) residues
 
-unfoldable pub rulesOf : IonRead → ℕ → ℕ → DecimalPart → ℕ → Bool
-rulesOf x residues items d share = (ionRuleOf x items && (deviationRuleOf d && leb share one)) && longEnoughOf x residues
+-- edition 1 does not ask it of a sequence
+abbrev pub ifAsked : Edition → Bool → Bool
+ifAsked ed1 kept = true
+ifAsked ed2 kept = kept
+
+unfoldable pub rulesOf : Edition → IonRead → ℕ → ℕ → DecimalPart → ℕ → Bool
+rulesOf e x residues items d share = (ionRuleOf x items && (deviationRuleOf d && leb share one)) && ifAsked e (longEnoughOf x residues)
 
 -- a confidence in billionths
 unfoldable pub shareOf : DecimalPart → ℕ

@@ -2,6 +2,7 @@
 use Prim.Native.Nat.{ℕ, _-_}
 use mathlib.Core.List.{List}
 use lib.ListN.{length, drop}
+use Rattle.rules.specs.Editions.{Edition}
 use Rattle.rules.specs.Limits.{maxAnnotations, manyMark}
 use Rattle.counts.specs.declared.Counts.{Counts}
 use Rattle.counts.specs.Sums.{plus}
@@ -14,7 +15,7 @@ use Rattle.read_annotation.specs.declared.Tail.{Tail}
 use Rattle.read_annotation.specs.declared.Parts.{Parts}
 use Rattle.read_annotation.specs.declared.Measured.{Measured}
 use Rattle.read_annotation.specs.Groups.{before, frontOf, middleOf, tailOf}
-use Rattle.read_annotation.specs.House.{rulesOf, shareOf}
+use Rattle.read_annotation.specs.House.{ifAsked, rulesOf, shareOf}
 
 -- ---- read
 
@@ -35,23 +36,23 @@ abbrev pub ownCounts : IonRead → Counts
 ownCounts x = record { annotations = 1; losses = 0; isotopes = 0; items = 0; units = x .units; text = x .text }
 
 -- u is left behind the adduct
-abbrev pub measuredWith : List ℕ → List ℕ → Front → Middle → Tail → Measured
-measuredWith s u a m b =
+abbrev pub measuredWith : Edition → List ℕ → List ℕ → Front → Middle → Tail → Measured
+measuredWith e s u a m b =
     record {
       counts = plus (ownCounts (a .ion)) (m .counts);
       free = b .confidence .bare;
       share = shareOf (b .confidence);
-      formed = a .formed;
-      kept = rulesOf (a .ion) (a .residues) (m .counts .items) (b .deviation) (shareOf (b .confidence));
+      formed = ifAsked e (a .formed);
+      kept = rulesOf e (a .ion) (a .residues) (m .counts .items) (b .deviation) (shareOf (b .confidence));
       len = before s (drop (b .len) u);
       fault = b .confidence .fault;
     }
 
-unfoldable pub measuredOf : List ℕ → Parts → Measured
-measuredOf s p = measuredWith s (drop (p .middle .len) (drop (p .front .len) s)) (p .front) (p .middle) (p .tail)
+unfoldable pub measuredOf : Edition → List ℕ → Parts → Measured
+measuredOf e s p = measuredWith e s (drop (p .middle .len) (drop (p .front .len) s)) (p .front) (p .middle) (p .tail)
 
-abbrev pub measureOf : ℕ → ℕ → List ℕ → Fault → Measured
-measureOf i end s f = measuredOf s (partsOf i end s f)
+abbrev pub measureOf : Edition → ℕ → ℕ → List ℕ → Fault → Measured
+measureOf e i end s f = measuredOf e s (partsOf i end s f)
 
 -- ---- how far it goes
 

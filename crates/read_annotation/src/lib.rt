@@ -5,7 +5,8 @@ ghost use Rattle.rules.specs.Texts.{startsWith};
 ghost use Rattle.read_annotation.specs.Parts.{flagOf, prefixOf, adductLen, adductOf};
 ghost use Rattle.read_annotation.specs.Groups.{frontOf, beginsMiddle, middleOf, tailOf};
 ghost use Rattle.read_annotation.specs.Sequences.{hasSequence, sequenceOfIon};
-ghost use Rattle.read_annotation.specs.House.{ionRuleOf, deviationRuleOf, coveredOf, longEnoughOf, rulesOf, shareOf};
+ghost use Rattle.layout.specs.Editions.{editionOf};
+ghost use Rattle.read_annotation.specs.House.{ionRuleOf, deviationRuleOf, coveredOf, longEnoughOf, ifAsked, rulesOf, shareOf};
 ghost use Rattle.read_annotation.specs.Measured.{ownCounts, partsOf, measuredOf};
 use counts::Counts;
 use counts::plus;
@@ -13,6 +14,7 @@ use counts::sum;
 use faults::Fault;
 use faults::check_count;
 use faults::check_number;
+use layout::Edition;
 use limits::MAX_ANNOTATIONS;
 use limits::MAX_ITEMS;
 use limits::MAX_LOSSES;
@@ -83,7 +85,7 @@ pub struct Parts {
 }
 
 // One annotation: what it has of each kind; whether it has a free spelling that no count tells of, a confidence without its 0; that confidence
-// in billionths; whether its sequence is of the plain form; whether the rules for one annotation are kept; how many bytes; and the first
+// in billionths; whether its sequence is of the form that the edition asks for; whether the rules for one annotation are kept; how many bytes; and the first
 // broken limit.
 pub struct Measured {
     pub counts: Counts,
@@ -331,9 +333,26 @@ fn is_long_enough(x: IonRead, residues: usize) -> bool
     covered(x) <= residues
 }
 
+// What tables of edition 2 ask of a sequence, those of edition 1 do not.
+fn if_asked(edition: Edition, kept: bool) -> bool
+    ensures { λ r. ⌜ r ≡ ifAsked (editionOf edition) kept ⌝ }
+{
+    match edition {
+        Edition::First => true,
+        Edition::Second => kept,
+    }
+}
+
 // The rules for one annotation, whose ion's sequence has so many residues.
-fn keeps_rules(x: IonRead, residues: usize, items: usize, d: DecimalPart, share: u64) -> bool
-    ensures { λ r. ⌜ r ≡ rulesOf x residues items d share ⌝ }
+fn keeps_rules(
+    edition: Edition,
+    x: IonRead,
+    residues: usize,
+    items: usize,
+    d: DecimalPart,
+    share: u64,
+) -> bool
+    ensures { λ r. ⌜ r ≡ rulesOf (editionOf edition) x residues items d share ⌝ }
 {
     if !keeps_ion_rule(x, items) {
         return false;
@@ -344,7 +363,7 @@ fn keeps_rules(x: IonRead, residues: usize, items: usize, d: DecimalPart, share:
     if ONE < share {
         return false;
     }
-    is_long_enough(x, residues)
+    if_asked(edition, is_long_enough(x, residues))
 }
 
 // A confidence in billionths; 0 where there is none.
@@ -392,9 +411,9 @@ fn own_counts(x: IonRead) -> Counts
     }
 }
 
-// What was read of the annotation that a part begins with, measured.
-pub fn measure(s: &[u8], p: Parts) -> Measured
-    ensures { λ r. ⌜ r ≡ measuredOf (now (s .entry)) p ⌝ }
+// What was read of the annotation that a part begins with, measured by the rules of an edition.
+pub fn measure(edition: Edition, s: &[u8], p: Parts) -> Measured
+    ensures { λ r. ⌜ r ≡ measuredOf (editionOf edition) (now (s .entry)) p ⌝ }
 {
     let a = p.front;
     let x = a.ion;
@@ -410,8 +429,8 @@ pub fn measure(s: &[u8], p: Parts) -> Measured
         counts: plus(own_counts(x), n),
         free: c.bare,
         share,
-        formed: a.formed,
-        kept: keeps_rules(x, a.residues, n.items, d, share),
+        formed: if_asked(edition, a.formed),
+        kept: keeps_rules(edition, x, a.residues, n.items, d, share),
         len: minus_or_zero(s.len(), rest(u, b.len).len()),
         fault,
     }

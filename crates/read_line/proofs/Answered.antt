@@ -2,6 +2,7 @@
 use Prim.Native.Nat.{ℕ, _<_, _≤_}
 use mathlib.Core.Path.{_≡_, sym, ap, ap₂, _∙_, subst}
 use mathlib.Core.List.{List}
+use lib.Dec.{eqb}
 use lib.ListN.{length, replicate}
 use borrow.Author.Tests.{ne-eqb, lt-ltb, le-ltb}
 use Rattle.rules.specs.Limits.{maxLine}
@@ -19,7 +20,7 @@ use Rattle.measure_line.specs.declared.Totals.{Totals}
 use Rattle.measure_line.specs.Totals.{partsAt, totalsBy}
 use Rattle.read_line.specs.Stores.{lineEventsBy, lineEvents, StoresLine}
 use Rattle.measure_line.specs.Refusals.{firstOf}
-use Rattle.read_line.specs.Readings.{tableOver, storedOver, countedOver, spelledOver, ReadsSpelled, anyOver, readOf}
+use Rattle.read_line.specs.Readings.{tableOver, storedOver, countedOver, spelledOver, keepsAll, ReadsSpelled, anyOver, readOf}
 use Rattle.answers.specs.Delivered.{answered, refusedOf}
 
 -- ---- a line with a shape
@@ -38,11 +39,11 @@ room-over : (edition : Edition) (d line : List ℕ) (n : Counts) → endAt editi
     → storedOver edition d line n ≡ record { number = 0; place = 0; size = endAt edition n; out = tableOver edition d line n }
 room-over edition d line n h = rw (le-ltb (length d) (endAt edition n) h)
 
-module _ (edition : Edition) (line : List ℕ) {p : Parts} {t : Totals} {f : Fault} (pp : p ≡ partsAt line 0) (pt : t ≡ totalsBy line p) (pf : f ≡ firstOf t) where
+module _ (edition : Edition) (line : List ℕ) {p : Parts} {t : Totals} {f : Fault} (pp : p ≡ partsAt line 0) (pt : t ≡ totalsBy edition line p) (pf : f ≡ firstOf t) where
   -- in terms of what the code counted
   counted-is : (d : List ℕ) → spelledOver edition d line ≡ countedOver edition d line t
   unfolding spelledOver
-  counted-is d = ap (countedOver edition d line) (sym (pt ∙ ap (totalsBy line) pp))
+  counted-is d = ap (countedOver edition d line) (sym (pt ∙ ap (totalsBy edition line) pp))
 
   pub spelled-refused : {d : List ℕ} {r : Answer} → (f .number ≡ 0 → ⊥) → r ≡ refusedOf (f .number) (f .place) → ReadsSpelled edition line d d r
   spelled-refused {d} {r} h e =
@@ -75,6 +76,12 @@ module _ (edition : Edition) (line : List ℕ) {p : Parts} {t : Totals} {f : Fau
               ap₂ (λ (k : ℕ) (o : List ℕ). record { number = 0; place = 0; size = k; out = o }) ps w
               ∙ sym (stored-is d ∙ room-over edition d line (t .counts) (subst (λ (k : ℕ). k ≤ length d) ps h));
         }
+
+-- whether it keeps everything
+pub keeps-is : (edition : Edition) (line : List ℕ) {p : Parts} {t : Totals} {f : Fault} → p ≡ partsAt line 0 → t ≡ totalsBy edition line p → f ≡ firstOf t
+    → eqb (f .number) 0 ≡ keepsAll edition line
+unfolding keepsAll
+keeps-is edition line pp pt pf = ap (λ (f : Fault). eqb (f .number) 0) (pf ∙ ap firstOf (pt ∙ ap (totalsBy edition line) pp))
 
 -- ---- any line
 

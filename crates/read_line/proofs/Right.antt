@@ -7,9 +7,9 @@ use native.Mathlib.Omega.{arith}
 use lib.Dec.{ltb}
 use lib.ListN.{length, replicate, length-replicate}
 use lib.Seq.{sets, length-sets}
-use borrow.Author.Tests.{ltb-true, ltb-false, ne-eqb}
+use borrow.Author.Tests.{ltb-true, ltb-false, ne-eqb, eqb-true, eq-eqb}
 use Rattle.lang.specs.Parts.{Opt, silent, written}
-use Rattle.lang.specs.Mark.{Mark, Kept}
+use Rattle.lang.specs.Mark.{Mark, Kept, Wins}
 use Rattle.lang.specs.Order.{Each}
 use Rattle.lang.proofs.FirstBroken.{firstBroken}
 use Rattle.rules.specs.Lines.{Spelling, lineText, misshapen}
@@ -21,6 +21,7 @@ use Rattle.rules.specs.Answers as rules
 use Rattle.rules.specs.Answers.{refuses, Delivers, no-room, done, Sound, ReadsSum, ReadsRules, ReadsForm, ReadsSpelling, Reads}
 use Rattle.rules.specs.Editions.{Edition, current}
 use Rattle.rules.proofs.FirstBroken.{first-wins, first-keeps, wins-number}
+use Rattle.rules.proofs.OneAnswer.{written-not-silent}
 use Rattle.rules.proofs.OneShape.{judged-shape, judged-misshapen}
 use Rattle.put_bytes.specs.Puts.{maxPlace}
 use Rattle.faults.specs.declared.Fault.{Fault}
@@ -37,7 +38,7 @@ use Rattle.measure_line.specs.declared.Totals.{Totals}
 use Rattle.measure_line.specs.Totals.{totalsOf}
 use Rattle.read_line.specs.Stores.{lineEvents}
 use Rattle.measure_line.specs.Refusals.{firstOf}
-use Rattle.read_line.specs.Readings.{tableOver, storedOver, countedOver, spelledOver, anyOver, readOf}
+use Rattle.read_line.specs.Readings.{tableOver, storedOver, countedOver, spelledOver, keepsAll, anyOver, readOf}
 use Rattle.measure_line.proofs.Folds as folds
 use Rattle.measure_line.proofs.Folds.{form-told, breach-told, excess-seen}
 use Rattle.measure_line.proofs.Through.{TotalsRead, totals-read}
@@ -48,7 +49,7 @@ use Rattle.measure_line.proofs.Firsts.{first-limit, first-form, first-breach, f
 
 -- ---- the table, over a cleared output
 
-module _ (edition : Edition) (room : ℕ) (small : room ≤ maxPlace) (line : List ℕ) (s : Spelling) (t : Table) (says : Each Says s t) (sound : Sound current t)
+module _ (edition : Edition) (room : ℕ) (small : room ≤ maxPlace) (line : List ℕ) (s : Spelling) (t : Table) (says : Each Says s t) (sound : Sound edition t)
     (fills : Fills edition t (lineEvents edition line)) where
   abbrev zeros : List ℕ
   zeros = replicate room 0
@@ -99,74 +100,130 @@ granted : (edition : Edition) (room : ℕ) (line : List ℕ) (t : Totals) → fi
     → storedOver edition (replicate room 0) line (t .counts) ≡ countedOver edition (replicate room 0) line t
 granted edition room line t e = rw e
 
-module _ (edition : Edition) (room : ℕ) (small : room ≤ maxPlace) (s : Spelling) (fits : length (lineText s) ≤ maxPlace) (u : Totals) (r : TotalsRead s u) where
+-- the limits, the form and the rules of an edition are kept
+pub record KeepsAll (e : Edition) (s : Spelling) : Type 0 where
+  pub limits : Kept (lineMarks s)
+  pub form : firstForeign e 0 s ≡ silent
+  pub rules : firstBreach e 0 s ≡ silent
+  pub sum : firstExcess 0 0 s ≡ silent
+
+-- the first refusal of a spelling, or none
+data Found (e : Edition) (s : Spelling) : Fault → Type 0 where
+  limit : (m : Mark) → Wins (lineMarks s) m → Found e s (fault (m .number) (m .place))
+  form : Kept (lineMarks s) → (p : ℕ) → firstForeign e 0 s ≡ written p → Found e s (fault 11 p)
+  breach : Kept (lineMarks s) → firstForeign e 0 s ≡ silent → (p : ℕ) → firstBreach e 0 s ≡ written p → Found e s (fault 6 p)
+  excess : Kept (lineMarks s) → firstForeign e 0 s ≡ silent → firstBreach e 0 s ≡ silent → (p : ℕ) → firstExcess 0 0 s ≡ written p → Found e s (fault 7 p)
+  nothing : KeepsAll e s → Found e s (fault 0 0)
+
+module _ (edition : Edition) (s : Spelling) (u : Totals) (r : TotalsRead edition s u) where
+  limit-is : (o : Opt Mark) → firstBroken (lineMarks s) ≡ o → u .limit ≡ told o
+  limit-is o e = r .finds .limit ∙ line-first s ∙ ap told e
+
+  -- within the limits
+  module _ (kept : Kept (lineMarks s)) (e : u .limit .number ≡ 0) where
+    form-is : (o : Opt ℕ) → firstForeign edition 0 s ≡ o → u .form ≡ folds.told 11 o
+    form-is o q = r .finds .form kept ∙ form-told edition 0 s ∙ ap (folds.told 11) q
+
+    breach-is : (o : Opt ℕ) → firstBreach edition 0 s ≡ o → u .breach ≡ folds.told 6 o
+    breach-is o q = r .finds .breach kept ∙ breach-told edition 0 s ∙ ap (folds.told 6) q
+
+    excess-is : (o : Opt ℕ) → firstExcess 0 0 s ≡ o → u .excess ≡ folds.told 7 o
+    excess-is o q = r .finds .excess kept ∙ excess-seen 0 0 s ∙ ap (folds.told 7) q
+
+    -- with sequences of the form that the edition asks for
+    module _ (formed : firstForeign edition 0 s ≡ silent) (g : u .form .number ≡ 0) where
+      -- and within the rules for one annotation
+      found-sum : firstBreach edition 0 s ≡ silent → u .breach .number ≡ 0 → (o : Opt ℕ) → firstExcess 0 0 s ≡ o → Found edition s (firstOf u)
+      found-sum rules q (written p) z = subst (Found edition s) (sym (first-excess u e g q ∙ excess-is (written p) z)) (excess kept formed rules p z)
+      found-sum rules q silent z =
+          subst (Found edition s) (sym (first-excess u e g q ∙ excess-is silent z)) (nothing (record { limits = kept; form = formed; rules = rules; sum = z }))
+
+      found-rules : (o : Opt ℕ) → firstBreach edition 0 s ≡ o → Found edition s (firstOf u)
+      found-rules (written p) z =
+          let b = breach-is (written p) z in
+          subst (Found edition s) (sym (first-breach u e g (λ x. let y = ap (λ (h : Fault). h .number) b in omega arith) ∙ b)) (breach kept formed p z)
+      found-rules silent z = found-sum z (ap (λ (h : Fault). h .number) (breach-is silent z)) (firstExcess 0 0 s) refl
+
+    found-form : (o : Opt ℕ) → firstForeign edition 0 s ≡ o → Found edition s (firstOf u)
+    found-form (written p) z =
+        let b = form-is (written p) z in
+        subst (Found edition s) (sym (first-form u e (λ x. let y = ap (λ (h : Fault). h .number) b in omega arith) ∙ b)) (form kept p z)
+    found-form silent z = found-rules z (ap (λ (h : Fault). h .number) (form-is silent z)) (firstBreach edition 0 s) refl
+
+  found-limit : (o : Opt Mark) → firstBroken (lineMarks s) ≡ o → Found edition s (firstOf u)
+  found-limit (written m) z =
+      let b = limit-is (written m) z in
+      let w = first-wins s m z in
+      let n = wins-number s m w in
+      subst (Found edition s) (sym (first-limit u (λ x. let y = ap (λ (g : Fault). g .number) b in omega arith) ∙ b)) (limit m w)
+  found-limit silent z =
+      let kept = first-keeps s z in found-form kept (ap (λ (g : Fault). g .number) (limit-is silent z)) (firstForeign edition 0 s) refl
+
+  found : Found edition s (firstOf u)
+  found = found-limit (firstBroken (lineMarks s)) refl
+
+-- ---- what is read
+
+module _ (edition : Edition) (room : ℕ) (small : room ≤ maxPlace) (s : Spelling) (fits : length (lineText s) ≤ maxPlace) (u : Totals) (r : TotalsRead edition s u) where
   abbrev line : List ℕ
   line = lineText s
 
   abbrev answer : rules.Answer
   answer = countedOver edition (replicate room 0) line u
 
-  limit-is : (o : Opt Mark) → firstBroken (lineMarks s) ≡ o → u .limit ≡ told o
-  limit-is o e = r .finds .limit ∙ line-first s ∙ ap told e
+  no-fault : {f : Fault} → firstOf u ≡ f → (f .number ≡ 0 → ⊥) → ReadsSpelling edition s room (refuses room (f .number) (f .place)) → ReadsSpelling edition s room answer
+  no-fault {f} e n x = subst (ReadsSpelling edition s room) (refused edition room line u f e n) x
 
-  -- within the limits
-  module _ (kept : Kept (lineMarks s)) (e : u .limit .number ≡ 0) where
-    form-is : (o : Opt ℕ) → firstForeign current 0 s ≡ o → u .form ≡ folds.told 11 o
-    form-is o q = r .finds .form kept ∙ form-told 0 s ∙ ap (folds.told 11) q
-
-    breach-is : (o : Opt ℕ) → firstBreach current 0 s ≡ o → u .breach ≡ folds.told 6 o
-    breach-is o q = r .finds .breach kept ∙ breach-told 0 s ∙ ap (folds.told 6) q
-
-    excess-is : (o : Opt ℕ) → firstExcess 0 0 s ≡ o → u .excess ≡ folds.told 7 o
-    excess-is o q = r .finds .excess kept ∙ excess-seen 0 0 s ∙ ap (folds.told 7) q
-
-    -- with sequences of the plain form
-    module _ (form : firstForeign current 0 s ≡ silent) (g : u .form .number ≡ 0) where
-      -- and within the rules for one annotation
-      module _ (rules : firstBreach current 0 s ≡ silent) (q : u .breach .number ≡ 0) where
-        sum-read : (o : Opt ℕ) → firstExcess 0 0 s ≡ o → ReadsSum edition s room answer
-        sum-read (written p) z =
-            let f = first-excess u e g q ∙ excess-is (written p) z in
-            subst (ReadsSum edition s room) (refused edition room line u (fault 7 p) f (λ x. omega arith)) (ReadsSum.excess p z)
-        sum-read silent z =
-            let y = line-filled edition s fits kept in
-            let t = y .table in
-            let w : Sound current t = record { spelling = s; says = y .says; limits = kept; form = form; rules = rules; sum = z } in
-            let c = counts-are (y .says) w (r .counts) in
-            let f = first-excess u e g q ∙ excess-is silent z in
-            let fills = subst (Fills edition t) (sym (y .are)) (y .fills) in
-            subst (ReadsSum edition s room) (granted edition room line u f) (ReadsSum.kept z t (y .says) (delivered edition room small line s t (y .says) w fills (u .counts) c))
-
-      rules-read : (o : Opt ℕ) → firstBreach current 0 s ≡ o → ReadsRules edition s room answer
-      rules-read (written p) z =
-          let b = breach-is (written p) z in
-          let f = first-breach u e g (λ x. let y = ap (λ (h : Fault). h .number) b in omega arith) ∙ b in
-          subst (ReadsRules edition s room) (refused edition room line u (fault 6 p) f (λ x. omega arith)) (ReadsRules.breach p z)
-      rules-read silent z = ReadsRules.kept z (sum-read z (ap (λ (h : Fault). h .number) (breach-is silent z)) (firstExcess 0 0 s) refl)
-
-    form-read : (o : Opt ℕ) → firstForeign current 0 s ≡ o → ReadsForm edition s room answer
-    form-read (written p) z =
-        let b = form-is (written p) z in
-        let f = first-form u e (λ x. let y = ap (λ (h : Fault). h .number) b in omega arith) ∙ b in
-        subst (ReadsForm edition s room) (refused edition room line u (fault 11 p) f (λ x. omega arith)) (ReadsForm.foreign p z)
-    form-read silent z = ReadsForm.kept z (rules-read z (ap (λ (h : Fault). h .number) (form-is silent z)) (firstBreach current 0 s) refl)
-
-  spelling-read : (o : Opt Mark) → firstBroken (lineMarks s) ≡ o → ReadsSpelling edition s room answer
-  spelling-read (written m) z =
-      let b = limit-is (written m) z in
-      let w = first-wins s m z in
-      let n = wins-number s m w in
-      let f = first-limit u (λ x. let y = ap (λ (g : Fault). g .number) b in omega arith) ∙ b in
-      subst (ReadsSpelling edition s room) (refused edition room line u (fault (m .number) (m .place)) f (λ x. omega arith)) (ReadsSpelling.limit m w)
-  spelling-read silent z =
-      let kept = first-keeps s z in
-      ReadsSpelling.kept kept (form-read kept (ap (λ (g : Fault). g .number) (limit-is silent z)) (firstForeign current 0 s) refl)
+  spelling-read : (f : Fault) → firstOf u ≡ f → Found edition s f → ReadsSpelling edition s room answer
+  spelling-read f e (limit m w) = let n = wins-number s m w in no-fault e (λ x. omega arith) (ReadsSpelling.limit m w)
+  spelling-read f e (form k p z) = no-fault e (λ x. omega arith) (ReadsSpelling.kept k (ReadsForm.foreign p z))
+  spelling-read f e (breach k g p z) = no-fault e (λ x. omega arith) (ReadsSpelling.kept k (ReadsForm.kept g (ReadsRules.breach p z)))
+  spelling-read f e (excess k g q p z) = no-fault e (λ x. omega arith) (ReadsSpelling.kept k (ReadsForm.kept g (ReadsRules.kept q (ReadsSum.excess p z))))
+  spelling-read f e (nothing a) =
+      let y = line-filled edition s fits (a .limits) in
+      let t = y .table in
+      let w : Sound edition t = record { spelling = s; says = y .says; limits = a .limits; form = a .form; rules = a .rules; sum = a .sum } in
+      let c = counts-are (y .says) w (r .counts) in
+      let fills = subst (Fills edition t) (sym (y .are)) (y .fills) in
+      subst (ReadsSpelling edition s room) (granted edition room line u e)
+      (ReadsSpelling.kept (a .limits) (ReadsForm.kept (a .form) (ReadsRules.kept (a .rules)
+      (ReadsSum.kept (a .sum) t (y .says) (delivered edition room small line s t (y .says) w fills (u .counts) c)))))
 
 pub spelled-right : (edition : Edition) (room : ℕ) → room ≤ maxPlace → (s : Spelling) → length (lineText s) ≤ maxPlace
     → ReadsSpelling edition s room (spelledOver edition (replicate room 0) (lineText s))
 unfolding spelledOver
 spelled-right edition room small s l =
-    spelling-read edition room small s l (totalsOf (lineText s)) (totals-read s l) (firstBroken (lineMarks s)) refl
+    let u = totalsOf edition (lineText s) in
+    let r = totals-read edition s l in
+    spelling-read edition room small s l u r (firstOf u) refl (found edition s u r)
+
+-- ---- whether everything is kept
+
+told-kept : {e : Edition} {s : Spelling} {f : Fault} → Found e s f → f .number ≡ 0 → KeepsAll e s
+told-kept {s = s} (limit m w) z = absurd (omega (arith, wins-number s m w))
+told-kept (form k p q) z = absurd (omega arith)
+told-kept (breach k g p q) z = absurd (omega arith)
+told-kept (excess k g h p q) z = absurd (omega arith)
+told-kept (nothing a) z = a
+
+kept-told : {e : Edition} {s : Spelling} {f : Fault} → Found e s f → KeepsAll e s → f .number ≡ 0
+kept-told (limit m w) a = absurd (a .limits m (w .is-in) (w .broken))
+kept-told (form k p q) a = absurd (written-not-silent _ q (a .form))
+kept-told (breach k g p q) a = absurd (written-not-silent _ q (a .rules))
+kept-told (excess k g h p q) a = absurd (written-not-silent _ q (a .sum))
+kept-told (nothing b) a = refl
+
+module _ (edition : Edition) (s : Spelling) (fits : length (lineText s) ≤ maxPlace) where
+  first-found : Found edition s (firstOf (totalsOf edition (lineText s)))
+  first-found = found edition s (totalsOf edition (lineText s)) (totals-read edition s fits)
+
+  pub keeps-told : keepsAll edition (lineText s) ≡ true → KeepsAll edition s
+  unfolding keepsAll
+  keeps-told e = told-kept first-found (eqb-true (firstOf (totalsOf edition (lineText s)) .number) 0 e)
+
+  pub keeps-all : KeepsAll edition s → keepsAll edition (lineText s) ≡ true
+  unfolding keepsAll
+  keeps-all a = eq-eqb (firstOf (totalsOf edition (lineText s)) .number) 0 (kept-told first-found a)
 
 -- ---- any line
 

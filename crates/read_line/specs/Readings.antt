@@ -1,7 +1,7 @@
 -- The answer to a line whose shape was judged, by what is counted of it. Assumes nothing.
 use Prim.Native.Nat.{ℕ}
 use mathlib.Core.Path.{_≡_}
-use mathlib.Core.Bool.{cond}
+use mathlib.Core.Bool.{Bool, cond}
 use mathlib.Core.List.{List}
 use lib.Dec.{eqb, ltb}
 use lib.ListN.{length, replicate}
@@ -42,7 +42,11 @@ countedOver e d line t =
 
 -- of a line with a shape, into an output d
 unfoldable pub spelledOver : Edition → List ℕ → List ℕ → rules.Answer
-spelledOver e d line = countedOver e d line (totalsOf line)
+spelledOver e d line = countedOver e d line (totalsOf e line)
+
+-- of a line with a shape: it keeps the limits, and the form and rules of an edition
+unfoldable pub keepsAll : Edition → List ℕ → Bool
+keepsAll e line = eqb (firstOf (totalsOf e line) .number) 0
 
 pub record ReadsSpelled (edition : Edition) (line d e : List ℕ) (r : Answer) : Type 0 where
   pub is : answered r e ≡ spelledOver edition d line

@@ -6,7 +6,7 @@ ghost use Rattle.layout.specs.Editions.{editionOf};
 ghost use Rattle.answers.specs.Delivered.{answered};
 ghost use Rattle.scan_line.specs.Steps.{scannedBy};
 ghost use Rattle.read_line.specs.Stores.{StoresNext, StoresLine};
-ghost use Rattle.read_line.specs.Readings.{ReadsSpelled, anyOver, readOf};
+ghost use Rattle.read_line.specs.Readings.{ReadsSpelled, spelledOver, keepsAll, anyOver, readOf};
 ghost use Rattle.read_line.specs.Same.{sameBytes};
 ghost use Rattle.rules.specs.Largest.{maxAnyTable};
 ghost use Rattle.read_line.specs.Back.{readsTo, few, zeros};
@@ -85,7 +85,7 @@ fn read_spelled(edition: Edition, line: &[u8], out: &mut [u8]) -> Answer
     ensures { λ r. ⌜ ReadsSpelled (editionOf edition) (now (line .entry)) (now (out .entry)) (now (out .exit)) r ⌝ }
 {
     let first = read_at(line, 0);
-    let t = total(line, first);
+    let t = total(edition, line, first);
     let found = first_refusal(t);
     if found.number != 0 {
         return refuse(found.number, found.place);
@@ -102,6 +102,23 @@ fn read_spelled(edition: Edition, line: &[u8], out: &mut [u8]) -> Answer
         place: 0,
         len: size,
     }
+}
+
+// A line with a shape, of any length, as a table of an edition.
+pub fn read_shaped(edition: Edition, line: &[u8], out: &mut [u8]) -> Answer
+    ensures { λ r. ⌜ answered r (now (out .exit)) ≡ spelledOver (editionOf edition) (zeros (length (now (out .entry)))) (now (line .entry)) ⌝ }
+{
+    clear(out);
+    read_spelled(edition, line, out)
+}
+
+// Whether a line with a shape keeps the limits, and the form and rules of an edition.
+pub fn keeps_all(edition: Edition, line: &[u8]) -> bool
+    ensures { λ r. ⌜ r ≡ keepsAll (editionOf edition) (now (line .entry)) ⌝ }
+{
+    let t = total(edition, line, read_at(line, 0));
+    let found = first_refusal(t);
+    found.number == 0
 }
 
 // A line of any length, by a lent machine, into a cleared output.

@@ -27,7 +27,7 @@ abbrev placeOr0 : Opt ℕ → ℕ
 placeOr0 silent = 0
 placeOr0 (written p) = p
 
-failing-within : (test : SpelledAnnotation → Bool) (at : ℕ) (s : Spelling) (p : ℕ) → firstFailing test at s ≡ written p → p < at + length (flat nextText s)
+pub failing-within : (test : SpelledAnnotation → Bool) (at : ℕ) (s : Spelling) (p : ℕ) → firstFailing test at s ≡ written p → p < at + length (flat nextText s)
 failing-within test at [] p e = absurd (written-not-silent silent e refl)
 failing-within test at (a ∷ more) p e = by (λ q. failing-within test (at + length (annotationText a) + 1) more p q) (test a) e
   where
@@ -50,7 +50,7 @@ excess-within sum at (a ∷ more) p e =
     by ih false q = omega (arith, ap placeOr0 q, length-append (nextText a) (flat nextText more))
 
 -- the commas behind the annotations are as many as those before, and one
-line-length : (s : Spelling) → length (flat nextText s) ≤ length (lineText s) + 1
+pub line-length : (s : Spelling) → length (flat nextText s) ≤ length (lineText s) + 1
 line-length [] = omega arith
 line-length (a ∷ more) = omega (arith, length-append (nextText a) (flat nextText more), length-append (annotationText a) (flat nextText more))
 
@@ -71,7 +71,7 @@ module _ (s : Spelling) (room : ℕ) where
   rules-place k f (breach p z) = omega (arith, failing-within (annotationRules current) 0 s p z, line-length s)
   rules-place k f (ReadsRules.kept z r) = sum-place k f z r
 
-  form-place : Kept (lineMarks s) → {a : Answer} → ReadsForm current s room a → a .place ≤ length (lineText s) + maxAnyTable
+  pub form-place : Kept (lineMarks s) → {a : Answer} → ReadsForm current s room a → a .place ≤ length (lineText s) + maxAnyTable
   form-place k (foreign p z) = omega (arith, failing-within (λ a. formed current (a .ion)) 0 s p z, line-length s)
   form-place k (ReadsForm.kept z r) = rules-place k z r
 
@@ -107,7 +107,7 @@ rules-fill : {s : Spelling} {room : ℕ} {a : Answer} → ReadsRules current s r
 rules-fill (breach p z) e = absurd (omega arith)
 rules-fill (ReadsRules.kept z r) e = sum-fills r e
 
-form-fills : {s : Spelling} {room : ℕ} {a : Answer} → ReadsForm current s room a → a .number ≡ 0 → Filled room a
+pub form-fills : {s : Spelling} {room : ℕ} {a : Answer} → ReadsForm current s room a → a .number ≡ 0 → Filled room a
 form-fills (foreign p z) e = absurd (omega arith)
 form-fills (ReadsForm.kept z r) e = rules-fill r e
 

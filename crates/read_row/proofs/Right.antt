@@ -8,7 +8,7 @@ use lib.Dec.{eqb, ltb}
 use lib.ListN.{length, drop, length-append, length-drop}
 use lib.Seq.{drop-length, drop-append-add, drop-drop}
 use borrow.Author.Tests.{ltb-true, ltb-false, le-ltb, eqb-true, eqb-false}
-use Rattle.rules.specs.Answers.{Answer, refuses, Reads}
+use Rattle.rules.specs.Answers.{Answer, refuses}
 use Rattle.rules.specs.Rows.{rowHeadSize}
 use Rattle.rules.specs.RowAnswers.{maxRow, Cut, at-tab, no-tab, Moves, ReadsThird, line, ReadsIntensity, ReadsRow, long}
 use Rattle.put_bytes.specs.Puts.{maxPlace}
@@ -24,7 +24,7 @@ use Rattle.read_row.specs.Columns.{columnOf}
 use Rattle.read_row.specs.Readings.{headBytes, headedOf, movedOf, thirdOf, intensityOf, mzIn, readRowOf}
 use Rattle.read_row.proofs.Cuts.{cut-some}
 use Rattle.read_row.proofs.Decimals.{read-good, read-bad}
-use Rattle.read_row.proofs.LinePlaces.{reads-place, reads-fill}
+use Rattle.read_row.proofs.LinePlaces.{Filled, reads-place, reads-fill}
 
 -- ---- where a column ends
 
@@ -38,14 +38,16 @@ cut-rest {s} (no-tab l) = drop-length s
 
 -- ---- the third column
 
-module _ (head third : List ℕ) (at room : ℕ) (small : room ≤ maxPlace) (near : at + length third ≤ maxRow) (b : Answer) (r : Reads third (room - rowHeadSize) b) where
-  moved-right : Moves head at room b (movedOf head at room b)
+-- whose places are not far, and whose table, if it has one, is in the output
+module _ (head : List ℕ) (at room : ℕ) (small : room ≤ maxPlace) (b : Answer) (near : at + (rowHeadSize + b .place) ≤ maxPlace)
+    (fills : b .number ≡ 0 → Filled (room - rowHeadSize) b) where
+  pub moved-right : Moves head at room b (movedOf head at room b)
   unfolding movedOf
   moved-right = by (eqb (b .number) 0) refl (eqb (b .number) 8) refl
     where
       done : b .number ≡ 0 → Moves head at room b (headedOf head room (b .size) (b .out))
       done e =
-          let f = reads-fill r e in
+          let f = fills e in
           let x = f .some in
           let y = f .inside in
           let q = capped-is rowHeadSize (b .size) (omega arith) in
@@ -55,10 +57,8 @@ module _ (head third : List ℕ) (at room : ℕ) (small : room ≤ maxPlace) (ne
           → Moves head at room b (cond u (headedOf head room (b .size) (b .out))
           (cond v (refuses room 8 (capped rowHeadSize (b .place))) (refuses room (b .number) (capped at (b .place)))))
       by true e v f = done (eqb-true (b .number) 0 e)
-      by false e true f =
-          rw (capped-is rowHeadSize (b .place) (omega (arith, reads-place r))) (Moves.no-room (eqb-true (b .number) 8 f))
-      by false e false f =
-          rw (capped-is at (b .place) (omega (arith, reads-place r))) (Moves.refused (eqb-false (b .number) 0 e) (eqb-false (b .number) 8 f))
+      by false e true f = rw (capped-is rowHeadSize (b .place) (omega arith)) (Moves.no-room (eqb-true (b .number) 8 f))
+      by false e false f = rw (capped-is at (b .place) (omega arith)) (Moves.refused (eqb-false (b .number) 0 e) (eqb-false (b .number) 8 f))
 
 -- ---- a row by a machine whose verdicts are right
 
@@ -70,7 +70,7 @@ module _ (machine row : List ℕ) (room : ℕ) (small : room ≤ maxPlace) (shor
   third-right mz intensity n h =
       let third = drop n row in
       let r = read-right third (room - rowHeadSize) (omega arith) (scannedBy machine third) (judged n) in
-      line r (moved-right (headBytes mz intensity) third n room small (omega (arith, length-drop n row)) (readOf (scannedBy machine third) third (room - rowHeadSize)) r)
+      line r (moved-right (headBytes mz intensity) n room small (readOf (scannedBy machine third) third (room - rowHeadSize)) (omega (arith, reads-place r, length-drop n row)) (reads-fill r))
 
   -- the same, where its place and its bytes are said otherwise
   third-at : (mz intensity : Decimal) (to at : ℕ) (third : List ℕ) → to ≤ length row → to ≡ at → drop to row ≡ third

@@ -9,7 +9,7 @@ ghost use Rattle.answers.specs.Delivered.{answered};
 ghost use Rattle.answers.specs.Behind.{Behind};
 ghost use Rattle.read_line.specs.Readings.{readOf};
 ghost use Rattle.read_row.specs.Columns.{beginsDecimal, endsColumn, isColumn, columnOf};
-ghost use Rattle.read_row.specs.Readings.{headBytes, thirdOf, intensityOf, readRowOf};
+ghost use Rattle.read_row.specs.Readings.{headBytes, endedOver, thirdOf, intensityOf, readRowOf};
 use answers::Answer;
 use answers::plus;
 use answers::refuse;
@@ -110,18 +110,10 @@ fn put_head(out: &mut [u8], mz: Decimal, intensity: Decimal) -> usize
     put_le(out, zero, 0, 2)
 }
 
-// A row of which both numbers were read, and whose third column begins at a place.
-fn read_third(
-    machine: &[u8],
-    third: &[u8],
-    at: usize,
-    mz: Decimal,
-    intensity: Decimal,
-    out: &mut [u8],
-) -> Answer
-    ensures { λ r. ⌜ answered r (now (out .exit)) ≡ thirdOf (now (machine .entry)) mz intensity (now (third .entry)) at (length (now (out .entry))) ⌝ }
+// A row with both numbers, by the answer to its line, which begins at a place. The table of the line stands where it is to be, behind the head.
+pub fn end_row(line: Answer, at: usize, mz: Decimal, intensity: Decimal, out: &mut [u8]) -> Answer
+    ensures { λ r. ⌜ answered r (now (out .exit)) ≡ endedOver (now (out .entry)) (headBytes mz intensity) at line ⌝ }
 {
-    let line = read_behind(machine, third, out);
     if line.number == 0 {
         let size = plus(ROW_HEAD_SIZE, line.len);
         if out.len() < size {
@@ -140,6 +132,21 @@ fn read_third(
         return refuse(8, plus(ROW_HEAD_SIZE, line.place));
     }
     refuse(line.number, plus(at, line.place))
+}
+
+// A row of which both numbers were read, and whose third column begins at a place.
+fn read_third(
+    machine: &[u8],
+    third: &[u8],
+    at: usize,
+    mz: Decimal,
+    intensity: Decimal,
+    out: &mut [u8],
+) -> Answer
+    ensures { λ r. ⌜ answered r (now (out .exit)) ≡ thirdOf (now (machine .entry)) mz intensity (now (third .entry)) at (length (now (out .entry))) ⌝ }
+{
+    let line = read_behind(machine, third, out);
+    end_row(line, at, mz, intensity, out)
 }
 
 // A row of which m/z was read, and whose intensity begins at a place.

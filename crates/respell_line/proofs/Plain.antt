@@ -25,6 +25,7 @@ use Rattle.rules.specs.Fields.{filledAnnotation, Table, filled, Says}
 use Rattle.rules.specs.Preferred.{shortenedAnnotation, shortened, preferredSpelling, preferred}
 use Rattle.rules.specs.Stored.{ionFields, lostUnits, addedUnits, isotopeRecords}
 use Rattle.rules.proofs.Confidences.{zeroLeftOut, in-full-kept}
+use Rattle.rules.specs.Editions.{current}
 use Rattle.rules.proofs.Totals.{perm-length}
 use Rattle.put_bytes.specs.Puts.{maxPlace}
 use Rattle.counts.specs.declared.Counts.{Counts}
@@ -133,10 +134,10 @@ tested-plain n free e =
       not-true free (t-is (not free) (and-0 (not free) (losses && (isotopes && (items && units))) all)),
     )
 
-pub plain-preferred : (s : Spelling) {t : Table} → length (lineText s) ≤ maxPlace → Each Says s t → isPlain (totalsOf (lineText s) .counts) (totalsOf (lineText s) .free) ≡ true
+pub plain-preferred : (s : Spelling) {t : Table} → length (lineText s) ≤ maxPlace → Each Says s t → isPlain (totalsOf current (lineText s) .counts) (totalsOf current (lineText s) .free) ≡ true
     → lineText s ≡ preferred t
 plain-preferred s h says e =
-    let x = totals-read s h in
-    let t = tested-plain (totalsOf (lineText s) .counts) (totalsOf (lineText s) .free) e in
+    let x = totals-read current s h in
+    let t = tested-plain (totalsOf current (lineText s) .counts) (totalsOf current (lineText s) .free) e in
     let p = subst Plain (x .counts) (t .0) in
     ap lineText (plain-one says (plain-parts noCounts (spelledCounts s) p .1) (sym (x .free) ∙ t .1))

@@ -11,6 +11,7 @@ use Rattle.rules.specs.Lines.{Spelling, lineText}
 use Rattle.rules.specs.Fields.{Table, Says}
 use Rattle.rules.specs.Limits.{lineMarks}
 use Rattle.rules.specs.Preferred.{preferred}
+use Rattle.rules.specs.Editions.{current}
 use Rattle.rules.proofs.OneTable as OneTable
 use Rattle.put_bytes.specs.Puts.{maxPlace}
 use Rattle.shape.proofs.OneSpelling.{one-spelling}
@@ -39,10 +40,10 @@ anew-preferred s t small says kept =
 
 -- either way
 pub spelling-preferred : (s : Spelling) (t : Table) → length (lineText s) ≤ maxPlace → Each Says s t → Kept (lineMarks s)
-    → spellingOf (lineText s) (totalsOf (lineText s)) (partsAt (lineText s) 0) ≡ preferred t
+    → spellingOf (lineText s) (totalsOf current (lineText s)) (partsAt (lineText s) 0) ≡ preferred t
 unfolding spellingOf
-spelling-preferred s t small says kept = by (isPlain (totalsOf (lineText s) .counts) (totalsOf (lineText s) .free)) refl
+spelling-preferred s t small says kept = by (isPlain (totalsOf current (lineText s) .counts) (totalsOf current (lineText s) .free)) refl
   where
-    by : (b : Bool) → isPlain (totalsOf (lineText s) .counts) (totalsOf (lineText s) .free) ≡ b → cond b (lineText s) (lineSpelled (lineText s) (partsAt (lineText s) 0)) ≡ preferred t
+    by : (b : Bool) → isPlain (totalsOf current (lineText s) .counts) (totalsOf current (lineText s) .free) ≡ b → cond b (lineText s) (lineSpelled (lineText s) (partsAt (lineText s) 0)) ≡ preferred t
     by true e = plain-preferred s small says e
     by false e = anew-preferred s t small says kept

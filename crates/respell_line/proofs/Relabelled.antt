@@ -8,6 +8,7 @@ use lib.ListN.{replicate}
 use borrow.Author.Tests.{eq-eqb, ne-eqb}
 use Rattle.rules.specs.Answers as rules
 use Rattle.rules.specs.Answers.{refuses}
+use Rattle.rules.specs.Editions.{current}
 use Rattle.faults.specs.declared.Fault.{Fault}
 use Rattle.read_annotation.specs.declared.Parts.{Parts}
 use Rattle.answers.specs.declared.Answer.{Answer}
@@ -18,11 +19,11 @@ use Rattle.measure_line.specs.Refusals.{firstOf}
 use Rattle.respell_line.specs.Plain.{spellingOf}
 use Rattle.respell_line.specs.Relabelled.{relabelledWith, relabelledOver}
 
-module _ (line : List ℕ) (room : ℕ) {t : Totals} {p : Parts} {f : Fault} (pp : p ≡ partsAt line 0) (pt : t ≡ totalsBy line p) (pf : f ≡ firstOf t) where
+module _ (line : List ℕ) (room : ℕ) {t : Totals} {p : Parts} {f : Fault} (pp : p ≡ partsAt line 0) (pt : t ≡ totalsBy current line p) (pf : f ≡ firstOf t) where
   -- what was counted and read is what is counted and read of the line
   over-is : relabelledWith line room t p ≡ relabelledOver line room
   unfolding relabelledOver
-  over-is = ap₂ (relabelledWith line room) (pt ∙ ap (totalsBy line) pp) pp
+  over-is = ap₂ (relabelledWith line room) (pt ∙ ap (totalsBy current line) pp) pp
 
   abbrev answerBy : Fault → rules.Answer
   answerBy g = cond (eqb (g .number) 0) (lineOver (spellingOf line t p) room) (refuses room (g .number) (g .place))

@@ -3,6 +3,7 @@ use Prim.Native.Nat.{ℕ}
 use mathlib.Core.Bool.{cond}
 use mathlib.Core.List.{List}
 use lib.Dec.{eqb}
+use Rattle.rules.specs.Editions.{current}
 use Rattle.rules.specs.Answers.{Answer, refuses}
 use Rattle.answers.specs.Delivered.{lineOver}
 use Rattle.read_annotation.specs.declared.Parts.{Parts}
@@ -17,4 +18,4 @@ relabelledWith line room t p =
     let f = firstOf t in cond (eqb (f .number) 0) (lineOver (spellingOf line t p) room) (refuses room (f .number) (f .place))
 
 unfoldable pub relabelledOver : List ℕ → ℕ → Answer
-relabelledOver line room = relabelledWith line room (totalsOf line) (partsAt line 0)
+relabelledOver line room = relabelledWith line room (totalsOf current line) (partsAt line 0)

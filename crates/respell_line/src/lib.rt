@@ -10,6 +10,7 @@ use answers::Answer;
 use answers::close_line;
 use answers::refuse;
 use counts::Counts;
+use layout::Edition;
 use measure_line::Totals;
 use measure_line::first_refusal;
 use measure_line::read_at;
@@ -80,7 +81,7 @@ pub fn relabel_spelled(line: &[u8], out: &mut [u8]) -> Answer
     ensures { λ r. ⌜ answered r (now (out .exit)) ≡ relabelledOver (now (line .entry)) (length (now (out .entry))) ⌝ }
 {
     let first = read_at(line, 0);
-    let t = total(line, first);
+    let t = total(Edition::Second, line, first);
     let found = first_refusal(t);
     if found.number != 0 {
         clear(out);

@@ -1,6 +1,8 @@
 // Each line of standard input is a stored row in hexadecimal digits, written into an output that is as long as a row may be.
-use run_program::Input;
 use run_program::was_asked;
+use run_writes::Form;
+use run_writes::Task;
+use run_writes::answer_tables;
 
 fn main() {
     if was_asked(
@@ -16,5 +18,5 @@ row in hexadecimal digits, `-` where there is none.
     ) {
         return;
     }
-    run_writes::answer_tables(b"row_writes", Input::Rows, false);
+    answer_tables(b"row_writes", Task::WriteRow, Form::Fields, false);
 }

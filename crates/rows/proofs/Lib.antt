@@ -2,6 +2,7 @@
 pub mod Steps
 pub mod OneRow
 pub mod RowBack
+pub mod ConvertRowBack
 pub mod Lists
 pub mod Replaced
 pub mod StrayRow

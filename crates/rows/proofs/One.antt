@@ -2,7 +2,7 @@
 use Prim.Native.Nat.{ℕ}
 use mathlib.Core.Path.{_≡_}
 use mathlib.Core.List.{List}
-use Rattle.rules.specs.RowAnswers.{ReadsRow, WritesRow}
+use Rattle.rules.specs.RowAnswers.{ReadsRow, WritesRow, ConvertsRow}
 use Rattle.answers.specs.declared.Answer.{Answer}
 use Rattle.answers.specs.Delivered.{answered}
 use Rattle.answers.proofs.One.{answered-one}
@@ -16,6 +16,9 @@ module _ {room : ℕ} {r q : Answer} {e f : List ℕ} where
 
   pub writes-row-one : (bytes : List ℕ) → WritesRow bytes room (answered r e) → WritesRow bytes room (answered q f) → (e ≡ f) × (r ≡ q)
   writes-row-one bytes a b = answered-one (one.writes-row-one a b)
+
+  pub converts-row-one : (bytes : List ℕ) → ConvertsRow bytes room (answered r e) → ConvertsRow bytes room (answered q f) → (e ≡ f) × (r ≡ q)
+  converts-row-one bytes a b = answered-one (one.converts-row-one a b)
 
   pub relabels-row-one : (row : List ℕ) → RelabelsRow row room (answered r e) → RelabelsRow row room (answered q f) → (e ≡ f) × (r ≡ q)
   relabels-row-one row a b = answered-one (back.relabels-row-one a b)

@@ -1,10 +1,10 @@
--- Demand 3 for rows: no row spells two rows. Reading a row, and writing a stored one, has one answer. Assumes nothing.
+-- Demand 3 for rows: no row spells two rows. Reading a row, and writing or converting a stored one, has one answer. Assumes nothing.
 use Prim.Native.Nat.{ℕ, zero, suc, _+_, _-_, _≤_, _<_}
 use mathlib.Core.Path.{_≡_, refl, sym, ap, ap₂, _∙_, subst}
 use mathlib.Core.Bool.{false}
 use mathlib.Core.List.{List, [], _∷_, _++_, append-nil, tail-eq-of-cons-eq, nil≢cons, cons≢nil}
 use native.Mathlib.Omega.{arith}
-use lib.ListN.{length, drop}
+use lib.ListN.{length}
 use Rattle.lang.specs.Digits.{valueFrom}
 use Rattle.lang.specs.Parts.{Opt, silent, written, optText}
 use Rattle.lang.specs.Order.{Each, none}
@@ -16,23 +16,25 @@ use Rattle.rules.specs.Lines.{Spelling, lineText}
 use Rattle.rules.specs.Limits.{maxLine}
 use Rattle.rules.specs.Fields.{Table, Says, Spells}
 use Rattle.rules.specs.Stored.{stores}
-use Rattle.rules.specs.Preferred.{preferred}
-use Rattle.rules.specs.Answers.{Answer, Delivers, Sound, Takes}
+use Rattle.rules.specs.Preferred.{preferred, preferredSpelling}
+use Rattle.rules.specs.Answers.{Answer, Delivers, Sound, ReadsForm}
 use Rattle.rules.specs.Rows.{thirdText, Row, annotations, SpellsRow, preferredThird, preferredRowSpelling, preferredRow, rowHeadSize, rowHead}
-use Rattle.rules.specs.RowAnswers.{GoodColumn, BadColumn, Moves, done, no-room, refused, ReadsThird, line, ReadsIntensity, ReadsRow, HoldsRow, WritesRow}
-use Rattle.rules.specs.Editions.{Edition}
+use Rattle.rules.specs.RowAnswers.{GoodColumn, BadColumn, Moves, done, no-room, refused, ReadsThird, line, ReadsIntensity, ReadsRow, HoldsRow, TakesRow, WritesRow, thirdAt, ConvertsRow}
+use Rattle.rules.specs.Editions.{Edition, ed1, current}
 use Rattle.rules.proofs.Cuts as rules
 use Rattle.rules.proofs.Digits.{one-number}
 use Rattle.rules.proofs.Fractions.{value-back, last-length}
-use Rattle.rules.proofs.OneAnswer.{delivers-one}
-use Rattle.rules.proofs.WritesOne.{takes-one}
+use Rattle.rules.proofs.OneAnswer.{delivers-one, form-one}
+use Rattle.rules.proofs.WritesOne.{holds-one, two-editions}
 use Rattle.rules.proofs.PreferredSpells.{said-in-order, preferred-says}
+use Rattle.shape.proofs.OneSpelling.{one-spelling}
 use Rattle.shape.proofs.Unambiguous.{unambiguous, reads-one}
 use Rattle.numbers.specs.Leading.{leading}
 use Rattle.numbers.proofs.Leads.{leading-read, all-digits}
 use Rattle.read_row.proofs.Cuts.{cut-same, no-cut, cut-one}
 use Rattle.read_row.proofs.Decimals.{decimal-lacks, dotted, point-dotted}
 use Rattle.write_row.proofs.Heads.{head-one}
+use Rattle.write_row.proofs.Held.{rest-holds}
 
 -- ---- a decimal is one by its text
 
@@ -164,12 +166,23 @@ reads-row-one {room = room} {c = c} (ReadsRow.good h {more = more} {place = plac
 
 -- ---- writing has one answer
 
-pub holds-row-one : {bytes : List ℕ} {r u : Row} → HoldsRow bytes r → HoldsRow bytes u → r ≡ u
-holds-row-one {bytes} {r} {u} x y =
+pub holds-row-one : {e f : Edition} {bytes : List ℕ} {r u : Row} → HoldsRow e bytes r → HoldsRow f bytes u → r ≡ u
+holds-row-one {e} {f} {r = r} {u = u} x y =
     let q = head-one (r .mz) (r .intensity) (x .mz) (x .intensity) (x .rest) (u .mz) (u .intensity) (y .mz) (y .intensity) (y .rest) (x .is ∙ sym (y .is)) in
-    let rest : x .rest ≡ y .rest = ap (drop rowHeadSize) (x .is ∙ sym (y .is)) in
-    let table = takes-one (subst (λ (l : List ℕ). Takes l (r .table)) rest (x .table)) (y .table) in
+    let table = holds-one e f (rest-holds x) (rest-holds y) in
     λ i. record { mz = q .0 i; intensity = q .1 i; table = table i }
+
+-- a row of an edition that can be read today
+taken : {e : Edition} {bytes : List ℕ} {r : Row} → HoldsRow e bytes r → Sound current (r .table) → TakesRow bytes r
+taken {e} h o = record { edition = e; holds = h; also = o }
+
+-- as every row of the current edition can
+taken-now : {bytes : List ℕ} {r : Row} → HoldsRow current bytes r → TakesRow bytes r
+taken-now h = taken h (h .table .sound)
+
+-- no bytes are of two editions
+two-editions-row : {bytes : List ℕ} {r u : Row} → HoldsRow ed1 bytes r → HoldsRow current bytes u → ⊥
+two-editions-row h g = two-editions (rest-holds h) (rest-holds g)
 
 -- a line is not too long and short enough
 one-size : {r u : Row} → r ≡ u → maxLine < length (preferred (r .table)) → length (preferred (u .table)) ≤ maxLine → ⊥
@@ -177,12 +190,32 @@ one-size e h g = let p = ap (λ (x : Row). length (preferred (x .table))) e in o
 
 pub writes-row-one : {bytes : List ℕ} {room : ℕ} {a c : Answer} → WritesRow bytes room a → WritesRow bytes room c → a ≡ c
 writes-row-one (WritesRow.no-row n) (WritesRow.no-row m) = refl
-writes-row-one (WritesRow.no-row n) (WritesRow.long u g k) = absurd (n u g)
-writes-row-one (WritesRow.no-row n) (WritesRow.fits u g k y) = absurd (n u g)
-writes-row-one (WritesRow.long r h l) (WritesRow.no-row m) = absurd (m r h)
+writes-row-one (WritesRow.no-row n) (WritesRow.old u g o) = absurd (n u (taken g o))
+writes-row-one (WritesRow.no-row n) (WritesRow.long u g k) = absurd (n u (taken-now g))
+writes-row-one (WritesRow.no-row n) (WritesRow.fits u g k y) = absurd (n u (taken-now g))
+writes-row-one (WritesRow.old r h o) (WritesRow.no-row m) = absurd (m r (taken h o))
+writes-row-one (WritesRow.old r h o) (WritesRow.old u g p) = refl
+writes-row-one (WritesRow.old r h o) (WritesRow.long u g k) = absurd (two-editions-row h g)
+writes-row-one (WritesRow.old r h o) (WritesRow.fits u g k y) = absurd (two-editions-row h g)
+writes-row-one (WritesRow.long r h l) (WritesRow.no-row m) = absurd (m r (taken-now h))
+writes-row-one (WritesRow.long r h l) (WritesRow.old u g p) = absurd (two-editions-row g h)
 writes-row-one (WritesRow.long r h l) (WritesRow.long u g k) = refl
 writes-row-one (WritesRow.long r h l) (WritesRow.fits u g k y) = absurd (one-size (holds-row-one h g) l k)
-writes-row-one (WritesRow.fits r h l x) (WritesRow.no-row m) = absurd (m r h)
+writes-row-one (WritesRow.fits r h l x) (WritesRow.no-row m) = absurd (m r (taken-now h))
+writes-row-one (WritesRow.fits r h l x) (WritesRow.old u g p) = absurd (two-editions-row g h)
 writes-row-one (WritesRow.fits r h l x) (WritesRow.long u g k) = absurd (one-size (holds-row-one g h) k l)
 writes-row-one {room = room} {c = c} (WritesRow.fits r h l x) (WritesRow.fits u g k y) =
     delivers-one x (subst (λ (z : Row). Delivers room (preferredRow z) c) (holds-row-one g h) y)
+
+-- ---- and so has converting
+
+pub converts-row-one : {bytes : List ℕ} {room : ℕ} {a c : Answer} → ConvertsRow bytes room a → ConvertsRow bytes room c → a ≡ c
+converts-row-one (ConvertsRow.no-row n) (ConvertsRow.no-row m) = refl
+converts-row-one (ConvertsRow.no-row n) (ConvertsRow.held u g y m) = absurd (n u g)
+converts-row-one (ConvertsRow.held r h x k) (ConvertsRow.no-row m) = absurd (m r h)
+converts-row-one {room = room} {c = c} (ConvertsRow.held r h {b = b} x k) (ConvertsRow.held u g {b = d} y m) =
+    let q = holds-row-one g h in
+    let z = form-one one-spelling (subst (λ (v : Row). ReadsForm current (preferredSpelling (v .table)) (room - rowHeadSize) d) q y) x in
+    moves-one k
+    (subst (λ (o : Answer). Moves (stores (rowHead (r .mz) (r .intensity))) (thirdAt r) room o c) z
+    (subst (λ (v : Row). Moves (stores (rowHead (v .mz) (v .intensity))) (thirdAt v) room d c) q m))

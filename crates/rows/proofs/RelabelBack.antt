@@ -16,17 +16,16 @@ use Rattle.rules.specs.Fields.{Table, Says}
 use Rattle.rules.specs.Limits.{fits, maxLine, maxAnnotations}
 use Rattle.rules.specs.Preferred.{preferred}
 use Rattle.rules.specs.Stored.{stores, stored}
-use Rattle.rules.specs.Answers.{Answer, refuses, gives, no-room, done, Takes, Reads, Writes}
+use Rattle.rules.specs.Answers.{Answer, refuses, gives, no-room, done, Reads, Writes}
 use Rattle.rules.specs.Largest.{maxTable}
 use Rattle.rules.specs.Editions.{current}
-use Rattle.rules.specs.Rows.{tab, thirdText, Row, preferredThird, preferredRow, rowHeadSize, rowHead, storedRow}
+use Rattle.rules.specs.Rows.{tab, thirdText, Row, preferredThird, preferredRow, rowHeadSize, rowHead}
 use Rattle.rules.specs.RowAnswers.{maxRow, at-tab, no-tab, Moves, ReadsThird, line, ReadsIntensity, ReadsRow, HoldsRow, WritesRow}
-use Rattle.rules.proofs.SoundEditions.{takes-current}
 use Rattle.write_table.proofs.Holds.{take-given}
 use Rattle.lines.specs.Relabels as lines
 use Rattle.lines.proofs.Back.{relabel-enough}
 use Rattle.lines.proofs.Enough.{delivers-enough, read-enough}
-use Rattle.lines.proofs.Right.{Read, reads-table, bytes-read}
+use Rattle.lines.proofs.Right.{Read, reads-table, bytes-read, holds-read}
 use Rattle.read_row.proofs.LinePlaces.{reads-fill}
 use Rattle.rows.specs.Relabels.{maxStoredRow, RelabelsRow, refused, relabelled}
 use Rattle.rows.proofs.OneRow.{reads-row-one, holds-row-one, writes-row-one}
@@ -67,16 +66,14 @@ line-near third {a} r e x l = by (decLe (length (preferred (x .table))) (length 
     by : Dec (length (preferred (x .table)) ≤ length third + maxAnnotations) → length (preferred (x .table)) ≤ length third + maxAnnotations
     by (yes h) = h
     by (no h) =
-        let holds : Takes (take (a .size) (a .out)) (x .table) = takes-current (x .table) (x .sound) (sym (bytes-read third maxTable x)) in
         let w : Writes (take (a .size) (a .out)) (length third + maxAnnotations) (refuses (length third + maxAnnotations) 8 (length (preferred (x .table)))) =
-        Writes.fits (x .table) holds l (no-room (omega arith)) in
+        Writes.fits (x .table) (holds-read third maxTable x) l (no-room (omega arith)) in
         absurd (relabel-enough third (lines.relabelled r e w) (λ s. omega arith) refl)
 
 -- the stored row that was read, and what it is written as
 record ReadNear (row bytes : List ℕ) : Type 0 where
   means : Row
-  holds : HoldsRow bytes means
-  is : storedRow means ≡ bytes
+  holds : HoldsRow current bytes means
   near : length (preferred (means .table)) ≤ maxLine → length (preferredRow means) ≤ length row + maxAnnotations
 
 -- without a line there are no annotations
@@ -108,8 +105,7 @@ module _ (mz d : Decimal) (f : T (fits mz)) (g : T (fits d)) (row : List ℕ) wh
       take-append-add head (b .out) (b .size) ∙ ap (λ (l : List ℕ). head ++ l) (bytes-read third maxTable x) in
       record {
         means = meant (x .table);
-        holds = record { mz = f; intensity = g; rest = stored current (x .table); table = takes-current (x .table) (x .sound) refl; is = sym q };
-        is = sym q;
+        holds = record { mz = f; intensity = g; rest = stored current (x .table); table = record { sound = x .sound; is = refl }; is = sym q };
         near = h (x .table) (λ z. said-nothing (no-annotations (x .text ∙ z) (x .says))) (line-near third r e x);
       }
   near-third (line r (Moves.no-room e)) n h = absurd (omega arith)
@@ -153,6 +149,7 @@ reads-near (ReadsRow.good h (no-tab l) f r) e = absurd (nothing-behind r e)
 pub relabel-row-enough : {row : List ℕ} {room : ℕ} {b : Answer} → RelabelsRow row room b → min (length row + maxAnnotations) maxRow ≤ room → b .number ≡ 8 → ⊥
 relabel-row-enough (refused r h) large e = read-row-enough r (le-refl maxStoredRow) e
 relabel-row-enough (relabelled r n (WritesRow.no-row x)) large e = omega arith
+relabel-row-enough (relabelled r n (WritesRow.old u h o)) large e = omega arith
 relabel-row-enough (relabelled r n (WritesRow.long u h l)) large e = omega arith
 relabel-row-enough {row} {room} (relabelled r n (WritesRow.fits u h l d)) large e =
     let x = reads-near r n in
@@ -167,6 +164,7 @@ relabel-row-enough {row} {room} (relabelled r n (WritesRow.fits u h l d)) large 
 writes-again : {bytes : List ℕ} {room room′ : ℕ} {a : Answer} → WritesRow bytes room a → a .number ≡ 0 → a .size ≤ room′
     → WritesRow bytes room′ (gives room′ (take (a .size) (a .out)))
 writes-again (WritesRow.no-row n) e l = absurd (omega arith)
+writes-again (WritesRow.old r h o) e l = absurd (omega arith)
 writes-again (WritesRow.long r h g) e l = absurd (omega arith)
 writes-again (WritesRow.fits r h g (no-room d)) e l = absurd (omega arith)
 writes-again {bytes} {room} {room′} (WritesRow.fits r h g (done d)) e l =
@@ -196,11 +194,10 @@ pub given-again-row : {row : List ℕ} {room room′ : ℕ} {a : Answer} → Rel
     → RelabelsRow (take (a .size) (a .out)) room′ (gives room′ (take (a .size) (a .out)))
 given-again-row (refused r h) e l = absurd (h e)
 given-again-row {room′ = room′} {a = a} (relabelled {a = t} r n w) e l =
-    let x = reads-near r n in
-    let s = storedRow (x .means) in
-    let read = read-back-row w e (x .holds) maxStoredRow (omega (arith, ap length (x .is), length-take (t .size) (t .out), reads-inside r n)) in
+    let s = take (t .size) (t .out) in
+    let read = read-back-row w e maxStoredRow (omega (arith, length-take (t .size) (t .out), reads-inside r n)) in
     relabelled read refl
-    (subst (λ (v : List ℕ). WritesRow v room′ (gives room′ (take (a .size) (a .out)))) (sym (take-given maxStoredRow s ∙ x .is)) (writes-again w e l))
+    (subst (λ (v : List ℕ). WritesRow v room′ (gives room′ (take (a .size) (a .out)))) (sym (take-given maxStoredRow s)) (writes-again w e l))
 
 -- and every answer is this one
 pub relabel-row-same : {row : List ℕ} {room room′ : ℕ} {a b : Answer} → RelabelsRow row room a → a .number ≡ 0 → a .size ≤ room′

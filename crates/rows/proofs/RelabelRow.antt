@@ -16,15 +16,15 @@ use Rattle.rules.specs.Fields.{Table, Says}
 use Rattle.rules.specs.Limits.{fits, maxLine}
 use Rattle.rules.specs.Preferred.{preferred}
 use Rattle.rules.specs.Stored.{stores, stored}
-use Rattle.rules.specs.Answers.{Answer, refuses, gives, Delivers, no-room, done, Sound, Reads, ReadsSpelling, ReadsForm, ReadsRules, ReadsSum, Writes, no-table}
+use Rattle.rules.specs.Answers.{Answer, refuses, gives, Delivers, no-room, done, Sound, Reads, ReadsSpelling, ReadsForm, ReadsRules, ReadsSum, Holds, Writes, no-table}
 use Rattle.rules.specs.Largest.{maxTable}
 use Rattle.rules.specs.Editions.{current}
 use Rattle.rules.specs.Rows.{tab, Row, preferredRow, rowHeadSize, rowHead, storedRow}
 use Rattle.rules.specs.RowAnswers.{maxRow, Cut, at-tab, no-tab, GoodColumn, Moves, ReadsThird, line, ReadsIntensity, ReadsRow, long, HoldsRow, WritesRow}
 use Rattle.rules.proofs.Rises.{line-rises}
 use Rattle.rules.proofs.Totals.{in-none}
-use Rattle.rules.proofs.WritesOne.{takes-one}
-use Rattle.rules.proofs.SoundEditions.{takes-current}
+use Rattle.rules.proofs.OneWriting.{taken}
+use Rattle.rules.proofs.WritesOne.{holds-one, two-editions}
 use Rattle.put_bytes.specs.Puts.{maxPlace}
 use Rattle.scan_line.specs.Verdicts.{JudgedBy}
 use Rattle.scan_line.specs.Steps.{machineBytes, scannedBy}
@@ -222,20 +222,24 @@ module _ (mz intensity : Decimal) (f : T (fits mz)) (g : T (fits intensity)) whe
   bare-text : preferredRow (meant []) ≡ decimalText mz ++ (tab ++ decimalText intensity)
   bare-text = ap (λ (l : List ℕ). decimalText mz ++ (tab ++ l)) (append-nil (decimalText intensity))
 
-  held : (t : Table) → Sound current t → HoldsRow (storedRow (meant t)) (meant t)
-  held t s = record { mz = f; intensity = g; rest = stored current t; table = takes-current t s refl; is = refl }
+  held : (t : Table) → Sound current t → HoldsRow current (storedRow (meant t)) (meant t)
+  held t s = record { mz = f; intensity = g; rest = stored current t; table = record { sound = s; is = refl }; is = refl }
 
   module _ (t : Table) (s : Sound current t) (some : 0 < length (preferred t)) (front : List ℕ) (is : front ≡ columns mz intensity) (few : length front ≤ maxRow)
       (n room : ℕ) (near : n ≤ maxLine) (small : room ≤ maxPlace) where
+    table-held : Holds current (stored current t) t
+    table-held = record { sound = s; is = refl }
+
     line-written : {b : Answer} → Writes (stored current t) (room - length front) b → WritesRow (storedRow (meant t)) room (spelledOf front n room b)
     unfolding placeOf
-    line-written (no-table x) = absurd (x t (takes-current t s refl))
+    line-written (no-table x) = absurd (x t (taken table-held s))
+    line-written (Writes.old u h o) = absurd (two-editions h table-held)
     line-written (Writes.long u h l) =
         let e : placeOf 1 maxLine n (length front) ≡ maxLine = rw (le-ltb maxLine n near) in
         subst (WritesRow (storedRow (meant t)) room) (sym (spelled-refused front n room 1 maxLine (λ q. absurd (omega arith)) e))
-        (WritesRow.long (meant t) (held t s) (subst (λ (x : Table). maxLine < length (preferred x)) (takes-one h (takes-current t s refl)) l))
+        (WritesRow.long (meant t) (held t s) (subst (λ (x : Table). maxLine < length (preferred x)) (holds-one current current h table-held) l))
     line-written {b} (Writes.fits u h l d) =
-        let q = takes-one h (takes-current t s refl) in
+        let q = holds-one current current h table-held in
         let m = subst (λ (x : Table). length (preferred x) ≤ maxLine) q l in
         WritesRow.fits (meant t) (held t s) m
         (subst (λ (x : List ℕ). Delivers room x (spelledOf front n room b)) (ap (λ (x : List ℕ). x ++ preferred t) is ∙ row-text t some)

@@ -1,5 +1,5 @@
 -- One bad row costs only itself: replace a row by other bytes without a line feed, and every other row's answer is unchanged, while the
--- replaced one gets what it would alone. And a list written row by row reads back to its rows, of the current edition. Assumes nothing.
+-- replaced one gets what it would alone. And a list written row by row reads back to the bytes of its rows. Assumes nothing.
 use Prim.Native.Nat.{ℕ, _≤_}
 use mathlib.Core.Path.{_≡_, refl, sym, ap, ap₂, _∙_, subst}
 use mathlib.Core.Bool.{Bool, true, not, _&&_}
@@ -15,7 +15,7 @@ use Rattle.rules.specs.Elements.{symbols}
 use Rattle.rules.specs.Decimals.{Decimal, decimalText}
 use Rattle.rules.specs.Lines.{Spelling, lineText}
 use Rattle.rules.specs.Answers.{Answer, gives}
-use Rattle.rules.specs.Rows.{tab, RowSpelling, thirdText, rowText, Row, preferredRowSpelling, storedRow}
+use Rattle.rules.specs.Rows.{tab, RowSpelling, thirdText, rowText, Row, preferredRowSpelling}
 use Rattle.rules.specs.RowAnswers.{lacks, ReadsRow, HoldsRow, WritesRow}
 use Rattle.rules.specs.Editions.{current}
 use Rattle.rules.specs.Lists.{feed, RowsOf, no-rows, last-row, next-row, listText, ReadsList}
@@ -24,7 +24,7 @@ use Rattle.shape.proofs.MeansNumbers.{means-decimal}
 use Rattle.shape.proofs.MeansLine.{means-line}
 use Rattle.read_row.proofs.Cuts.{lacks-more, lacks-append}
 use Rattle.rows.proofs.OneRow.{reads-row-one}
-use Rattle.rows.proofs.RowBack.{wrote, read-back-row, current-row}
+use Rattle.rows.proofs.RowBack.{wrote, read-back-row}
 use Rattle.rows.proofs.Lists.{rows-one, rows-some}
 
 -- ---- answers to rows, one by one
@@ -176,45 +176,24 @@ written-free (next x e) =
     let w = wrote (x .writes) (x .done) in
     also (subst (λ (v : List ℕ). T (lacks 10 v)) (sym (w .is)) (row-free (preferredRowSpelling (w .row)))) (written-free e)
 
-written-answers : {room room′ : ℕ} {held : List (List ℕ)} {rows : List Row} {us : List Answer} → Each HoldsRow held rows → Each (Done room) held us
-    → AllFit room′ (map storedRow rows) → Answers room′ (map writtenRow us) (map (gives room′) (map storedRow rows))
-written-answers none none no-other = none
-written-answers {room′ = room′} (next h g) (next x e) (fits-too l f) = next (read-back-row (x .writes) (x .done) h room′ l) (written-answers g e f)
+written-answers : {room room′ : ℕ} {held : List (List ℕ)} {us : List Answer} → Each (Done room) held us → AllFit room′ held
+    → Answers room′ (map writtenRow us) (map (gives room′) held)
+written-answers none no-other = none
+written-answers {room′ = room′} (next x e) (fits-too l f) = next (read-back-row (x .writes) (x .done) room′ l) (written-answers e f)
 
--- a line feed behind each row: the list reads back to the stored rows, of the current edition, of the rows that were held
-pub list-back : {room room′ : ℕ} {held : List (List ℕ)} {rows : List Row} {us : List Answer} → Each HoldsRow held rows → Each (Done room) held us
-    → AllFit room′ (map storedRow rows) → ReadsList (listText (map writtenRow us)) room′ (map (gives room′) (map storedRow rows))
-list-back {us = us} h e f =
+-- a line feed behind each row: the list reads back to the very bytes of the stored rows
+pub list-back : {room room′ : ℕ} {held : List (List ℕ)} {us : List Answer} → Each (Done room) held us → AllFit room′ held
+    → ReadsList (listText (map writtenRow us)) room′ (map (gives room′) held)
+list-back {us = us} e f =
     let rows = map writtenRow us in
     let r : RowsOf (listText rows) rows =
     subst (λ (l : List ℕ). RowsOf l rows) (append-nil (listText rows)) (subst (λ (l : List (List ℕ)). RowsOf (listText rows ++ []) l) (append-nil rows) (rows-then (written-free e) no-rows)) in
-    record { rows = rows; are = r; each = written-answers h e f }
+    record { rows = rows; are = r; each = written-answers e f }
 
--- what was written was held
-pub rows-held : {room : ℕ} {held : List (List ℕ)} {us : List Answer} → Each (Done room) held us → (rows : List Row) × Each HoldsRow held rows
+-- what was written was held, as rows of the current edition
+pub rows-held : {room : ℕ} {held : List (List ℕ)} {us : List Answer} → Each (Done room) held us → (rows : List Row) × Each (HoldsRow current) held rows
 rows-held none = ([], none)
 rows-held (next x e) =
     let w = wrote (x .writes) (x .done) in
     let more = rows-held e in
     (w .row ∷ more .0, next (w .holds) (more .1))
-
--- a stored row of the current edition
-pub record HoldsCurrent (bytes : List ℕ) (r : Row) : Type 0 where
-  pub holds : HoldsRow bytes r
-  pub edition : holds .table .edition ≡ current
-
-current-held : {held : List (List ℕ)} {rows : List Row} → Each HoldsCurrent held rows → Each HoldsRow held rows
-current-held none = none
-current-held (next x e) = next (x .holds) (current-held e)
-
-current-rows : {held : List (List ℕ)} {rows : List Row} → Each HoldsCurrent held rows → map storedRow rows ≡ held
-current-rows none = refl
-current-rows (next x e) = ap₂ _∷_ (current-row (x .holds) (x .edition)) (current-rows e)
-
--- of stored rows of the current edition it reads back to these very bytes
-pub list-back-current : {room room′ : ℕ} {held : List (List ℕ)} {rows : List Row} {us : List Answer} → Each HoldsCurrent held rows → Each (Done room) held us
-    → AllFit room′ held → ReadsList (listText (map writtenRow us)) room′ (map (gives room′) held)
-list-back-current {room′ = room′} {us = us} h e f =
-    let q = current-rows h in
-    subst (λ (l : List (List ℕ)). ReadsList (listText (map writtenRow us)) room′ (map (gives room′) l)) q
-    (list-back (current-held h) e (subst (AllFit room′) (sym q) f))

@@ -1,5 +1,4 @@
--- Back again: what was written reads to the stored row of the current edition, the very bytes where they are of it; and what was read is what
--- the row spells. Assumes nothing.
+-- Back again: what was written reads to the very bytes of the stored row; and what was read is what the row spells. Assumes nothing.
 use Prim.Native.Nat.{ℕ, _+_, _-_, _≤_}
 use mathlib.Core.Path.{_≡_, refl, sym, ap, ap₂, _∙_, subst}
 use mathlib.Core.List.{List, [], _∷_, _++_, append-assoc, append-nil}
@@ -17,7 +16,7 @@ use Rattle.rules.specs.Stored.{stores, stored}
 use Rattle.rules.specs.Answers.{Answer, gives, Delivers, no-room, done, Sound}
 use Rattle.rules.specs.Rows.{tab, thirdText, Row, SpellsRow, preferredThird, preferredRow, rowHeadSize, rowHead, storedRow}
 use Rattle.rules.specs.RowAnswers.{maxRow, lacks, at-tab, no-tab, Moves, ReadsThird, line, ReadsIntensity, ReadsRow, HoldsRow, WritesRow}
-use Rattle.rules.specs.Editions.{Edition, current}
+use Rattle.rules.specs.Editions.{current}
 use Rattle.rules.proofs.Rising.{decimal-some}
 use Rattle.shape.proofs.OneSpelling.{one-spelling}
 use Rattle.write_table.proofs.Holds.{take-given}
@@ -25,7 +24,7 @@ use Rattle.lines.proofs.Back.{reads-preferred}
 use Rattle.lines.proofs.Right.{reads-table}
 use Rattle.read_row.proofs.Cuts.{no-cut}
 use Rattle.read_row.proofs.Decimals.{decimal-lacks, decimal-short}
-use Rattle.rows.proofs.OneRow.{reads-row-one, holds-row-one}
+use Rattle.rows.proofs.OneRow.{reads-row-one}
 
 -- ---- reading what was written
 
@@ -82,7 +81,7 @@ module _ (r : Row) (f : T (fits (r .mz))) (g : T (fits (r .intensity))) (s : Sou
 -- the row that was written is the preferred one of the stored row
 pub record Wrote (bytes : List ℕ) (a : Answer) : Type 0 where
   pub row : Row
-  pub holds : HoldsRow bytes row
+  pub holds : HoldsRow current bytes row
   pub short : length (preferred (row .table)) ≤ maxLine
   pub is : take (a .size) (a .out) ≡ preferredRow row
 
@@ -92,27 +91,28 @@ delivered-row r {room} (done h) e = take-given room (preferredRow r)
 
 pub wrote : {bytes : List ℕ} {room : ℕ} {a : Answer} → WritesRow bytes room a → a .number ≡ 0 → Wrote bytes a
 wrote (WritesRow.no-row n) e = absurd (omega arith)
+wrote (WritesRow.old r h o) e = absurd (omega arith)
 wrote (WritesRow.long r h l) e = absurd (omega arith)
 wrote (WritesRow.fits r h l d) e = record { row = r; holds = h; short = l; is = delivered-row r d e }
 
--- the stored row, of the current edition, of the row that was written
-pub read-back-row : {bytes : List ℕ} {r : Row} {room : ℕ} {a : Answer} → WritesRow bytes room a → a .number ≡ 0 → HoldsRow bytes r → (room′ : ℕ) → length (storedRow r) ≤ room′
-    → ReadsRow (take (a .size) (a .out)) room′ (gives room′ (storedRow r))
-read-back-row {r = r} {a = a} w e h room′ g =
+-- the bytes of a stored row of the current edition
+pub current-row : {bytes : List ℕ} {r : Row} → HoldsRow current bytes r → storedRow r ≡ bytes
+current-row {r = r} h = ap (λ (l : List ℕ). stores (rowHead (r .mz) (r .intensity)) ++ l) (h .table .is) ∙ h .is
+
+-- reading gives these bytes, in some answer, and so in every one
+pub read-back-row : {bytes : List ℕ} {room : ℕ} {a : Answer} → WritesRow bytes room a → a .number ≡ 0 → (room′ : ℕ) → length bytes ≤ room′
+    → ReadsRow (take (a .size) (a .out)) room′ (gives room′ bytes)
+read-back-row {bytes} w e room′ g =
     let x = wrote w e in
-    let one = holds-row-one (x .holds) h in
-    let short : length (preferred (r .table)) ≤ maxLine = subst (λ (u : Row). length (preferred (u .table)) ≤ maxLine) one (x .short) in
-    subst (λ (y : List ℕ). ReadsRow y room′ (gives room′ (storedRow r))) (sym (x .is ∙ ap preferredRow one))
-    (row-read r (h .mz) (h .intensity) (h .table .also) short room′ g)
+    let h = x .holds in
+    let q = current-row h in
+    subst (λ (y : List ℕ). ReadsRow y room′ (gives room′ bytes)) (sym (x .is))
+    (subst (λ (y : List ℕ). ReadsRow (preferredRow (x .row)) room′ (gives room′ y)) q
+    (row-read (x .row) (h .mz) (h .intensity) (h .table .sound) (x .short) room′ (omega (arith, ap length q))))
 
-pub read-back-row-one : {bytes : List ℕ} {r : Row} {room room′ : ℕ} {a b : Answer} → WritesRow bytes room a → a .number ≡ 0 → HoldsRow bytes r → length (storedRow r) ≤ room′
-    → ReadsRow (take (a .size) (a .out)) room′ b → b ≡ gives room′ (storedRow r)
-read-back-row-one {room′ = room′} w e h g r = reads-row-one r (read-back-row w e h room′ g)
-
--- of bytes of the current edition these are the bytes
-pub current-row : {bytes : List ℕ} {r : Row} (h : HoldsRow bytes r) → h .table .edition ≡ current → storedRow r ≡ bytes
-current-row {r = r} h e =
-    ap (λ (l : List ℕ). stores (rowHead (r .mz) (r .intensity)) ++ l) (ap (λ (d : Edition). stored d (r .table)) (sym e) ∙ h .table .holds .is) ∙ h .is
+pub read-back-row-one : {bytes : List ℕ} {room room′ : ℕ} {a b : Answer} → WritesRow bytes room a → a .number ≡ 0 → length bytes ≤ room′
+    → ReadsRow (take (a .size) (a .out)) room′ b → b ≡ gives room′ bytes
+read-back-row-one {room′ = room′} w e g r = reads-row-one r (read-back-row w e room′ g)
 
 -- ---- what was read
 

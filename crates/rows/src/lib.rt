@@ -1,11 +1,12 @@
-// Rows of a peak list: read, written, spelled anew, and handed out of a list. Document 02, M-101. Every row is answered alone.
+// Rows of a peak list: read, written, converted, spelled anew, and handed out of a list. Document 02, M-101 and M-112. Every row is answered alone.
 ghost use mathlib.Core.Path.{_≡_};
 ghost use lib.ListN.{length};
-ghost use Rattle.rules.specs.RowAnswers.{ReadsRow, WritesRow};
+ghost use Rattle.rules.specs.RowAnswers.{ReadsRow, WritesRow, ConvertsRow};
 ghost use Rattle.answers.specs.Delivered.{answered};
 ghost use Rattle.rows.specs.Relabels.{RelabelsRow};
 ghost use Rattle.rows.specs.Walks.{nextRowOf};
 use answers::Answer;
+use convert_row::convert_row_by;
 use io_parts::line_end;
 use read_row::read_row_by;
 use respell_row::relabel_row_by;
@@ -34,6 +35,14 @@ pub fn write_row(stored: &[u8], out: &mut [u8]) -> Answer
 {
     let made = machine();
     write_row_by(&made, stored, out)
+}
+
+// The stored row whose table is that of edition 2 for the line of a stored row's table of edition 1, or why there is none.
+pub fn convert_row(stored: &[u8], out: &mut [u8]) -> Answer
+    ensures { λ r. ⌜ ConvertsRow (now (stored .entry)) (length (now (out .entry))) (answered r (now (out .exit))) ⌝ }
+{
+    let made = machine();
+    convert_row_by(&made, stored, out)
 }
 
 // The preferred spelling of a row, or why there is none.

@@ -9,10 +9,9 @@ use Rattle.lang.proofs.Deriv.{and-0, and-i}
 use Rattle.rules.specs.Annotations.{SpelledAnnotation}
 use Rattle.rules.specs.Lines.{Spelling}
 use Rattle.rules.specs.Fields.{Table}
-use Rattle.rules.specs.Editions.{Edition, ed1, ed2, current}
-use Rattle.rules.specs.Stored.{stored}
+use Rattle.rules.specs.Editions.{Edition, ed1, ed2}
 use Rattle.rules.specs.House.{commonRules, longEnough, annotationRules, formed, firstFailing}
-use Rattle.rules.specs.Answers.{Sound, Takes}
+use Rattle.rules.specs.Answers.{Sound}
 use Rattle.rules.proofs.FitAnnotations.{passed}
 
 -- a search that goes on
@@ -38,7 +37,3 @@ sound-in ed1 t s =
       sum = s .sum;
     }
 sound-in ed2 t s = s
-
--- the bytes of a sound table of the current edition are taken
-pub takes-current : {bytes : List ℕ} (t : Table) → Sound current t → stored current t ≡ bytes → Takes bytes t
-takes-current t s e = record { edition = current; holds = record { sound = s; is = e }; also = s }

@@ -1,4 +1,4 @@
--- Document 01, "Numbers of refusal": what reading and writing answer, and every byte of the output. Assumes nothing.
+-- Document 01, "Numbers of refusal", and document 02, M-112: what reading, writing and converting answer, and every byte of the output. Assumes nothing.
 use Prim.Native.Nat.{ℕ, _-_, _<_, _≤_}
 use mathlib.Core.Path.{_≡_}
 use mathlib.Core.List.{List, _++_}
@@ -10,8 +10,8 @@ use Rattle.rules.specs.Lines.{Spelling, lineText, Misshapen}
 use Rattle.rules.specs.Fields.{Table, Says}
 use Rattle.rules.specs.Limits.{maxLine, lineMarks}
 use Rattle.rules.specs.House.{firstForeign, firstBreach, firstExcess}
-use Rattle.rules.specs.Preferred.{preferred}
-use Rattle.rules.specs.Editions.{Edition, current}
+use Rattle.rules.specs.Preferred.{preferred, preferredSpelling}
+use Rattle.rules.specs.Editions.{Edition, ed1, current}
 use Rattle.rules.specs.Stored.{stored}
 
 -- an answer, with all bytes of the output
@@ -41,15 +41,15 @@ pub data ReadsSum (e : Edition) (s : Spelling) (room : ℕ) : Answer → Type 0 
   excess : (place : ℕ) → firstExcess 0 0 s ≡ written place → ReadsSum e s room (refuses room 7 place)
   kept : firstExcess 0 0 s ≡ silent → (t : Table) → Each Says s t → {a : Answer} → Delivers room (stored e t) a → ReadsSum e s room a
 
--- of a spelling within the limits whose sequences are of the plain form
+-- of a spelling within the limits whose sequences are of the form that the edition asks for
 pub data ReadsRules (e : Edition) (s : Spelling) (room : ℕ) : Answer → Type 0 where
-  breach : (place : ℕ) → firstBreach current 0 s ≡ written place → ReadsRules e s room (refuses room 6 place)
-  kept : firstBreach current 0 s ≡ silent → {a : Answer} → ReadsSum e s room a → ReadsRules e s room a
+  breach : (place : ℕ) → firstBreach e 0 s ≡ written place → ReadsRules e s room (refuses room 6 place)
+  kept : firstBreach e 0 s ≡ silent → {a : Answer} → ReadsSum e s room a → ReadsRules e s room a
 
 -- of a spelling within the limits
 pub data ReadsForm (e : Edition) (s : Spelling) (room : ℕ) : Answer → Type 0 where
-  foreign : (place : ℕ) → firstForeign current 0 s ≡ written place → ReadsForm e s room (refuses room 11 place)
-  kept : firstForeign current 0 s ≡ silent → {a : Answer} → ReadsRules e s room a → ReadsForm e s room a
+  foreign : (place : ℕ) → firstForeign e 0 s ≡ written place → ReadsForm e s room (refuses room 11 place)
+  kept : firstForeign e 0 s ≡ silent → {a : Answer} → ReadsRules e s room a → ReadsForm e s room a
 
 -- of a line with a shape
 pub data ReadsSpelling (e : Edition) (s : Spelling) (room : ℕ) : Answer → Type 0 where
@@ -61,7 +61,7 @@ pub data Reads (line : List ℕ) (room : ℕ) : Answer → Type 0 where
   misshapen : length line ≤ maxLine → {number place : ℕ} → Misshapen line number place → Reads line room (refuses room number place)
   spelled : length line ≤ maxLine → (s : Spelling) → lineText s ≡ line → {a : Answer} → ReadsSpelling current s room a → Reads line room a
 
--- ---- writing: 9, 1, 8
+-- ---- writing: 9, 10, 1, 8
 
 -- some line, of any length, spells the table within limits and house rules, as the edition has them
 pub record Sound (e : Edition) (t : Table) : Type 0 where
@@ -77,7 +77,7 @@ pub record Holds (e : Edition) (bytes : List ℕ) (t : Table) : Type 0 where
   pub sound : Sound e t
   pub is : stored e t ≡ bytes
 
--- the writer takes them: a table of an edition, of which the current edition's table of the same fields is one too
+-- stored bytes are a table that can be read today: one of an edition, of which the current edition's table of the same fields is one too
 pub record Takes (bytes : List ℕ) (t : Table) : Type 0 where
   pub edition : Edition
   pub holds : Holds edition bytes t
@@ -85,5 +85,12 @@ pub record Takes (bytes : List ℕ) (t : Table) : Type 0 where
 
 pub data Writes (bytes : List ℕ) (room : ℕ) : Answer → Type 0 where
   no-table : ((t : Table) → Takes bytes t → ⊥) → Writes bytes room (refuses room 9 0)
-  long : (t : Table) → Takes bytes t → maxLine < length (preferred t) → Writes bytes room (refuses room 1 maxLine)
-  fits : (t : Table) → Takes bytes t → length (preferred t) ≤ maxLine → {a : Answer} → Delivers room (preferred t) a → Writes bytes room a
+  old : (t : Table) → Holds ed1 bytes t → Sound current t → Writes bytes room (refuses room 10 0)
+  long : (t : Table) → Holds current bytes t → maxLine < length (preferred t) → Writes bytes room (refuses room 1 maxLine)
+  fits : (t : Table) → Holds current bytes t → length (preferred t) ≤ maxLine → {a : Answer} → Delivers room (preferred t) a → Writes bytes room a
+
+-- ---- converting a table of edition 1: 9; then what reading its line answers behind the limits, however long it is: 11, 6, 8
+
+pub data Converts (bytes : List ℕ) (room : ℕ) : Answer → Type 0 where
+  no-table : ((t : Table) → Holds ed1 bytes t → ⊥) → Converts bytes room (refuses room 9 0)
+  held : (t : Table) → Holds ed1 bytes t → {a : Answer} → ReadsForm current (preferredSpelling t) room a → Converts bytes room a

@@ -1,4 +1,4 @@
--- Document 02, M-101: what reading and writing a row answer, and every byte of the output. Assumes nothing.
+-- Document 02, M-101 and M-112: what reading, writing and converting a row answer, and every byte of the output. Assumes nothing.
 use Prim.Native.Nat.{ℕ, _+_, _-_, _<_, _≤_}
 use mathlib.Core.Path.{_≡_}
 use mathlib.Core.Bool.{Bool, true, false, not, _&&_}
@@ -8,9 +8,10 @@ use lib.ListN.{length}
 use Rattle.rules.specs.Decimals.{Decimal, decimalText}
 use Rattle.rules.specs.Limits as Limits
 use Rattle.rules.specs.Limits.{maxLine}
-use Rattle.rules.specs.Preferred.{preferred}
+use Rattle.rules.specs.Preferred.{preferred, preferredSpelling}
 use Rattle.rules.specs.Stored.{stores}
-use Rattle.rules.specs.Answers.{Answer, refuses, Delivers, Reads, Takes}
+use Rattle.rules.specs.Answers.{Answer, refuses, Delivers, Reads, ReadsForm, Sound, Holds}
+use Rattle.rules.specs.Editions.{Edition, ed1, current}
 use Rattle.rules.specs.Rows.{tab, Row, preferredRow, rowHeadSize, rowHead, storedRow}
 
 -- a row is at most 4,160 bytes
@@ -62,17 +63,35 @@ pub data ReadsRow (row : List ℕ) (room : ℕ) : Answer → Type 0 where
   good : length row ≤ maxRow → {column more : List ℕ} {place : ℕ} → Cut row column more place → {mz : Decimal} → GoodColumn column mz
       → {a : Answer} → ReadsIntensity mz more place room a → ReadsRow row room a
 
--- ---- writing: 9, 1, 8
+-- ---- writing: 9, 10, 1, 8
 
--- stored bytes are a row: its head, and behind it bytes that the writer of tables takes
-pub record HoldsRow (bytes : List ℕ) (r : Row) : Type 0 where
+-- stored bytes are a row: its head, and behind it a table of an edition
+pub record HoldsRow (e : Edition) (bytes : List ℕ) (r : Row) : Type 0 where
   pub mz : T (Limits.fits (r .mz))
   pub intensity : T (Limits.fits (r .intensity))
   pub rest : List ℕ
-  pub table : Takes rest (r .table)
+  pub table : Holds e rest (r .table)
   pub is : stores (rowHead (r .mz) (r .intensity)) ++ rest ≡ bytes
 
+-- stored bytes are a row that can be read today, as Takes has it of its table
+pub record TakesRow (bytes : List ℕ) (r : Row) : Type 0 where
+  pub edition : Edition
+  pub holds : HoldsRow edition bytes r
+  pub also : Sound current (r .table)
+
 pub data WritesRow (bytes : List ℕ) (room : ℕ) : Answer → Type 0 where
-  no-row : ((r : Row) → HoldsRow bytes r → ⊥) → WritesRow bytes room (refuses room 9 0)
-  long : (r : Row) → HoldsRow bytes r → maxLine < length (preferred (r .table)) → WritesRow bytes room (refuses room 1 maxLine)
-  fits : (r : Row) → HoldsRow bytes r → length (preferred (r .table)) ≤ maxLine → {a : Answer} → Delivers room (preferredRow r) a → WritesRow bytes room a
+  no-row : ((r : Row) → TakesRow bytes r → ⊥) → WritesRow bytes room (refuses room 9 0)
+  old : (r : Row) → HoldsRow ed1 bytes r → Sound current (r .table) → WritesRow bytes room (refuses room 10 0)
+  long : (r : Row) → HoldsRow current bytes r → maxLine < length (preferred (r .table)) → WritesRow bytes room (refuses room 1 maxLine)
+  fits : (r : Row) → HoldsRow current bytes r → length (preferred (r .table)) ≤ maxLine → {a : Answer} → Delivers room (preferredRow r) a → WritesRow bytes room a
+
+-- ---- converting a row whose table is of edition 1: 9; then 11, 6, 8
+
+-- where the third column of a row begins, in its preferred spelling
+abbrev pub thirdAt : Row → ℕ
+thirdAt r = length (decimalText (r .mz) ++ (tab ++ (decimalText (r .intensity) ++ tab)))
+
+pub data ConvertsRow (bytes : List ℕ) (room : ℕ) : Answer → Type 0 where
+  no-row : ((r : Row) → HoldsRow ed1 bytes r → ⊥) → ConvertsRow bytes room (refuses room 9 0)
+  held : (r : Row) → HoldsRow ed1 bytes r → {b a : Answer} → ReadsForm current (preferredSpelling (r .table)) (room - rowHeadSize) b
+      → Moves (stores (rowHead (r .mz) (r .intensity))) (thirdAt r) room b a → ConvertsRow bytes room a

@@ -69,6 +69,8 @@ number  when                                                    place, in bytes 
 7       the confidences exceed 1                                first byte of the annotation that takes the sum past 1
 8       the output is too short                                 bytes needed
 9       the stored bytes are no table, or no stored row         0
+10      a stored table of edition 1, to be written              0
+11      a sequence is outside the plain form                    first byte of that annotation
 12      the m/z of a row is no decimal within its bounds        0
 13      the intensity of a row is none                          its first byte
 

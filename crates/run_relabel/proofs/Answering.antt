@@ -16,8 +16,9 @@ use Rattle.answers.specs.Delivered.{refusedOf}
 use Rattle.io_lines.specs.declared.Stream.{Stream}
 use Rattle.io_lines.specs.Streams.{waitingOf, Roomed}
 use Rattle.io_lines.proofs.Rooms.{room-at}
+use Rattle.io_answers.specs.Tells.{refusalText}
 use Rattle.run_program.specs.declared.Input.{Input}
-use Rattle.run_relabel.specs.AnswerPut.{AnswerPut, refusalText}
+use Rattle.run_relabel.specs.AnswerPut.{AnswerPut}
 use Rattle.run_relabel.specs.Spelled.{Answers, Spelled}
 use Rattle.run_relabel.specs.Answered.{answerText, answerLine, Answered}
 use Rattle.run_relabel.proofs.Rooms.{relabels-roomy}

@@ -52,11 +52,13 @@ module _ {room room′ : ℕ} (larger : room ≤ room′) where
 
   writes-also : {bytes : List ℕ} {a : Answer} → Writes bytes room a → (a .number ≡ 8 → ⊥) → Also (Writes bytes room′) a
   writes-also (Writes.no-table h) n = refuses-also room room′ (Writes.no-table h)
+  writes-also (Writes.old t h o) n = refuses-also room room′ (Writes.old t h o)
   writes-also (Writes.long t h l) n = refuses-also room room′ (Writes.long t h l)
   writes-also (Writes.fits t h l d) n = also-as (λ b y. Writes.fits t h l y) (delivers-also d n)
 
   writes-row-also : {bytes : List ℕ} {a : Answer} → WritesRow bytes room a → (a .number ≡ 8 → ⊥) → Also (WritesRow bytes room′) a
   writes-row-also (WritesRow.no-row h) n = refuses-also room room′ (WritesRow.no-row h)
+  writes-row-also (WritesRow.old r h o) n = refuses-also room room′ (WritesRow.old r h o)
   writes-row-also (WritesRow.long r h l) n = refuses-also room room′ (WritesRow.long r h l)
   writes-row-also (WritesRow.fits r h l d) n = also-as (λ b y. WritesRow.fits r h l y) (delivers-also d n)
 
@@ -78,11 +80,13 @@ delivers-roomy {room} {w} (done h) =
 
 writes-roomy : {bytes : List ℕ} {room : ℕ} {a : Answer} → Writes bytes room a → Roomy room a
 writes-roomy {room = room} (Writes.no-table h) = refuses-roomy room 9 0
+writes-roomy {room = room} (Writes.old t h o) = refuses-roomy room 10 0
 writes-roomy {room = room} (Writes.long t h l) = refuses-roomy room 1 maxLine
 writes-roomy (Writes.fits t h l d) = delivers-roomy d
 
 writes-row-roomy : {bytes : List ℕ} {room : ℕ} {a : Answer} → WritesRow bytes room a → Roomy room a
 writes-row-roomy {room = room} (WritesRow.no-row h) = refuses-roomy room 9 0
+writes-row-roomy {room = room} (WritesRow.old r h o) = refuses-roomy room 10 0
 writes-row-roomy {room = room} (WritesRow.long r h l) = refuses-roomy room 1 maxLine
 writes-row-roomy (WritesRow.fits r h l d) = delivers-roomy d
 

@@ -11,7 +11,7 @@ use Rattle.rules.specs.Numbers.{digits}
 use Rattle.answers.specs.declared.Answer.{Answer}
 use Rattle.io_lines.specs.Streams.{roomOf}
 use Rattle.numbers.proofs.Bounds.{digits-below}
-use Rattle.run_relabel.specs.AnswerPut.{refusalText}
+use Rattle.io_answers.specs.Tells.{refusalText}
 
 -- ---- the text of a refusal
 

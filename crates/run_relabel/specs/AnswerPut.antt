@@ -1,16 +1,11 @@
 -- What is printed of an answer: the refusal, or nothing more where the spelling stands already. Assumes nothing.
 use Prim.Native.Nat.{ℕ, _+_, min}
 use mathlib.Core.Path.{_≡_}
-use mathlib.Core.List.{List, [], _∷_, _++_}
+use mathlib.Core.List.{List}
 use lib.ListN.{length}
-use Rattle.rules.specs.Numbers.{digits}
 use Rattle.put_bytes.specs.Puts.{Put}
 use Rattle.answers.specs.declared.Answer.{Answer}
-use Rattle.io_answers.specs.Tells.{field}
-
--- `!`, the number, a space and the place
-abbrev pub refusalText : Answer → List ℕ
-refusalText a = (33 ∷ []) ++ (field (a .number) ++ digits (a .place))
+use Rattle.io_answers.specs.Tells.{refusalText}
 
 -- output d is e, and r the place behind what is told of the answer at a place
 pub record AnswerPut (d : List ℕ) (at : ℕ) (a : Answer) (e : List ℕ) (r : ℕ) : Type 0 where

@@ -10,8 +10,8 @@ use Rattle.rules.specs.Answers.{Answer}
 use Rattle.answers.specs.Delivered.{refusedOf}
 use Rattle.io_lines.specs.declared.Stream.{Stream}
 use Rattle.io_lines.specs.Streams.{waitingOf, roomOf, Roomed}
+use Rattle.io_answers.specs.Tells.{refusalText}
 use Rattle.run_program.specs.declared.Input.{Input}
-use Rattle.run_relabel.specs.AnswerPut.{refusalText}
 use Rattle.run_relabel.specs.Spelled.{Answers}
 
 -- the result, or the refusal

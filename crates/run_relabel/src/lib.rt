@@ -12,14 +12,13 @@ ghost use Rattle.answers.specs.Delivered.{answered};
 ghost use Rattle.run_relabel.specs.Spelled.{relabelAs, Spelled};
 ghost use Rattle.run_relabel.specs.AnswerPut.{AnswerPut};
 use answers::Answer;
-use io_answers::put_field;
+use io_answers::put_refusal;
 use io_lines::Stream;
 use io_lines::next_line;
 use io_lines::room;
 use limits::MAX_ANNOTATIONS;
 use limits::MAX_ROW;
 use lines::relabel_by;
-use numbers::put_number;
 use put_bytes::put8;
 use respell_row::relabel_row_by;
 use run_program::Input;
@@ -89,9 +88,7 @@ fn put_answer(out: &mut [u8], at: usize, a: Answer) -> usize
     ensures { λ r. ⌜ AnswerPut (now (out .entry)) at a (now (out .exit)) r ⌝ }
 {
     if a.number != 0 {
-        let p = put8(out, at, b'!');
-        let q = put_field(out, p, a.number as u64);
-        return put_number(out, q, a.place as u64);
+        return put_refusal(out, at, a);
     }
     advance(at, a.len, out.len())
 }

@@ -1,4 +1,5 @@
 pub mod Cut
 pub mod Fits
+pub mod Most
 pub mod Answering
 pub mod One

@@ -12,11 +12,11 @@ use Rattle.lang.proofs.FirstBroken.{in-none}
 use Rattle.rules.specs.Bytes.{bytes}
 use Rattle.rules.specs.Lines.{Spelling}
 use Rattle.rules.specs.Limits.{maxLine, lineMarks}
-use Rattle.rules.specs.Answers.{Answer, Delivers, ReadsSum, ReadsRules, ReadsForm, ReadsSpelling, Reads, Takes, Writes}
+use Rattle.rules.specs.Answers.{Answer, Delivers, ReadsSum, ReadsRules, ReadsForm, ReadsSpelling, Reads, Holds, Writes}
 use Rattle.rules.proofs.TableOf.{tableOf}
 use Rattle.rules.proofs.Meant.{means-some}
+use Rattle.rules.specs.Editions.{current}
 use Rattle.rules.proofs.WritesOne.{writes-one}
-use Rattle.rules.proofs.SoundEditions.{takes-current}
 use Rattle.rules.proofs.worked.Row.{broken, Worked}
 use Rattle.shape.proofs.Unambiguous.{reads-one}
 use Rattle.starred.specs.Becomes.{ReadAs}
@@ -52,14 +52,14 @@ module _ {line : String} {s : Spelling} {size : ℕ} {table : List ℕ} {best : 
       Reads.spelled h s (w .text)
       (ReadsSpelling.kept kept (ReadsForm.kept (w .form) (ReadsRules.kept (w .rules) (ReadsSum.kept (w .sum) (tableOf s) (means-some s) e))))
 
-  taken : Takes table (tableOf s)
-  taken =
-      takes-current (tableOf s) (record { spelling = s; says = means-some s; limits = kept; form = w .form; rules = w .rules; sum = w .sum }) (w .stores)
+  held : Holds current table (tableOf s)
+  held =
+      record { sound = record { spelling = s; says = means-some s; limits = kept; form = w .form; rules = w .rules; sum = w .sum }; is = w .stores }
 
   written-so : (room : ℕ) (a : Answer) → Delivers room (bytes best) a → Writes table room a
   written-so room a d =
       let e = subst (λ (t : List ℕ). Delivers room t a) (sym (w .writes)) d in
-      Writes.fits (tableOf s) taken (subst (λ (t : List ℕ). length t ≤ maxLine) (sym (w .writes)) k) e
+      Writes.fits (tableOf s) held (subst (λ (t : List ℕ). length t ≤ maxLine) (sym (w .writes)) k) e
 
   pub read-as : ReadAs line size table best
   read-as =

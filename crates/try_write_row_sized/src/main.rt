@@ -1,6 +1,8 @@
 // Each line of standard input has the form `N STORED`, and the stored row, in hexadecimal digits, is written into an output of N bytes.
-use run_program::Input;
 use run_program::was_asked;
+use run_writes::Form;
+use run_writes::Task;
+use run_writes::answer_tables;
 
 fn main() {
     if was_asked(
@@ -17,5 +19,5 @@ row in hexadecimal digits, `-` where there is none.
     ) {
         return;
     }
-    run_writes::answer_tables(b"try_write_row_sized", Input::Rows, true);
+    answer_tables(b"try_write_row_sized", Task::WriteRow, Form::Fields, true);
 }

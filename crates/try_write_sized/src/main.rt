@@ -1,6 +1,8 @@
 // Each line of standard input has the form `N TABLE`, and the table, in hexadecimal digits, is written into an output of N bytes.
-use run_program::Input;
 use run_program::was_asked;
+use run_writes::Form;
+use run_writes::Task;
+use run_writes::answer_tables;
 
 fn main() {
     if was_asked(
@@ -17,5 +19,5 @@ line in hexadecimal digits, `-` where there is none or it is empty.
     ) {
         return;
     }
-    run_writes::answer_tables(b"try_write_sized", Input::Lines, true);
+    answer_tables(b"try_write_sized", Task::WriteTable, Form::Fields, true);
 }

@@ -1,4 +1,4 @@
--- What is answered to bytes that may be a stored row is what document 02, M-101 says. Assumes nothing.
+-- What is answered to bytes that may be a stored row is what document 02, M-101 and M-112 say. Assumes nothing.
 use Prim.Native.Nat.{ℕ, _+_, _-_, _≤_, _<_}
 use mathlib.Core.Path.{_≡_, refl, sym, ap, ap₂, _∙_, subst}
 use mathlib.Core.Bool.{Bool, true, false, cond}
@@ -13,9 +13,9 @@ use Rattle.rules.specs.Fields.{Table}
 use Rattle.rules.specs.Limits as Limits
 use Rattle.rules.specs.Limits.{maxLine}
 use Rattle.rules.specs.Preferred.{shortenedAnnotation, preferred}
-use Rattle.rules.specs.Answers.{Answer, refuses, Delivers, no-room, done, Takes, Writes, no-table}
+use Rattle.rules.specs.Answers.{Answer, refuses, Delivers, no-room, done, Writes, no-table}
 use Rattle.rules.specs.Rows.{tab, Row, preferredRow, rowHeadSize}
-use Rattle.rules.specs.RowAnswers.{HoldsRow, WritesRow, no-row}
+use Rattle.rules.specs.RowAnswers.{WritesRow, no-row}
 use Rattle.rules.proofs.RisesParts.{ion-some}
 use Rattle.put_bytes.specs.Puts.{maxPlace}
 use Rattle.scan_line.specs.Verdicts.{JudgedBy}
@@ -28,7 +28,8 @@ use Rattle.numbers.specs.Making.{ruled}
 use Rattle.write_row.specs.declared.Head.{Head}
 use Rattle.answers.specs.Behind.{capped}
 use Rattle.write_row.specs.Writings.{headOf, columnsText, bareOf, labelledOf, behindOf, writeRowOf}
-use Rattle.write_row.proofs.Heads.{Bytes, HeadRead, head-good, head-found}
+use Rattle.write_row.proofs.Heads.{Bytes, HeadRead, head-good}
+use Rattle.write_row.proofs.Held.{rowOf, head-holds, rest-holds, head-there}
 use Rattle.answers.proofs.Behind.{capped-is}
 use Rattle.read_row.proofs.Decimals.{decimal-short}
 
@@ -43,15 +44,12 @@ module _ (mz intensity : Decimal) where
   abbrev c : List ℕ
   c = columnsText mz intensity
 
-  abbrev row : Table → Row
-  row t = record { mz = ruled mz; intensity = ruled intensity; table = t }
-
   -- without annotations they are all
-  bare-text : preferredRow (row []) ≡ c
+  bare-text : preferredRow (rowOf mz intensity []) ≡ c
   unfolding columnsText
   bare-text = ap (λ (l : List ℕ). decimalText (ruled mz) ++ (tab ++ l)) (append-nil (decimalText (ruled intensity)))
 
-  labelled-text : (a : TableAnnotation) (t : Table) → preferredRow (row (a ∷ t)) ≡ c ++ (tab ++ preferred (a ∷ t))
+  labelled-text : (a : TableAnnotation) (t : Table) → preferredRow (rowOf mz intensity (a ∷ t)) ≡ c ++ (tab ++ preferred (a ∷ t))
   unfolding columnsText
   labelled-text a t = sym (append-assoc (decimalText (ruled mz)) (tab ++ decimalText (ruled intensity)) (tab ++ preferred (a ∷ t)))
 
@@ -120,7 +118,7 @@ module _ (s : List ℕ) (room : ℕ) (small : room ≤ maxPlace) (h : Head) (x :
   text = columnsText (h .mz) (h .intensity)
 
   abbrev meant : Table → Row
-  meant t = row (h .mz) (h .intensity) t
+  meant t = rowOf (h .mz) (h .intensity) t
 
   short-text : length text ≤ 27
   short-text = columns-short (h .mz) (h .intensity) (x .mz) (x .intensity)
@@ -134,25 +132,14 @@ module _ (s : List ℕ) (room : ℕ) (small : room ≤ maxPlace) (h : Head) (x :
       subst (λ (w : List ℕ). Delivers room w (behindOf text (length text) room b)) (sym (labelled-text (h .mz) (h .intensity) a t))
       (delivered-line text room small short-text (preferred (a ∷ t)) (preferred-some a t) l d)
 
-  held : (t : Table) → Takes (drop rowHeadSize s) t → HoldsRow s (meant t)
-  held t g = record { mz = x .mz; intensity = x .intensity; rest = drop rowHeadSize s; table = g; is = x .is }
-
-  -- no row but of this head
-  rest-held : (r : Row) → HoldsRow s r → Takes (drop rowHeadSize s) (r .table)
-  rest-held r g = subst (λ (l : List ℕ). Takes l (r .table)) (ap (drop rowHeadSize) (g .is)) (g .table)
-
   line-right : {b : Answer} → Writes (drop rowHeadSize s) (room - (length text + 1)) b → WritesRow s room (behindOf text (length text) room b)
   unfolding behindOf
-  line-right (no-table n) = no-row (λ r g. n (r .table) (rest-held r g))
-  line-right (Writes.long t g l) = WritesRow.long (meant t) (held t g) l
-  line-right (Writes.fits t g l d) = WritesRow.fits (meant t) (held t g) l (delivered t l d)
+  line-right (no-table n) = no-row (λ r g. n (r .table) (record { edition = g .edition; holds = rest-holds (g .holds); also = g .also }))
+  line-right (Writes.old t g o) = WritesRow.old (meant t) (head-holds x g) o
+  line-right (Writes.long t g l) = WritesRow.long (meant t) (head-holds x g) l
+  line-right (Writes.fits t g l d) = WritesRow.fits (meant t) (head-holds x g) l (delivered t l d)
 
 -- ---- any bytes
-
-head-there : (s : List ℕ) (r : Row) → HoldsRow s r → headOf s .good ≡ true
-head-there s r g =
-    ap (λ (l : List ℕ). headOf l .good) (sym (g .is))
-    ∙ ap (λ (h : Head). h .good) (head-found (r .mz) (r .intensity) (g .mz) (g .intensity) (g .rest))
 
 pub write-row-right : (machine s : List ℕ) (room : ℕ) → room ≤ maxPlace → Bytes s
     → ((l : List ℕ) → allBytes l ≡ true → length l ≤ maxPlace → JudgedBy l (scannedBy machine l))
@@ -169,4 +156,4 @@ write-row-right machine s room small y judged = by (headOf s .good) refl
         let z = short-text s room small (headOf s) x in
         let p : capped 0 n ≡ n = capped-is 0 n (omega arith) ∙ omega arith in
         rw (p, capped-is n 1 (omega arith)) (line-right s room small (headOf s) x (write-right machine (drop rowHeadSize s) (room - (n + 1)) judged))
-    by false e = no-row (λ r g. subst T (sym (head-there s r g) ∙ e) tt)
+    by false e = no-row (λ r g. subst T (sym (head-there (g .holds)) ∙ e) tt)

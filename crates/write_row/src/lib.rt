@@ -1,4 +1,4 @@
-// A stored row of a peak list, written. Document 02, M-101.
+// A stored row of a peak list, written. Document 02, M-101 and M-112: writing tests 9, 10, 1, 8.
 ghost use mathlib.Core.Path.{_≡_};
 ghost use Prim.Native.Nat.{_-_};
 ghost use lib.ListN.{length};
@@ -33,10 +33,10 @@ const INTENSITY_PLACES_AT: usize = 17;
 const ZERO_AT: usize = 18;
 
 // The bytes of a stored row before its table, as they were read.
-struct Head {
-    good: bool,
-    mz: Decimal,
-    intensity: Decimal,
+pub struct Head {
+    pub good: bool,
+    pub mz: Decimal,
+    pub intensity: Decimal,
 }
 
 // Whether a part begins with a head, of which both numbers were tested.
@@ -56,7 +56,7 @@ fn is_head(stored: &[u8], mz: usize, intensity: usize) -> bool
 }
 
 // The head of what may be a stored row.
-fn read_head(stored: &[u8]) -> Head
+pub fn read_head(stored: &[u8]) -> Head
     ensures { λ r. ⌜ r ≡ headOf (now (stored .entry)) ⌝ }
 {
     let mz = Decimal::new(u64_at(stored), byte_of(stored, MZ_PLACES_AT));
@@ -72,7 +72,7 @@ fn read_head(stored: &[u8]) -> Head
 }
 
 // m/z, a tab, intensity; the place behind them.
-fn put_columns(out: &mut [u8], mz: Decimal, intensity: Decimal) -> usize
+pub fn put_columns(out: &mut [u8], mz: Decimal, intensity: Decimal) -> usize
     ensures { λ r. ⌜ Put (now (out .entry)) 0 (columnsText mz intensity) (now (out .exit)) r ⌝ }
 {
     let tab = put_decimal(out, 0, mz);

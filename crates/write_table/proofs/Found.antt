@@ -1,7 +1,7 @@
 -- A line printed for bytes that may be a table, and read again. The sizes of buffers are variables here, so that no list of zeros is
 -- ever computed. Assumes nothing.
 use Prim.Native.Nat.{ℕ, _-_, _<_, _≤_}
-use mathlib.Core.Path.{_≡_, ap, _∙_}
+use mathlib.Core.Path.{_≡_, sym, ap, ap₂, _∙_}
 use mathlib.Core.Bool.{Bool, true, false}
 use mathlib.Core.List.{List}
 use native.Mathlib.Omega.{arith}
@@ -10,43 +10,67 @@ use lib.Seq.{take-at}
 use borrow.Author.Tests.{lt-ltb, le-ltb}
 use Rattle.put_bytes.specs.Puts.{maxPlace, Put}
 use Rattle.put_bytes.proofs.Putting.{over-zeros}
-use Rattle.rules.specs.Answers as rules
+use Rattle.rules.specs.Answers as Rules
+use Rattle.rules.specs.Answers.{refuses}
+use Rattle.rules.specs.Editions as rules
+use Rattle.rules.specs.Editions.{current}
 use Rattle.rules.specs.Largest.{maxAnyTable}
 use Rattle.scan_line.specs.Steps.{scannedBy}
 use Rattle.layout.specs.declared.Edition.{Edition}
+use Rattle.layout.specs.declared.Edition.the-variants.{First, Second}
 use Rattle.layout.specs.Editions.{editionOf}
-use Rattle.print_table.specs.Parts.{editionIn}
 use Rattle.print_table.specs.Tables.{printedTable}
 use Rattle.answers.specs.declared.Answer.{Answer}
 use Rattle.answers.specs.Delivered.{answered, refusedOf}
+use Rattle.read_line.specs.Readings.{keepsAll}
 use Rattle.read_line.specs.Back.{readsTo, few, zeros}
 use Rattle.answers.specs.Delivered.{lineOver}
-use Rattle.write_table.specs.Writings.{foundOf, foundIn, longestPrinted, writtenOf}
+use Rattle.write_table.specs.Writings.{editionFor, firstNumber, lineOf, handedOf, foundOf, foundAs, foundIn, longestPrinted, answerOf}
+use Rattle.write_table.specs.declared.Wanted.{Wanted}
+
+-- ---- the line of a table, by its edition
+
+pub number-old : (w : List ℕ) {b : Bool} → b ≡ keepsAll current w → b ≡ true → 10 ≡ firstNumber w
+unfolding firstNumber
+number-old w e t = rw (sym e ∙ t)
+
+pub number-none : (w : List ℕ) {b : Bool} → b ≡ keepsAll current w → b ≡ false → 9 ≡ firstNumber w
+unfolding firstNumber
+number-none w e t = rw (sym e ∙ t)
+
+module _ (w : List ℕ) (room : ℕ) {e : Edition} {out : List ℕ} {r : Answer} where
+  pub line-first : e ≡ First → out ≡ replicate room 0 → {n : ℕ} → n ≡ firstNumber w → r ≡ refusedOf n 0 → answered r out ≡ lineOf (editionOf e) w room
+  line-first p z q f =
+      ap₂ (λ (r : Answer) (out : List ℕ). answered r out) f z ∙ ap (λ (n : ℕ). refuses room n 0) q ∙ ap (λ (e : Edition). lineOf (editionOf e) w room) (sym p)
+
+  pub line-second : e ≡ Second → answered r out ≡ lineOver w room → answered r out ≡ lineOf (editionOf e) w room
+  line-second p q = q ∙ ap (λ (e : Edition). lineOf (editionOf e) w room) (sym p)
 
 -- ---- found to be the line of a table
 
-module _ (w : List ℕ) (room : ℕ) {out : List ℕ} {r : Answer} where
-  pub found-not : (held : Bool) → held ≡ false → out ≡ replicate room 0 → r ≡ refusedOf 9 0 → answered r out ≡ foundOf held w room
+module _ (wanted : Wanted) (e : rules.Edition) (w : List ℕ) (room : ℕ) {out : List ℕ} {r : Answer} where
+  pub found-not : (held : Bool) → held ≡ false → out ≡ replicate room 0 → r ≡ refusedOf 9 0 → answered r out ≡ foundOf wanted e held w room
   unfolding foundOf
-  found-not held n z e = rw (n, e, z)
+  found-not held n z f = rw (n, f, z)
 
-  pub found-held : (held : Bool) → held ≡ true → answered r out ≡ lineOver w room → answered r out ≡ foundOf held w room
+  pub found-held : (held : Bool) → held ≡ true → answered r out ≡ handedOf wanted e w room → answered r out ≡ foundOf wanted e held w room
   unfolding foundOf
   found-held held n q = q ∙ rw n
 
-module _ (machine : List ℕ) (most : ℕ) (scratch w table : List ℕ) (room : ℕ) where
+module _ (wanted : Wanted) (machine : List ℕ) (most : ℕ) (scratch w table : List ℕ) (room : ℕ) where
   pub found-long : {out : List ℕ} {r : Answer} → most < length w → out ≡ replicate room 0 → r ≡ refusedOf 9 0
-      → answered r out ≡ foundIn machine most scratch w table room
+      → answered r out ≡ foundIn wanted machine most scratch w table room
   unfolding foundIn
   found-long h z e = rw (lt-ltb most (length w) h, e, z)
 
-  -- s is what stands in the buffer, and d the edition that the table names
-  pub found-within : {s : List ℕ} {d : Edition} {held : Bool} {a : rules.Answer} → s ≡ w → length w ≤ most → d ≡ editionIn table
-      → held ≡ readsTo (editionOf d) (scannedBy machine s) scratch s table → a ≡ foundOf held s room → a ≡ foundIn machine most scratch w table room
+  -- s is what stands in the buffer, and d the edition that the bytes have to be of
+  pub found-within : {s : List ℕ} {d : Edition} {held : Bool} {a : Rules.Answer} → s ≡ w → length w ≤ most → d ≡ editionFor wanted table
+      → held ≡ readsTo (editionOf d) (scannedBy machine s) scratch s table → a ≡ foundOf wanted (editionOf d) held s room
+      → a ≡ foundIn wanted machine most scratch w table room
   unfolding foundIn
   found-within {s} {d} {held} q h i e f =
-      f ∙ ap (λ (b : Bool). foundOf b s room) e ∙ ap (λ (d : Edition). foundOf (readsTo (editionOf d) (scannedBy machine s) scratch s table) s room) i
-      ∙ ap (λ (l : List ℕ). foundOf (readsTo (editionOf (editionIn table)) (scannedBy machine l) scratch l table) l room) q ∙ rw (le-ltb most (length w) h)
+      f ∙ ap (λ (b : Bool). foundOf wanted (editionOf d) b s room) e ∙ ap (λ (d : Edition). foundAs wanted (editionOf d) machine scratch s table room) i
+      ∙ ap (λ (l : List ℕ). foundAs wanted (editionOf (editionFor wanted table)) machine scratch l table room) q ∙ rw (le-ltb most (length w) h)
 
 -- ---- printed into a buffer
 
@@ -65,18 +89,18 @@ module _ {most n : ℕ} {w e : List ℕ} (p : Put (replicate most 0) 0 w e n) (h
 
 -- ---- by small buffers or by large ones
 
-module _ (machine table : List ℕ) (room : ℕ) {a : rules.Answer} where
-  pub written-many : few < length (printedTable table) → a ≡ foundIn machine longestPrinted (zeros maxAnyTable) (printedTable table) table room
-      → a ≡ writtenOf machine table room
-  unfolding writtenOf
-  written-many h q = q ∙ rw (lt-ltb few (length (printedTable table)) h)
+module _ (wanted : Wanted) (machine table : List ℕ) (room : ℕ) {a : Rules.Answer} where
+  pub answered-many : few < length (printedTable table) → a ≡ foundIn wanted machine longestPrinted (zeros maxAnyTable) (printedTable table) table room
+      → a ≡ answerOf wanted machine table room
+  unfolding answerOf
+  answered-many h q = q ∙ rw (lt-ltb few (length (printedTable table)) h)
 
-  pub written-large : length (printedTable table) ≤ few → few < length table
-      → a ≡ foundIn machine longestPrinted (zeros maxAnyTable) (printedTable table) table room → a ≡ writtenOf machine table room
-  unfolding writtenOf
-  written-large h g q = q ∙ rw (le-ltb few (length (printedTable table)) h, lt-ltb few (length table) g)
+  pub answered-large : length (printedTable table) ≤ few → few < length table
+      → a ≡ foundIn wanted machine longestPrinted (zeros maxAnyTable) (printedTable table) table room → a ≡ answerOf wanted machine table room
+  unfolding answerOf
+  answered-large h g q = q ∙ rw (le-ltb few (length (printedTable table)) h, lt-ltb few (length table) g)
 
-  pub written-few : length (printedTable table) ≤ few → length table ≤ few
-      → a ≡ foundIn machine few (zeros few) (printedTable table) table room → a ≡ writtenOf machine table room
-  unfolding writtenOf
-  written-few h g q = q ∙ rw (le-ltb few (length (printedTable table)) h, le-ltb few (length table) g)
+  pub answered-few : length (printedTable table) ≤ few → length table ≤ few
+      → a ≡ foundIn wanted machine few (zeros few) (printedTable table) table room → a ≡ answerOf wanted machine table room
+  unfolding answerOf
+  answered-few h g q = q ∙ rw (le-ltb few (length (printedTable table)) h, le-ltb few (length table) g)

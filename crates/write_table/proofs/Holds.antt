@@ -19,9 +19,8 @@ use Rattle.rules.specs.Limits.{lineMarks}
 use Rattle.rules.specs.House.{firstForeign, firstBreach}
 use Rattle.rules.specs.Preferred.{preferred, preferredSpelling}
 use Rattle.rules.specs.Stored.{stored}
-use Rattle.rules.specs.Answers.{Answer, gives, Delivers, no-room, done, ReadsSum, ReadsRules, ReadsForm, ReadsSpelling, Sound, Takes}
-use Rattle.rules.specs.Editions.{Edition, current}
-use Rattle.rules.proofs.SoundEditions.{sound-in}
+use Rattle.rules.specs.Answers.{Answer, gives, Delivers, no-room, done, ReadsSum, ReadsRules, ReadsForm, ReadsSpelling, Sound, Holds}
+use Rattle.rules.specs.Editions.{Edition}
 use Rattle.rules.proofs.OneShape.{judged-shape, judged-misshapen}
 use Rattle.rules.proofs.FirstBroken.{wins-number}
 use Rattle.rules.proofs.OneShape.{misshapen-no-shape}
@@ -54,19 +53,19 @@ pub record ReadAs (e : Edition) (s : Spelling) (room : ℕ) (a : Answer) : Type 
   pub table : Table
   pub says : Each Says s table
   pub limits : Kept (lineMarks s)
-  pub sound : Sound current table
+  pub sound : Sound e table
   pub is : a ≡ gives room (stored e table)
 
 module _ {edition : Edition} (s : Spelling) (room : ℕ) where
-  delivered : (t : Table) → Each Says s t → Kept (lineMarks s) → Sound current t → {a : Answer} → Delivers room (stored edition t) a → a .number ≡ 0 → ReadAs edition s room a
+  delivered : (t : Table) → Each Says s t → Kept (lineMarks s) → Sound edition t → {a : Answer} → Delivers room (stored edition t) a → a .number ≡ 0 → ReadAs edition s room a
   delivered t y k w (no-room h) e = absurd (omega arith)
   delivered t y k w (done h) e = record { table = t; says = y; limits = k; sound = w; is = refl }
 
-  sum-as : Kept (lineMarks s) → firstForeign current 0 s ≡ silent → firstBreach current 0 s ≡ silent → {a : Answer} → ReadsSum edition s room a → a .number ≡ 0 → ReadAs edition s room a
+  sum-as : Kept (lineMarks s) → firstForeign edition 0 s ≡ silent → firstBreach edition 0 s ≡ silent → {a : Answer} → ReadsSum edition s room a → a .number ≡ 0 → ReadAs edition s room a
   sum-as k f r (ReadsSum.excess p z) e = absurd (omega arith)
   sum-as k f r (ReadsSum.kept z t y d) e = delivered t y k (record { spelling = s; says = y; limits = k; form = f; rules = r; sum = z }) d e
 
-  rules-as : Kept (lineMarks s) → firstForeign current 0 s ≡ silent → {a : Answer} → ReadsRules edition s room a → a .number ≡ 0 → ReadAs edition s room a
+  rules-as : Kept (lineMarks s) → firstForeign edition 0 s ≡ silent → {a : Answer} → ReadsRules edition s room a → a .number ≡ 0 → ReadAs edition s room a
   rules-as k f (ReadsRules.breach p z) e = absurd (omega arith)
   rules-as k f (ReadsRules.kept z r) e = sum-as k f z r e
 
@@ -80,7 +79,7 @@ module _ {edition : Edition} (s : Spelling) (room : ℕ) where
 
 -- ---- what is read of the preferred spelling of a sound table: the table
 
-module _ (edition : Edition) (t : Table) (sound : Sound current t) (room : ℕ) (fits : length (stored edition t) ≤ room) where
+module _ (edition : Edition) (t : Table) (sound : Sound edition t) (room : ℕ) (fits : length (stored edition t) ≤ room) where
   abbrev s : Spelling
   s = preferredSpelling t
 
@@ -93,11 +92,11 @@ module _ (edition : Edition) (t : Table) (sound : Sound current t) (room : ℕ) 
   sum-it (ReadsSum.kept z u y d) = delivers-it u (OneTable.one-table one-spelling y (preferred-says (said-in-order (sound .says)))) d
 
   rules-it : {a : Answer} → ReadsRules edition s room a → a ≡ gives room (stored edition t)
-  rules-it (ReadsRules.breach p z) = absurd (written-silent (sym z ∙ preferred-rules current t sound))
+  rules-it (ReadsRules.breach p z) = absurd (written-silent (sym z ∙ preferred-rules edition t sound))
   rules-it (ReadsRules.kept z r) = sum-it r
 
   form-it : {a : Answer} → ReadsForm edition s room a → a ≡ gives room (stored edition t)
-  form-it (ReadsForm.foreign p z) = absurd (written-silent (sym z ∙ preferred-form current t sound))
+  form-it (ReadsForm.foreign p z) = absurd (written-silent (sym z ∙ preferred-form edition t sound))
   form-it (ReadsForm.kept z r) = rules-it r
 
   spelling-it : {a : Answer} → ReadsSpelling edition s room a → a ≡ gives room (stored edition t)
@@ -120,10 +119,10 @@ shape-fine line (Stray p) j x = absurd (misshapen-no-shape (judged-misshapen j (
 pub take-given : (room : ℕ) (w : List ℕ) → take (length w) (w ++ replicate (room - length w) 0) ≡ w
 take-given room w = take-append-seam w (replicate (room - length w) 0)
 
--- the line, read again, is a table's: these bytes are one
+-- the line, read again, is that of a table of the edition: these bytes are one
 module _ (edition : Edition) (w table : List ℕ) (room : ℕ) (small : room ≤ maxPlace) (fits : length w ≤ maxPlace) where
   read-as : (v : Verdict) → JudgedBy w v → anyOver edition (zeros room) v w .number ≡ 0
-      → (t : Table) × (Sound current t × (take (anyOver edition (zeros room) v w .size) (anyOver edition (zeros room) v w .out) ≡ stored edition t))
+      → (t : Table) × (Sound edition t × (take (anyOver edition (zeros room) v w .size) (anyOver edition (zeros room) v w .out) ≡ stored edition t))
   read-as Fine j e =
       let x = judged-shape j refl in
       let s = x .0 in
@@ -135,7 +134,7 @@ module _ (edition : Edition) (w table : List ℕ) (room : ℕ) (small : room ≤
   read-as Short j e = absurd (omega arith)
   read-as (Stray p) j e = absurd (omega arith)
 
-  pub reads-holds : (v : Verdict) → (allBytes w ≡ true → JudgedBy w v) → readsTo edition v (zeros room) w table ≡ true → (t : Table) × Takes table t
+  pub reads-holds : (v : Verdict) → (allBytes w ≡ true → JudgedBy w v) → readsTo edition v (zeros room) w table ≡ true → (t : Table) × Holds edition table t
   unfolding readsTo
   reads-holds v j e =
       let a = anyOver edition (zeros room) v w in
@@ -144,10 +143,10 @@ module _ (edition : Edition) (w table : List ℕ) (room : ℕ) (small : room ≤
       let n = eqb-true (a .number) 0 (t-is (eqb (a .number) 0) (and-0 (eqb (a .number) 0) (sameBytes (take (a .size) (a .out)) table) i)) in
       let m = same-is (take (a .size) (a .out)) table (t-is (sameBytes (take (a .size) (a .out)) table) (and-1 (eqb (a .number) 0) (sameBytes (take (a .size) (a .out)) table) i)) in
       let x = read-as v (j b) n in
-      (x .0, record { edition = edition; holds = record { sound = sound-in edition (x .0) (x .1 .0); is = sym (x .1 .1) ∙ m }; also = x .1 .0 })
+      (x .0, record { sound = x .1 .0; is = sym (x .1 .1) ∙ m })
 
 -- the preferred line of a table reads to its bytes
-pub holds-reads : (edition : Edition) (t : Table) → Sound current t → (room : ℕ) → room ≤ maxPlace → length (stored edition t) ≤ room → length (preferred t) ≤ maxPlace
+pub holds-reads : (edition : Edition) (t : Table) → Sound edition t → (room : ℕ) → room ≤ maxPlace → length (stored edition t) ≤ room → length (preferred t) ≤ maxPlace
     → (v : Verdict) → (allBytes (preferred t) ≡ true → JudgedBy (preferred t) v) → readsTo edition v (zeros room) (preferred t) (stored edition t) ≡ true
 unfolding readsTo
 holds-reads edition t sound room small fits short v j =

@@ -17,8 +17,10 @@ use Rattle.rules.specs.Annotations.{TableAnnotation, SpelledAnnotation, Deviati
 use Rattle.rules.specs.Lines.{Spelling}
 use Rattle.rules.specs.Preferred.{shortenedAnnotation, shortened, preferredSpelling}
 use Rattle.rules.specs.Fields.{Table, filled, SameFields, Says}
+use Rattle.rules.specs.Texts.{Text}
+use Rattle.rules.specs.Sequences.{isSequence, residues}
 use Rattle.rules.specs.Limits.{lineMarks}
-use Rattle.rules.specs.House.{isEmpty, ionRule, deviationRule, confidenceOf, share, one, formed, commonRules, longEnough, annotationRules, firstFailing, firstForeign, firstBreach, firstExcess}
+use Rattle.rules.specs.House.{isEmpty, ionRule, sequenceIn, covered, ifThere, deviationRule, confidenceOf, share, one, formed, commonRules, longEnough, annotationRules, firstFailing, firstForeign, firstBreach, firstExcess}
 use Rattle.rules.specs.Editions.{Edition, ed1, ed2}
 use Rattle.rules.specs.Answers.{Sound}
 use Rattle.rules.proofs.Shortened.{confidence-back}
@@ -85,29 +87,25 @@ common-kept {a} {b} s =
 
 -- ---- nor do those on its sequence, which is a text of the ion
 
+sequence-map : {A B : Type 0} (f : A → B) (x : Ion A) → (sequenceIn (ionMap f x) ≡ sequenceIn x) × (covered (ionMap f x) ≡ covered x)
+sequence-map f (series s n t) = (refl, refl)
+sequence-map f (internal m n t) = (refl, refl)
+sequence-map f (immonium a m) = (refl, refl)
+sequence-map f precursor = (refl, refl)
+sequence-map f (reference n) = (refl, refl)
+sequence-map f (named t) = (refl, refl)
+sequence-map f (composed x) = (refl, refl)
+sequence-map f (smiles t) = (refl, refl)
+sequence-map f (unknown n) = (refl, refl)
+
 formed-map : (e : Edition) {A B : Type 0} (f : A → B) (x : Ion A) → formed e (ionMap f x) ≡ formed e x
 formed-map ed1 f x = refl
-formed-map ed2 f (series s n t) = refl
-formed-map ed2 f (internal m n t) = refl
-formed-map ed2 f (immonium a m) = refl
-formed-map ed2 f precursor = refl
-formed-map ed2 f (reference n) = refl
-formed-map ed2 f (named t) = refl
-formed-map ed2 f (composed x) = refl
-formed-map ed2 f (smiles t) = refl
-formed-map ed2 f (unknown n) = refl
+formed-map ed2 f x = ap (ifThere isSequence) (sequence-map f x .0)
 
 long-map : (e : Edition) {A B : Type 0} (f : A → B) (x : Ion A) → longEnough e (ionMap f x) ≡ longEnough e x
 long-map ed1 f x = refl
-long-map ed2 f (series s n t) = refl
-long-map ed2 f (internal m n t) = refl
-long-map ed2 f (immonium a m) = refl
-long-map ed2 f precursor = refl
-long-map ed2 f (reference n) = refl
-long-map ed2 f (named t) = refl
-long-map ed2 f (composed x) = refl
-long-map ed2 f (smiles t) = refl
-long-map ed2 f (unknown n) = refl
+long-map ed2 f x =
+    ap₂ (λ (o : Opt Text) (n : ℕ). ifThere (λ w. leb n (residues w)) o) (sequence-map f x .0) (sequence-map f x .1)
 
 form-kept : (e : Edition) {a : SpelledAnnotation} {b : TableAnnotation} → Says a b → formed e (a .ion) ≡ formed e (shortenedAnnotation b .ion)
 form-kept e {a} {b} s = sym (formed-map e filled (a .ion)) ∙ ap (formed e) (s .fields .ion) ∙ sym (formed-map e shortened (b .ion))

@@ -6,30 +6,66 @@ use mathlib.Core.List.{List}
 use lib.Dec.{ltb}
 use lib.ListN.{length}
 use Rattle.rules.specs.Answers.{Answer, refuses}
+use Rattle.rules.specs.Editions as rules
+use Rattle.rules.specs.Editions.{ed1, ed2, current}
 use Rattle.rules.specs.Largest.{maxAnyTable}
 use Rattle.answers.specs.Delivered.{lineOver}
 use Rattle.scan_line.specs.Steps.{scannedBy}
+use Rattle.layout.specs.declared.Edition.{Edition}
+use Rattle.layout.specs.declared.Edition.the-variants.{First}
 use Rattle.layout.specs.Editions.{editionOf}
 use Rattle.print_table.specs.Parts.{editionIn}
 use Rattle.print_table.specs.Tables.{printedTable}
+use Rattle.read_line.specs.Readings.{spelledOver, keepsAll}
 use Rattle.read_line.specs.Back.{readsTo, few, zeros}
+use Rattle.write_table.specs.declared.Wanted.{Wanted}
+use Rattle.write_table.specs.declared.Wanted.the-variants.{Line, Table}
+
+-- the edition that bytes have to be of: for its line a table may name any
+abbrev pub editionFor : Wanted → List ℕ → Edition
+editionFor Line table = editionIn table
+editionFor Table table = First
+
+-- the number for the line of an edition 1 table: 10 where it can be read today, else 9
+unfoldable pub firstNumber : List ℕ → ℕ
+firstNumber w = cond (keepsAll current w) 10 9
+
+-- the line of a table of an edition
+abbrev pub lineOf : rules.Edition → List ℕ → ℕ → Answer
+lineOf ed1 w room = refuses room (firstNumber w) 0
+lineOf ed2 w room = lineOver w room
+
+-- what is wanted, where the line is that of a table of an edition
+abbrev pub handedOf : Wanted → rules.Edition → List ℕ → ℕ → Answer
+handedOf Line e w room = lineOf e w room
+handedOf Table e w room = spelledOver current (zeros room) w
 
 -- a line, where it is known whether it reads to the bytes that it was printed for
-unfoldable pub foundOf : Bool → List ℕ → ℕ → Answer
-foundOf held w room = cond held (lineOver w room) (refuses room 9 0)
+unfoldable pub foundOf : Wanted → rules.Edition → Bool → List ℕ → ℕ → Answer
+foundOf wanted e held w room = cond held (handedOf wanted e w room) (refuses room 9 0)
 
--- line w of a table, printed into a buffer of `most` bytes, and read again into `scratch`, to a table of the edition that the table names
-unfoldable pub foundIn : List ℕ → ℕ → List ℕ → List ℕ → List ℕ → ℕ → Answer
-foundIn machine most scratch w table room =
-    cond (ltb most (length w)) (refuses room 9 0) (foundOf (readsTo (editionOf (editionIn table)) (scannedBy machine w) scratch w table) w room)
+-- held against bytes that may be a table of an edition; the line is read again into `scratch`
+abbrev pub foundAs : Wanted → rules.Edition → List ℕ → List ℕ → List ℕ → List ℕ → ℕ → Answer
+foundAs wanted e machine scratch w table room = foundOf wanted e (readsTo e (scannedBy machine w) scratch w table) w room
+
+-- line w of a table, printed into a buffer of `most` bytes
+unfoldable pub foundIn : Wanted → List ℕ → ℕ → List ℕ → List ℕ → List ℕ → ℕ → Answer
+foundIn wanted machine most scratch w table room =
+    cond (ltb most (length w)) (refuses room 9 0) (foundAs wanted (editionOf (editionFor wanted table)) machine scratch w table room)
 
 -- enough for the line of every table
 abbrev pub longestPrinted : ℕ
 longestPrinted = 65536
 
-unfoldable pub writtenOf : List ℕ → List ℕ → ℕ → Answer
-writtenOf machine table room =
+unfoldable pub answerOf : Wanted → List ℕ → List ℕ → ℕ → Answer
+answerOf wanted machine table room =
     let w = printedTable table in
     cond (ltb few (length w) || ltb few (length table))
-    (foundIn machine longestPrinted (zeros maxAnyTable) w table room)
-    (foundIn machine few (zeros few) w table room)
+    (foundIn wanted machine longestPrinted (zeros maxAnyTable) w table room)
+    (foundIn wanted machine few (zeros few) w table room)
+
+abbrev pub writtenOf : List ℕ → List ℕ → ℕ → Answer
+writtenOf machine table room = answerOf Line machine table room
+
+abbrev pub convertedOf : List ℕ → List ℕ → ℕ → Answer
+convertedOf machine table room = answerOf Table machine table room

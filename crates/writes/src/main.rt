@@ -1,6 +1,8 @@
 // Each line of standard input is a stored table in hexadecimal digits, written into an output that is as long as a line may be.
-use run_program::Input;
 use run_program::was_asked;
+use run_writes::Form;
+use run_writes::Task;
+use run_writes::answer_tables;
 
 fn main() {
     if was_asked(
@@ -16,5 +18,5 @@ line in hexadecimal digits, `-` where there is none or it is empty.
     ) {
         return;
     }
-    run_writes::answer_tables(b"writes", Input::Lines, false);
+    answer_tables(b"writes", Task::WriteTable, Form::Fields, false);
 }

@@ -22,7 +22,7 @@ advance-requires c κs = search needs
 
 returns : tie.Need-returns
 returns c =
-    first-added _ _ (c .before .before .before .before .before .before .before .measure .ensures)
+    first-added _ _ _ (c .before .before .before .before .before .before .before .measure .ensures)
     (omega arith)
     (c .before .before .before .before .note .ensures) (c .before .before .before .note2 .ensures) (c .before .note3 .ensures) (c .advance .ensures)
 

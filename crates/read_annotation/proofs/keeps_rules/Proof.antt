@@ -40,10 +40,13 @@ returns-3 c =
 is-long-enough-requires : tie.Need-is-long-enough-requires
 is-long-enough-requires c κs = search needs
 
+if-asked-requires : tie.Need-if-asked-requires
+if-asked-requires c κs = search needs
+
 returns-4 : tie.Need-returns-4
 unfolding rulesOf
 returns-4 c =
-    let at-if3 = c .before in
+    let at-if3 = c .before .before in
     let at-if2 = at-if3 .before in
     let at-if1 = at-if2 .before .before in
     let share = at-if1 .before .before .args .share in
@@ -52,7 +55,8 @@ returns-4 c =
       sym (at-if1 .before .keeps-ion-rule .ensures) ∙ not-false _ (at-if1 .if1 .left),
       sym (at-if2 .before .keeps-deviation-rule .ensures) ∙ not-false _ (at-if2 .if2 .left),
       le-leb share one (omega arith),
-      c .is-long-enough .ensures,
+      ← (c .before .is-long-enough .ensures),
+      c .if-asked .ensures,
     )
 
 pub keeps-rules-spec : {M : Type 1} → statement M
@@ -65,4 +69,5 @@ keeps-rules-spec =
     returns-2
     returns-3
     is-long-enough-requires
+    if-asked-requires
     returns-4)

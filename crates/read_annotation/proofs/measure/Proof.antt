@@ -1,4 +1,5 @@
 -- `read_annotation::measure` meets its contract: one lemma takes what each call ensures. Assumes nothing.
+use Rattle.layout.specs.Editions.{editionOf}
 use Rattle.read_annotation.proofs.Groups.{measure-is}
 use borrow.Author.Needs.{needs}
 use Rattle.read_annotation.proofs.measure.Statement.{statement}
@@ -19,6 +20,9 @@ own-counts-requires c κs = search needs
 plus-requires : tie.Need-plus-requires
 plus-requires c κs = search needs
 
+if-asked-requires : tie.Need-if-asked-requires
+if-asked-requires c κs = search needs
+
 keeps-rules-requires : tie.Need-keeps-rules-requires
 keeps-rules-requires c κs = search needs
 
@@ -30,15 +34,16 @@ minus-or-zero-requires c κs = search needs
 
 returns : tie.Need-returns
 returns c =
-    let at-plus = c .before .before .before in
+    let at-if-asked = c .before .before .before in
+    let at-plus = at-if-asked .before in
     let at-own-counts = at-plus .before in
     let at-rest2 = at-own-counts .before in
     let at-rest = at-rest2 .before in
     let at-share-of = at-rest .before in
     let at-n = at-share-of .before .before .before .before .before in
     let at-args = at-n .before .before .before .before .before in
-    measure-is (at-args .args .s .now) (at-args .args .p) (at-share-of .share-of .ensures) (at-rest .rest .ensures) (at-rest2 .rest2 .ensures)
-    (at-own-counts .own-counts .ensures) (at-plus .plus .ensures) (c .before .before .keeps-rules .ensures) (c .before .rest3 .ensures) (c .minus-or-zero .ensures)
+    measure-is (editionOf (at-args .args .edition)) (at-args .args .s .now) (at-args .args .p) (at-share-of .share-of .ensures) (at-rest .rest .ensures) (at-rest2 .rest2 .ensures)
+    (at-own-counts .own-counts .ensures) (at-plus .plus .ensures) (at-if-asked .if-asked .ensures) (c .before .before .keeps-rules .ensures) (c .before .rest3 .ensures) (c .minus-or-zero .ensures)
 
 pub measure-spec : {M : Type 1} → statement M
 measure-spec =
@@ -49,6 +54,7 @@ measure-spec =
     rest-requires-2
     own-counts-requires
     plus-requires
+    if-asked-requires
     keeps-rules-requires
     rest-requires-3
     minus-or-zero-requires

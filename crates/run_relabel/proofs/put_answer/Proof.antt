@@ -1,29 +1,21 @@
 -- `run_relabel::put_answer` meets its contract: a refusal put, or the spelling as it stands. Assumes nothing.
 use mathlib.Core.Path.{refl}
-use Rattle.put_bytes.proofs.Putting.{put-then}
 use borrow.Author.Needs.{needs}
 use Rattle.run_relabel.proofs.put_answer.Statement.{statement}
 use Rattle.run_relabel.proofs.put_answer.Tie as tie
 
-put8-requires : tie.Need-put8-requires
-put8-requires c κs = search needs
-
-put-field-requires : tie.Need-put-field-requires
-put-field-requires c κs = search needs
-
-put-number-requires : tie.Need-put-number-requires
-put-number-requires c κs = search needs
+put-refusal-requires : tie.Need-put-refusal-requires
+put-refusal-requires c κs = search needs
 
 same-length : tie.Need-same-length
 same-length c = search needs
 
 returns : tie.Need-returns
 returns c =
-    let at-put-field = c .before .before .before .before .before .before in
-    let at-put8 = at-put-field .before .before .before .before in
-    let at-if1 = at-put8 .before .before in
+    let at-put-refusal = c .before .before in
+    let at-if1 = at-put-refusal .before .before in
     record {
-      refused = λ h. put-then (at-put8 .put8 .ensures) (put-then (at-put-field .put-field .ensures) (c .before .before .put-number .ensures));
+      refused = λ h. at-put-refusal .put-refusal .ensures;
       spelled = λ e. absurd (at-if1 .if1 .taken e);
       behind = λ e. absurd (at-if1 .if1 .taken e);
     }
@@ -38,9 +30,7 @@ pub put-answer-spec : {M : Type 1} → statement M
 put-answer-spec =
     tie.close
     (tie.spec
-    put8-requires
-    put-field-requires
-    put-number-requires
+    put-refusal-requires
     same-length
     returns
     advance-requires

@@ -7,10 +7,10 @@ use Rattle.run_writes.proofs.all.Statement.{statement}
 use Rattle.run_writes.proofs.all.Tie as tie
 
 abbrev Inv-loop : tie.InvT-loop
-Inv-loop name input machine buf₀ out₀ table₀ line₀ sized s₀ turns₀ buf out table line s turns = (length buf ≡ length buf₀) × ((length out ≡ length out₀) × ((length table ≡ length table₀) × (length line ≡ length line₀)))
+Inv-loop name task form machine buf₀ out₀ table₀ line₀ sized s₀ turns₀ buf out table line s turns = (length buf ≡ length buf₀) × ((length out ≡ length out₀) × ((length table ≡ length table₀) × (length line ≡ length line₀)))
 
 abbrev μ-loop : tie.MeasureT-loop
-μ-loop name input machine buf₀ out₀ table₀ line₀ sized s₀ turns₀ buf out table line s turns = turns
+μ-loop name task form machine buf₀ out₀ table₀ line₀ sized s₀ turns₀ buf out table line s turns = turns
 
 begin-requires : tie.Need-begin-requires Inv-loop μ-loop
 begin-requires c κs = search needs

@@ -11,11 +11,11 @@ room-requires c κs = search needs
 part-requires : tie.Need-part-requires
 part-requires c κs = search needs
 
-write-one-requires : tie.Need-write-one-requires
-write-one-requires c κs = search needs
+answer-one-requires : tie.Need-answer-one-requires
+answer-one-requires c κs = search needs
 
-put-answer-requires : tie.Need-put-answer-requires
-put-answer-requires c κs = search needs
+put-told-requires : tie.Need-put-told-requires
+put-told-requires c κs = search needs
 
 answered-requires : tie.Need-answered-requires
 answered-requires c κs = search needs
@@ -31,14 +31,14 @@ same-length-3 c = search needs
 
 returns : tie.Need-returns
 returns c =
-    let at-put-answer = c .before .before .before in
-    let at-write-one = at-put-answer .before .before .before .before .before .before .before in
-    let at-part = at-write-one .before .before .before in
+    let at-put-told = c .before .before .before in
+    let at-answer-one = at-put-told .before .before .before .before .before .before .before in
+    let at-part = at-answer-one .before .before .before in
     let at-room = at-part .before in
     let at-args = at-room .before .before .before .before .before .before .before in
     let a = at-args .args in
-    answered-by (a .input) (a .machine .now) (a .sized) (take (a .s .len) (drop (a .s .from) (a .buf .now))) (length (a .table .now)) (length (a .line .now))
-    (at-room .room .ensures) (at-part .part .ensures) (at-write-one .write-one .ensures) (at-put-answer .put-answer .ensures) (c .answered .ensures)
+    answered-by (a .task) (a .form) (a .machine .now) (a .sized) (take (a .s .len) (drop (a .s .from) (a .buf .now))) (length (a .table .now)) (length (a .line .now))
+    (at-room .room .ensures) (at-part .part .ensures) (at-answer-one .answer-one .ensures) (at-put-told .put-told .ensures) (c .answered .ensures)
 
 pub one-table-spec : {M : Type 1} → statement M
 one-table-spec =
@@ -46,8 +46,8 @@ one-table-spec =
     (tie.spec
     room-requires
     part-requires
-    write-one-requires
-    put-answer-requires
+    answer-one-requires
+    put-told-requires
     answered-requires
     same-length
     same-length-2

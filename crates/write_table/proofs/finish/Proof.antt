@@ -1,6 +1,7 @@
 -- `write_table::finish` meets its contract: by whether the line reads to the bytes. Assumes nothing.
 use Rattle.write_table.proofs.Found.{found-not, found-held}
 use borrow.Author.Tests.{not-true, not-false}
+use Rattle.layout.specs.Editions.{editionOf}
 use lib.ListN.{length}
 use borrow.Author.Needs.{needs}
 use Rattle.write_table.proofs.finish.Statement.{statement}
@@ -19,10 +20,10 @@ returns : tie.Need-returns
 returns c =
     let at-if1 = c .before .before .before .before .before in
     let at-args = at-if1 .before .before .before in
-    let a = at-args .args in found-not (a .line .now) (length (a .out .now)) (a .held) (not-true _ (at-if1 .if1 .taken)) (c .before .before .before .clear .ensures) (c .refuse .ensures)
+    let a = at-args .args in found-not (a .wanted) (editionOf (a .edition)) (a .line .now) (length (a .out .now)) (a .held) (not-true _ (at-if1 .if1 .taken)) (c .before .before .before .clear .ensures) (c .refuse .ensures)
 
-write-line-requires : tie.Need-write-line-requires
-write-line-requires c κs = search needs
+hand-out-requires : tie.Need-hand-out-requires
+hand-out-requires c κs = search needs
 
 same-length-2 : tie.Need-same-length-2
 same-length-2 c = search needs
@@ -31,7 +32,7 @@ returns-2 : tie.Need-returns-2
 returns-2 c =
     let at-if1 = c .before .before .before .before in
     let at-args = at-if1 .before .before .before in
-    let a = at-args .args in found-held (a .line .now) (length (a .out .now)) (a .held) (not-false _ (at-if1 .if1 .left)) (c .before .before .write-line .ensures)
+    let a = at-args .args in found-held (a .wanted) (editionOf (a .edition)) (a .line .now) (length (a .out .now)) (a .held) (not-false _ (at-if1 .if1 .left)) (c .before .before .hand-out .ensures)
 
 pub finish-spec : {M : Type 1} → statement M
 finish-spec =
@@ -41,6 +42,6 @@ finish-spec =
     refuse-requires
     same-length
     returns
-    write-line-requires
+    hand-out-requires
     same-length-2
     returns-2)

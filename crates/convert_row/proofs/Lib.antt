@@ -1,0 +1,3 @@
+-- Laws of converting a row.
+pub mod Right
+pub mod Steps
