@@ -32,8 +32,8 @@
  * Threads: there is no state. Calls may run at the same time as long as none writes what another uses; a prepared machine is only
  * read, so that one may serve all threads.
  *
- * Stack, as measured: by a prepared machine 7 KB, and 118 KB where a table of more than 1,024 bytes is written; to prepare one 57 KB, and
- * so for the calls that make their own, which take 137 KB to write.
+ * Stack, as measured: by a prepared machine 9 KB, and 119 KB where a table of more than 1,024 bytes is written or converted; to prepare
+ * one 57 KB, and so for the calls that make their own, which take 138 KB for such a table.
  */
 #ifndef MZPAF_H
 #define MZPAF_H
