@@ -2,9 +2,10 @@
  *
  *     tools/build-c && tools/run host | cmp - examples/host.expected
  *
- * Stored inputs are handed to both kinds of call and the answers compared with the stored ones; then with outputs of sizes around the need,
- * with answer buffers of 0 to 8 bytes, with null pointers, and with machines that no one prepared. Every buffer that is written has guard
- * bytes before and behind it. Prints what was tried; and what was wrong, with exit status 1. Run it at the top of the repository. */
+ * Stored inputs are handed to both kinds of call, those of the second edition of lines to the calls with a lent machine, and the answers
+ * compared with the stored ones; then with outputs of sizes around the need, with answer buffers of 0 to 8 bytes, with null pointers, and
+ * with machines that no one prepared. Every buffer that is written has guard bytes before and behind it. Prints what was tried; and what
+ * was wrong, with exit status 1. Run it at the top of the repository. */
 #include <stdint.h>
 #include <stdio.h>
 #include <stdlib.h>
@@ -19,23 +20,31 @@ struct kind {
     int hex_in;  /* inputs are hexadecimal digits */
     int told;    /* answers are NUMBER PLACE LENGTH DIGITS, else the result itself, or `!`, number and place */
     int headed;  /* inputs and results are tables, and are handed over behind the head of a stored row */
-    own_call *own;
+    int lines;   /* the edition of lines */
+    own_call *own; /* takes lines of the first edition; none for those of the second */
     lent_call *lent;
 };
 
 static const struct kind kinds[] = {
-    {"read", "crates/reads/stdin", "crates/reads/stdout", 0, 1, 0, mzpaf_read, mzpaf_read_with},
-    {"write", "crates/writes/stdin", "crates/writes/stdout", 1, 1, 0, mzpaf_write, mzpaf_write_with},
-    {"convert", "crates/converts/stdin", "crates/converts/stdout", 1, 1, 0, mzpaf_convert, mzpaf_convert_with},
-    {"relabel", "crates/relabel/stdin", "crates/relabel/stdout", 0, 0, 0, mzpaf_relabel, mzpaf_relabel_with},
-    {"read_row", "crates/row_reads/stdin", "crates/row_reads/stdout", 0, 1, 0, mzpaf_read_row, mzpaf_read_row_with},
-    {"write_row", "crates/row_writes/stdin", "crates/row_writes/stdout", 1, 1, 0, mzpaf_write_row, mzpaf_write_row_with},
-    {"convert_row", "crates/converts/stdin", "crates/converts/stdout", 1, 1, 1, mzpaf_convert_row, mzpaf_convert_row_with},
-    {"relabel_row", "crates/peaks/stdin", "crates/peaks/stdout", 0, 0, 0, mzpaf_relabel_row, mzpaf_relabel_row_with},
+    {"read", "crates/reads/stdin", "crates/reads/stdout", 0, 1, 0, 1, mzpaf_read, mzpaf_read_with},
+    {"write", "crates/writes/stdin", "crates/writes/stdout", 1, 1, 0, 1, mzpaf_write, mzpaf_write_with},
+    {"convert", "crates/converts/stdin", "crates/converts/stdout", 1, 1, 0, 1, mzpaf_convert, mzpaf_convert_with},
+    {"relabel", "crates/relabel/stdin", "crates/relabel/stdout", 0, 0, 0, 1, mzpaf_relabel, mzpaf_relabel_with},
+    {"read_row", "crates/row_reads/stdin", "crates/row_reads/stdout", 0, 1, 0, 1, mzpaf_read_row, mzpaf_read_row_with},
+    {"write_row", "crates/row_writes/stdin", "crates/row_writes/stdout", 1, 1, 0, 1, mzpaf_write_row, mzpaf_write_row_with},
+    {"convert_row", "crates/converts/stdin", "crates/converts/stdout", 1, 1, 1, 1, mzpaf_convert_row, mzpaf_convert_row_with},
+    {"relabel_row", "crates/peaks/stdin", "crates/peaks/stdout", 0, 0, 0, 1, mzpaf_relabel_row, mzpaf_relabel_row_with},
+    {"read, second", "crates/try_second_reads/stdin", "crates/try_second_reads/stdout", 0, 1, 0, 2, NULL, mzpaf_read_with},
+    {"write, second", "crates/try_second_writes/stdin", "crates/try_second_writes/stdout", 1, 1, 0, 2, NULL, mzpaf_write_with},
+    {"convert, second", "crates/converts/stdin", "crates/converts/stdout", 1, 1, 0, 2, NULL, mzpaf_convert_with},
+    {"relabel, second", "crates/try_second_relabel/stdin", "crates/try_second_relabel/stdout", 0, 0, 0, 2, NULL, mzpaf_relabel_with},
+    {"convert_row, second", "crates/converts/stdin", "crates/converts/stdout", 1, 1, 1, 2, NULL, mzpaf_convert_row_with},
+    {"relabel_row, second", "crates/try_second_peaks/stdin", "crates/try_second_peaks/stdout", 0, 0, 0, 2, NULL, mzpaf_relabel_row_with},
 };
 
 enum { ROOM = 65536, GUARD = 16, MARK = 0xA5 };
 
+/* that of the edition that is tried */
 static uint8_t machine[MZPAF_MACHINE_SIZE];
 static unsigned long tried, wrong;
 static const char *at_kind;
@@ -272,7 +281,7 @@ static void every_line(const struct kind *k)
         }
         done++;
         refused += d.number != 0;
-        for (int lent = 0; lent < 2; lent++) {
+        for (int lent = k->own == NULL; lent < 2; lent++) {
             call(k, lent, in, d, ROOM, 8);
             if (at_line % 4 == 0)
                 sizes(k, lent, in, d);
@@ -294,11 +303,15 @@ static void nulls(const struct kind *k)
     at_kind = k->name;
     at_line = 0;
     memset(out, MARK, sizeof out);
-    check(k->own(NULL, 0, NULL, 0, NULL, 0) == 8, "8 for no buffer at all");
-    check(k->own(NULL, 0, out, 64, NULL, 0) == 8 && all_are(out, 64, 0), "zeros where there is no answer buffer");
-    check(k->own((const uint8_t *)"y1", 2, NULL, 0, answer, 6) == mzpaf_number(answer), "no output");
     check(k->lent(NULL, 0, NULL, 0, NULL, 0, NULL, 0) == 8, "8 for nothing at all");
-    printf("%s: no input is answered %u", k->name, k->own(NULL, 0, out, 64, answer, 6));
+    if (k->own) {
+        check(k->own(NULL, 0, NULL, 0, NULL, 0) == 8, "8 for no buffer at all");
+        check(k->own(NULL, 0, out, 64, NULL, 0) == 8 && all_are(out, 64, 0), "zeros where there is no answer buffer");
+        check(k->own((const uint8_t *)"y1", 2, NULL, 0, answer, 6) == mzpaf_number(answer), "no output");
+        printf("%s: no input is answered %u", k->name, k->own(NULL, 0, out, 64, answer, 6));
+    } else {
+        printf("%s: no input is answered", k->name);
+    }
     printf(", by a lent machine %u", k->lent(machine, sizeof machine, NULL, 0, out, 64, answer, 6));
     printf(", with no machine %u\n", k->lent(NULL, 0, NULL, 0, out, 64, answer, 6));
 }
@@ -313,7 +326,7 @@ static void machines(const struct kind *k)
     at_kind = k->name;
     at_line = 0;
     k->lent(machine, sizeof machine, row, sizeof row - 1, due, sizeof due, due_answer, 6);
-    check(mzpaf_prepare(other, sizeof other) == 0, "a longer buffer is prepared");
+    check(mzpaf_prepare(k->lines, other, sizeof other) == 0, "a longer buffer is prepared");
     check(k->lent(other, sizeof other, row, sizeof row - 1, out, sizeof out, answer, 6) == mzpaf_number(due_answer), "by a longer machine");
     check(memcmp(out, due, sizeof due) == 0 && memcmp(answer, due_answer, 6) == 0, "the same by a longer machine");
     for (int turn = 0; turn < 300; turn++) {
@@ -329,31 +342,39 @@ static void machines(const struct kind *k)
     }
 }
 
-static void preparing(void)
+static void preparing(uint16_t lines)
 {
     static uint8_t space[MZPAF_MACHINE_SIZE + 20 + GUARD];
     static const size_t lengths[] = {0, 1, MZPAF_MACHINE_SIZE - 1, MZPAF_MACHINE_SIZE, MZPAF_MACHINE_SIZE + 20};
+    int none = lines != MZPAF_FIRST_LINES && lines != MZPAF_SECOND_LINES;
     at_kind = "prepare";
     for (size_t i = 0; i < sizeof lengths / sizeof *lengths; i++) {
         size_t n = at_line = lengths[i];
         uint16_t r;
         memset(space, MARK, sizeof space);
-        r = mzpaf_prepare(space, n);
-        check(r == (n < MZPAF_MACHINE_SIZE ? 8 : 0), "the number");
-        check(r == 8 ? all_are(space, n, 0) : memcmp(space, machine, sizeof machine) == 0, "the bytes");
-        check(r == 8 || all_are(space + sizeof machine, n - sizeof machine, 0), "zeros behind the machine");
+        r = mzpaf_prepare(lines, space, n);
+        check(r == (none ? 9 : n < MZPAF_MACHINE_SIZE ? 8 : 0), "the number");
+        check(r ? all_are(space, n, 0) : memcmp(space, machine, sizeof machine) == 0, "the bytes");
+        check(r || all_are(space + sizeof machine, n - sizeof machine, 0), "zeros behind the machine");
         check(all_are(space + n, GUARD, MARK), "bytes behind the buffer");
     }
-    check(mzpaf_prepare(NULL, 0) == 8, "no buffer");
-    printf("prepare: 8 below %d bytes, 0 from there on\n", MZPAF_MACHINE_SIZE);
+    check(mzpaf_prepare(lines, NULL, 0) == (none ? 9 : 8), "no buffer");
+    if (none)
+        printf("prepare %u: 9\n", lines);
+    else
+        printf("prepare %u: 8 below %d bytes, 0 from there on\n", lines, MZPAF_MACHINE_SIZE);
 }
 
 int main(void)
 {
     size_t count = sizeof kinds / sizeof *kinds;
-    mzpaf_prepare(machine, sizeof machine);
-    preparing();
+    static const uint16_t editions[] = {0, 1, 2, 3, 256, 257, 65535};
+    for (size_t i = 0; i < sizeof editions / sizeof *editions; i++) {
+        mzpaf_prepare(editions[i], machine, sizeof machine);
+        preparing(editions[i]);
+    }
     for (size_t i = 0; i < count; i++) {
+        mzpaf_prepare(kinds[i].lines, machine, sizeof machine);
         every_line(&kinds[i]);
         nulls(&kinds[i]);
         machines(&kinds[i]);

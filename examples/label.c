@@ -50,7 +50,7 @@ int main(void)
 {
     static uint8_t machine[MZPAF_MACHINE_SIZE], out[MZPAF_MAX_ROW];
     uint8_t answer[MZPAF_ANSWER_SIZE];
-    mzpaf_prepare(machine, sizeof machine); /* once */
+    mzpaf_prepare(MZPAF_FIRST_LINES, machine, sizeof machine); /* once */
     for (;;) {
         size_t len = 0;
         int b;

@@ -61,7 +61,7 @@ int main(void)
         return 1;
     while (len < ROOM && (b = getchar()) != EOF)
         all[len++] = (uint8_t)b;
-    mzpaf_prepare(machine, sizeof machine);
+    mzpaf_prepare(MZPAF_FIRST_LINES, machine, sizeof machine);
     printf("read, output of 1,024 bytes: %.0f ns\n", best(0, 1024));
     printf("read, output of %d bytes: %.0f ns\n", MZPAF_MAX_TABLE, best(0, MZPAF_MAX_TABLE));
     printf("read and write: %.0f ns\n", best(1, 1024));

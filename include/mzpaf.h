@@ -14,15 +14,20 @@
  *   number  0 done; 1 longer than 4,096 bytes (a row: 4,160); 2 a stray byte; 3 could still become a line; 4 a number past its bound;
  *           5 too many; 6 a rule for one annotation is broken; 7 the confidences exceed 1; 8 too short a buffer; 9 the bytes are no
  *           table or stored row; 10 a table of edition 1, which is to be converted first; 11 a sequence in braces is not of the plain
- *           form; 12 a bad m/z; 13 a bad intensity.
+ *           form; 12 a bad m/z; 13 a bad intensity; 20 a table with letters, for a line of the first edition.
  *           docs/REFUSALS.md says each in plain words.
  *   place   the byte of in that the number speaks of, counted from 0, and where a table is converted the byte of its line, in preferred
- *           spelling; for 8 the bytes needed; 0 for 0, 9 and 10.
+ *           spelling; for 8 the bytes needed; 0 for 0, 9, 10 and 20.
  *   length  how many bytes of out the result has; 0 unless the number is 0.
  *
  * Editions: a table begins with the number of its edition. Reading gives edition 2, in which an annotation has 38 bytes; the last two
  * are the count of residues of its sequence. Writing takes edition 2. A table of edition 1, in which an annotation has 36 bytes and no
  * such count, is taken by mzpaf_convert alone, which gives the table of edition 2 of the same line.
+ *
+ * Editions of lines: in the second an internal ion may have letters, as in mxa3:6; in the first, which the calls without a machine take,
+ * such a line is 2 at its first letter, and a table that has letters is 20 when it is written. Lines and tables without letters are
+ * answered the same in both. Which edition a call takes is told by the machine that it is lent: prepare one with MZPAF_SECOND_LINES for
+ * the second.
  *
  * Who owns what: the caller owns every buffer, and may free or reuse it once the call has returned. Nothing is allocated, kept or
  * written but out, answer and the machine that is prepared. All bytes of out and answer are written by every call, so they need not
@@ -32,8 +37,9 @@
  * Threads: there is no state. Calls may run at the same time as long as none writes what another uses; a prepared machine is only
  * read, so that one may serve all threads.
  *
- * Stack, as measured: by a prepared machine 9 KB, and 119 KB where a table of more than 1,024 bytes is written or converted; to prepare
- * one 57 KB, and so for the calls that make their own, which take 138 KB for such a table.
+ * Stack, as measured, at most: by a prepared machine 7 KB where a line is read or relabelled, 97 KB where a table is written or converted,
+ * and 162 KB where it or its line has more than 1,024 bytes. To prepare one 75 KB, as for the calls that make their own where they take a
+ * line; where they take a table 115 KB and 181 KB.
  */
 #ifndef MZPAF_H
 #define MZPAF_H
@@ -47,13 +53,15 @@ extern "C" {
 
 #define MZPAF_ANSWER_SIZE 6       /* bytes of an answer */
 #define MZPAF_MACHINE_SIZE 18688  /* bytes of a machine */
+#define MZPAF_FIRST_LINES 1       /* the editions of lines, for mzpaf_prepare */
+#define MZPAF_SECOND_LINES 2
 #define MZPAF_MAX_LINE 4096       /* bytes of a line, and enough for every result of mzpaf_write and mzpaf_relabel */
 #define MZPAF_MAX_ROW 4160        /* bytes of a row, and enough for every result of mzpaf_write_row and mzpaf_relabel_row */
 #define MZPAF_MAX_TABLE 21372     /* enough for every result of mzpaf_read */
 #define MZPAF_MAX_STORED_ROW 21392  /* enough for every result of mzpaf_read_row */
 #define MZPAF_MORE_CONVERTED 32   /* so many bytes more than the old table, or the old stored row, are enough for what it is converted to */
 
-/* ---- one line, one table, one row of a peak list. These make the machine at each call, which takes some 12 microseconds; whoever has
+/* ---- one line, one table, one row of a peak list, by lines of the first edition. These make the machine at each call, which takes some 12 microseconds; whoever has
  *      many should prepare one and use the calls below. */
 
 /* The table that a line spells, of edition 2. docs/TABLE.md has its bytes. */
@@ -84,11 +92,13 @@ uint16_t mzpaf_relabel_row(const uint8_t *row, size_t row_len, uint8_t *out, siz
 
 /* ---- the same by a lent machine */
 
-/* Puts the machine into a buffer of MZPAF_MACHINE_SIZE bytes or more, zeros behind it, and returns 0. A shorter buffer is zeroed, and 8
- * is returned. The buffer may be moved or copied; its bytes are the same on every machine. */
-uint16_t mzpaf_prepare(uint8_t *machine, size_t machine_len);
+/* Puts the machine of an edition of lines, MZPAF_FIRST_LINES or MZPAF_SECOND_LINES, into a buffer of MZPAF_MACHINE_SIZE bytes or more,
+ * zeros behind it, and returns 0. For another number the buffer is zeroed, and 9 is returned; for a shorter buffer it is zeroed, and 8 is
+ * returned. The buffer may be moved or copied; its bytes are the same on every computer. */
+uint16_t mzpaf_prepare(uint16_t lines, uint8_t *machine, size_t machine_len);
 
-/* With a machine that was not prepared the answers mean nothing, but there is one, and no fault: nothing is read or written outside the
+/* By lines of the edition that the machine was prepared for; mzpaf_convert_with and mzpaf_convert_row_with answer the same by either.
+ * With a machine that was not prepared the answers mean nothing, but there is one, and no fault: nothing is read or written outside the
  * buffers. */
 uint16_t mzpaf_read_with(const uint8_t *machine, size_t machine_len, const uint8_t *line, size_t line_len, uint8_t *out, size_t out_len,
                          uint8_t *answer, size_t answer_len);

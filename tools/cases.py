@@ -1,16 +1,22 @@
 #!/usr/bin/env python3
-"""The cases of the programs `reads`, `relabel` and `try_read_sized`: their inputs, and what the rules say of them in words.
+"""The cases of the programs that read lines: their inputs, and what the rules say of them in words. There are two editions of lines, and cases
+for each: `reads`, `relabel` and `try_read_sized` for the first, `try_second_reads` and `try_second_relabel` for the second.
 
-    python3 tools/cases.py                  writes the stored inputs of the three programs, crates/NAME/stdin
+    python3 tools/cases.py                  writes the stored inputs of the five programs, crates/NAME/stdin, and crates/NAME/args of the last two
     python3 tools/cases.py --check          holds the stored outputs to what is stated here; prints differences
     python3 tools/cases.py --with FOLDER    makes the stored outputs by the programs `cross` and `relabel` in FOLDER, then checks
 
 `cross` reads lines from standard input and prints `NUMBER PLACE LENGTH HEX` for each, HEX being `-` where there is no table; with `--out N`
 it does so with an output of N bytes. `relabel` prints the preferred spelling of each, or `!NUMBER PLACE`. Both are of an implementation
-other than this repository's, so that two agree on the stored outputs, and are told which requests have landed (`LANDED`). A line has any
-bytes but the line feed. Each case is a line with its answer, where document 01, a request of document 02 that has landed, or a reading in
-docs/DECISIONS.md states it (`no` a refusal, `yes` a table, `best` also the preferred spelling), or without one (`ask`). What `relabel` is to
-print follows from what `reads` does: the refusal, or the spelling of the table by tools/decode.py.
+other than this repository's, so that two agree on the stored outputs, and are told which requests have landed (`LANDED`), and the edition of
+lines. A line has any bytes but the line feed. Each case is a line with its answer, where document 01, a request of document 02 that has landed,
+or a reading in docs/DECISIONS.md states it (`no` a refusal, `yes` a table, `best` also the preferred spelling), or without one (`ask`). What
+`relabel` is to print follows from what `reads` does: the refusal, or the spelling of the table by tools/decode.py.
+
+Only in the second edition may an internal ion have letters behind its `m`, as in `mxa3:6` (M-113). Cases with letters (`lettered`) are stated of both
+editions: of the first a stray byte at the first letter (`apart`), and for lines that the letters have no part in one answer (`alike`). The first
+edition is asked for all the other cases too, the second for a good part of them. A line of which both are asked is held to what the request says of
+first-edition reading: if the second edition finds a shape, the first finds 2 at the first letter, and without letters the same answer.
 """
 import itertools
 import os
@@ -21,25 +27,54 @@ sys.dont_write_bytecode = True
 import decode
 
 # The flags of the other implementation for the requests that have landed here and change answers.
-LANDED = ("--m100", "--m102", "--m105", "--m112")
+LANDED = ("--m100", "--m102", "--m112", "--m113=first")
+# The same for lines of the second edition.
+LANDED_SECOND = (*LANDED[:-1], "--m113=second")
 
 ROOT = os.path.join(os.path.dirname(os.path.abspath(__file__)), "..", "crates")
 ROOM, MAX_LINE = 21372, 4096
 # Bytes of a header, and of an annotation's record in the edition that lines are read to.
 HEADER, RECORD = 28, 38
 CAPITALS = b"ABCDEFGHIJKLMNOPQRSTUVWXYZ"
+# The letters of an internal ion, in the order of their numbers from 1 on; but `yb` is held as 0.
+LETTERS = "xa xb xc ya yb yc za zb zc".split()
 # What document 01 gives the relabel program; its input begins so.
 SHOWN = (b"y5-NH3-H2O/0.20ppm", b"y1^1")
 
-lines = []    # in order
-stated = {}   # line: (number, place)
-sizes = {}    # line: bytes of its table
-equal = []    # lines that read to one table
-unequal = []  # lines that read to two
-spelled = {}  # line: its preferred spelling
-texts = {}    # line: the bytes of its text section
-units = {}    # line: its units, (nucleons, atomic number, count)
-residue_counts = {}  # line: for each annotation how many residues its sequence has, 0 without one
+
+class Asked:
+    """What the readers of one edition of lines are asked, and what is stated of it."""
+
+    def __init__(self, reads, relabel, flags):
+        self.reads, self.relabel, self.flags = reads, relabel, flags  # the programs, and what the other implementation is told
+        self.lines = []    # in order
+        self.stated = {}   # line: (number, place)
+        self.sizes = {}    # line: bytes of its table
+        self.equal = []    # lines that read to one table
+        self.unequal = []  # lines that read to two
+        self.spelled = {}  # line: its preferred spelling
+        self.texts = {}    # line: the bytes of its text section
+        self.units = {}    # line: its units, (nucleons, atomic number, count)
+        self.residue_counts = {}  # line: for each annotation how many residues its sequence has, 0 without one
+        self.letters = {}  # line: for each annotation its field 3
+
+
+class Editions:
+    """What is asked of the first and of the second edition of lines. What a part asks and states goes to the one that is chosen."""
+
+    def __init__(self, first, second):
+        self.first, self.second, self.chosen = first, second, first
+
+    def of(self, edition, part, *words):
+        before, self.chosen = self.chosen, edition
+        part(*words)
+        self.chosen = before
+
+    def each(self):
+        return self.first, self.second
+
+
+asked = Editions(Asked("reads", "relabel", LANDED), Asked("try_second_reads", "try_second_relabel", LANDED_SECOND))
 
 
 def raw(line):
@@ -49,13 +84,13 @@ def raw(line):
 def ask(line):
     line = raw(line)
     assert b"\n" not in line
-    lines.append(line)
+    asked.chosen.lines.append(line)
     return line
 
 
 def state(line, number, place):
     """A line may come up more than once, with one answer."""
-    assert stated.setdefault(line, (number, place)) == (number, place), line
+    assert asked.chosen.stated.setdefault(line, (number, place)) == (number, place), line
     return line
 
 
@@ -66,49 +101,73 @@ def no(line, number, place):
 def yes(line, size=None):
     line = state(ask(line), 0, 0)
     if size is not None:
-        sizes[line] = size
+        asked.chosen.sizes[line] = size
 
 
 def same(first, *others):
     """All read, to the table of the first."""
     for line in (first, *others):
         yes(line)
-    equal.append([raw(line) for line in (first, *others)])
+    asked.chosen.equal.append([raw(line) for line in (first, *others)])
 
 
 def differ(a, b):
     yes(a)
     yes(b)
-    unequal.append((raw(a), raw(b)))
+    asked.chosen.unequal.append((raw(a), raw(b)))
 
 
 def best(spelling, *others):
     """All read to one table, whose preferred spelling is the first."""
     same(spelling, *others)
-    spelled.update((raw(line), raw(spelling)) for line in (spelling, *others))
+    asked.chosen.spelled.update((raw(line), raw(spelling)) for line in (spelling, *others))
+
+
+def respelled(line, spelling):
+    """Read, to the table of another line, which is its preferred spelling."""
+    best(spelling, line)
 
 
 def text(line, expected):
     yes(line)
-    texts[raw(line)] = raw(expected)
+    asked.chosen.texts[raw(line)] = raw(expected)
 
 
 def kept(line, expected):
     """Read, to a table with this text, and given back as it stands."""
     text(line, expected)
-    spelled[raw(line)] = raw(line)
+    asked.chosen.spelled[raw(line)] = raw(line)
 
 
 def made_of(line, *expected):
     yes(line)
-    units[raw(line)] = list(expected)
+    asked.chosen.units[raw(line)] = list(expected)
 
 
 def held(line, *expected):
     """Read, to a table whose annotations have so many residues, and given back as it stands."""
     yes(line)
-    residue_counts[raw(line)] = list(expected)
-    spelled[raw(line)] = raw(line)
+    asked.chosen.residue_counts[raw(line)] = list(expected)
+    asked.chosen.spelled[raw(line)] = raw(line)
+
+
+def cut(line, *expected):
+    """Read, to a table whose annotations have these numbers in field 3, and given back as it stands, but without the letters `yb`."""
+    yes(line)
+    asked.chosen.letters[raw(line)] = list(expected)
+    asked.chosen.spelled[raw(line)] = raw(line).replace(b"myb", b"m")
+
+
+def apart(head, rest, answer, *words):
+    """A line with letters, the first of them behind `head`: there the first edition has a stray byte. What the second says is stated by `answer`."""
+    asked.of(asked.first, no, head + rest, 2, len(head))
+    asked.of(asked.second, answer, head + rest, *words)
+
+
+def alike(answer, *words):
+    """What both editions say of a line."""
+    for edition in asked.each():
+        asked.of(edition, answer, *words)
 
 
 def name_end(text, at):
@@ -879,6 +938,232 @@ def beside_other_faults():
     differ("m2:2{A}", "m2:3{AA}")
 
 
+def lettered():
+    """Internal ions with letters. Document 02, M-113."""
+    named_by_design()
+    nine()
+    half_letters()
+    no_letters()
+    letters_and_limits()
+    letters_and_rules()
+    letters_and_lengths()
+    letters_freely()
+    bytes_at_letters()
+
+
+def named_by_design():
+    """Lines that the request and the notes on it name."""
+    apart("m", "xa3:6", cut, 1)
+    apart("m", "yb3:6", cut, 0)
+    apart("m", "xa3:6,,", no, 2, 7)
+    apart("m70000:3,m", "xa3:6", no, 4, 1)
+    apart("m", "yb3:6,p", cut, 0, 0)
+    alike(cut, "m3:6", 0)
+    alike(best, "m3:6,p")
+
+
+def nine():
+    """Each two letters, with what may stand before and behind them. The annotations before have a number in field 3 too, if they are a series."""
+    heads = (("", ()), ("&", ()), ("1@", ()), ("&65535@", ()), ("p,", (0,)), ("p,&0@", (0,)), ("y7-H2O^2/0.1,m3:6,", (8, 0)), ("_{mxa3:6},", (0,)),
+             ("_{,mxa3:6},", (0,)), ("r[mxa3:6,mxa],", (0,)), ("r[a[,mxa3:6]],", (0,)), ("r[{mxa3:6],", (0,)), ("_{[,mxa3:6},", (0,)), ("wa1{A[,mxa3:6]},", (12,)),
+             ("p-[a,mxa3:6],", (0,)))
+    tails = ("{PEPT}", "{[a]-PE[,mxa3:6]PT-[b]}", "-H2O", "+[Hex]-2H2O", "+i", "-2iA", "+2i13C-i15N", "[M+H]", "[M+Na-2e]", "^2", "^255", "/0.1", "/-0.20ppm",
+             "*0.5", "*1", "{PEPTIDE}+[Hex]-2H2O+2i13C-i15N[M+Na-2e]^3/-0.20ppm*0.50")
+    for number, letters in enumerate(LETTERS, 1):
+        code = 0 if letters == "yb" else number
+        for head, before in heads:
+            apart(head + "m", letters + "3:6", cut, *before, code)
+            apart(head + "m", letters + "3:6,m4:5,b2", cut, *before, code, 0, 2)
+        for tail in tails:
+            apart("m", letters + "3:6" + tail, cut, code)
+        for ends in ("2:2", "2:65535", "65535:65535", "10:12"):
+            apart("m", letters + ends, cut, code)
+        apart("m", letters + "3:6", yes, HEADER + RECORD)
+        apart("m", letters + "3:6{PEPT}", yes, HEADER + RECORD + 4)
+        asked.of(asked.second, counted_letters, letters)
+    # the place is that of the first of several
+    for head, rest, *codes in (("m", "xa3:6,mzc3:6", 1, 9), ("m", "zc3:6,mxa3:6", 9, 1), ("m3:6,m", "ya3:6,mxb2:2", 0, 4, 2), ("m", "yb3:6,myb3:6", 0, 0),
+                               ("m", "yb3:6,myc3:6", 0, 6), ("m", "yc3:6,myb3:6", 6, 0), ("m3:6,m4:7,m", "zb3:6,p,mza9:9", 0, 0, 8, 0, 7)):
+        apart(head, rest, cut, *codes)
+    apart("m", ",".join(["xa3:6"] + ["m" + letters + "3:6" for letters in LETTERS]), cut, 1, 1, 2, 3, 4, 0, 6, 7, 8, 9)
+    alike(cut, "m3:6,m4:7", 0, 0)
+
+
+def counted_letters(letters):
+    """Letters are no part of the sequence that is counted."""
+    line = "m" + letters + "3:6{P[K]EPT}"
+    yes(line)
+    asked.chosen.residue_counts[raw(line)] = [4]
+
+
+def half_letters():
+    """One letter, or two and something else: unfinished or stray in the second edition."""
+    for rest, number, place in (
+        ("x", 3, 2), ("y", 3, 2), ("z", 3, 2), ("xa", 3, 3), ("yb", 3, 3), ("zc", 3, 3), ("xa3", 3, 4), ("xa3:", 3, 5), ("xa31", 3, 5), ("xa3:6{", 3, 7),
+        ("xa3:6{PEPT", 3, 11), ("xa3:6-", 3, 7), ("xa3:6[", 3, 7), ("xa3:6^", 3, 7), ("xa3:6^1", 3, 8), ("xa3:6/", 3, 7), ("xa3:6*", 3, 7), ("xa3:6*.", 3, 8),
+        ("xa3:6,", 3, 7), ("xa3:6,m", 3, 8), ("xa3:6,mx", 3, 9), ("xa3:6,mxa", 3, 10), ("x3:6", 2, 2), ("y3:6", 2, 2), ("z3:6", 2, 2), ("xx3:6", 2, 2),
+        ("xy3:6", 2, 2), ("yy3:6", 2, 2), ("zx3:6", 2, 2), ("xd3:6", 2, 2), ("xA3:6", 2, 2), ("yB3:6", 2, 2), ("x:6", 2, 2), ("x,", 2, 2), ("x,mxa3:6", 2, 2),
+        ("x a3:6", 2, 2), ("x\t", 2, 2), ("xab3:6", 2, 3), ("xaa3:6", 2, 3), ("xaxa3:6", 2, 3), ("xayb3:6", 2, 3), ("ybyb3:6", 2, 3), ("xax3:6", 2, 3),
+        ("xaA3:6", 2, 3), ("xa 3:6", 2, 3), ("xa:6", 2, 3), ("xa,", 2, 3), ("xa-3:6", 2, 3), ("xa{A}", 2, 3), ("xa[a]", 2, 3), ("xa@3:6", 2, 3), ("xa03:6", 2, 3),
+        ("xa0:6", 2, 3), ("yb0:6", 2, 3), ("xa3x:6", 2, 4), ("xa3a:6", 2, 4), ("xa3xa:6", 2, 4), ("xa3,", 2, 4), ("xa3;6", 2, 4), ("xa3:0", 2, 5), ("xa3:06", 2, 5),
+        ("xa3:xa6", 2, 5), ("xa3:,", 2, 5), ("xa3:6xa", 2, 6), ("xa3:6:7", 2, 6), ("xa3:6 ", 2, 6), ("xa3:6\r", 2, 6), ("xa3:6;", 2, 6), ("xa3:6{}", 2, 7),
+        ("xa3:6, p", 2, 7), ("xa3:6,xa3:6", 2, 8), ("xa3:6,mxX3:6", 2, 9), ("xa3:6,m3:6,ma3:6", 2, 13), ("yb3:6,mb3:6", 2, 8),
+        # the order of what stands behind
+        ("xa3:6^2-H2O", 2, 8), ("xa3:6[M+H]-H2O", 2, 11), ("xa3:6*0.1/0.2", 2, 10), ("xa3:6-H2O{PEPT}", 2, 10), ("xa3:6+i+H2O", 2, 8), ("xa3:6{PEPT}{A}", 2, 12),
+    ):
+        apart("m", rest, no, number, place)
+    long = "&12@mxa3:6{[a]-PEPT-[c]}-2H2O+[Hex]+2i13C-i15N[M+Na-e]^23/-0.20ppm*0.50,1@mzc2:3,m4:5,myb3:6"
+    for n in range(len(long)):
+        alike(ask, long[:n])
+    apart(long[:5], long[5:], respelled, long.replace("-2H2O+[Hex]", "+[Hex]-2H2O").replace("myb", "m"))
+    asked.of(asked.second, no, long[:5], 3, 5)
+    asked.of(asked.second, no, long[:6], 3, 6)
+
+
+def no_letters():
+    """Lines to which the second edition has nothing to add: what looks like letters stands elsewhere, or behind what is stray in both."""
+    for line, number, place in (
+        ("m", 3, 1), ("m3", 3, 2), ("m3:", 3, 3), ("p,m", 3, 3), ("ma3:6", 2, 1), ("mb3:6", 2, 1), ("mc3:6", 2, 1), ("mab3:6", 2, 1), ("max3:6", 2, 1),
+        ("mby3:6", 2, 1), ("mXa3:6", 2, 1), ("mXA3:6", 2, 1), ("mYb3:6", 2, 1), ("md3:6", 2, 1), ("mw3:6", 2, 1), ("mda3:6", 2, 1), ("mwa3:6", 2, 1),
+        ("mm3:6", 2, 1), ("m,", 2, 1), ("m xa3:6", 2, 1), ("m&xa3:6", 2, 1), ("m1@xa3:6", 2, 2), ("m3xa:6", 2, 2), ("m3:xa6", 2, 3), ("m3:6xa", 2, 4),
+        ("m3:6,a3:6", 2, 7), ("Mxa3:6", 2, 0), ("xa3:6", 2, 1), ("yb3:6", 2, 1), ("zc3:6", 2, 1), ("xma3:6", 2, 1), ("pxa", 2, 1), ("pmxa3:6", 2, 1),
+        ("yxa3", 2, 1), ("y1mxa3:6", 2, 2), ("Ixa", 2, 1), ("?xa", 2, 1), ("rxa", 2, 1), ("m03:6", 2, 1), ("m0:6", 2, 1), (" mxa3:6", 2, 0), (",mxa3:6", 2, 0),
+        ("y1 ,mxa3:6", 2, 2), ("y1 mxa3:6", 2, 2), ("y1,,mxa3:6", 2, 3), ("y1, mxa3:6", 2, 3), ("y1^1,mxa3:6", 2, 4), ("y1;mxa3:6", 2, 2), ("&&mxa3:6", 2, 1),
+        ("00@mxa3:6", 2, 1), ("@mxa3:6", 2, 0), ("1@&mxa3:6", 2, 2), ("ma3:6,mxa3:6", 2, 1), ("_{}mxa3:6", 2, 2), ("r[]mxa3:6", 2, 2), ("_{,mxa3:6", 3, 9),
+        ("r[,mxa3:6", 3, 9), ("r[a[],mxa3:6", 3, 12), ("y1{mxa3:6}", 11, 0), ("m3:6{xa}", 11, 0), ("m3:6{mxa3:6}", 11, 0), ("m1:3", 6, 0), ("m6:3", 6, 0),
+        ("m3:6{PEP}", 6, 0), ("m70000:3", 4, 1),
+    ):
+        alike(no, line, number, place)
+    for head, name, tail in (("_{", "mxa3:6", "}"), ("_{", "p,mxa3:6", "}"), ("_{", "p],mxa3:6", "}"), ("r[", "mxa3:6", "]"), ("r[", "p,mxa3:6", "]"),
+                             ("r[", "a[],mxa3:6", "]"), ("r[", "},mxa3:6", "]"), ("IC[", "mxa3:6", "]"), ("IC[", "M,mxa3:6", "]"), ("s{", ",mxa3:6", "}[M+H]"),
+                             ("y1-[", "mxa3:6", "]"), ("m3:6-2[", "a,mxa3:6", "]"), ("y1{", "A[,mxa3:6]", "}"), ("m3:3{", "M[myb3:6]", "}")):
+        alike(kept, head + name + tail, name)
+
+
+def letters_and_limits():
+    """4 and 5 in lines with letters: before them, in their annotation and behind it."""
+    for head, rest, number, place in (
+        ("y65536,m", "xa3:6", 4, 1), ("y1^256,m", "xa3:6", 4, 3), ("65536@m", "xa3:6", 4, 0), ("&65536@m", "yb3:6", 4, 1), ("p,m3:65536,m", "xa3:6", 4, 5),
+        ("f{" + "H" * 13 + "},m", "xa3:6", 5, 14), ("_{" + "x" * 256 + "},m", "xa3:6", 5, 257), ("m", "xa65536:65537", 4, 3), ("m", "xa70000:3", 4, 3),
+        ("m", "xa3:65536", 4, 5), ("m", "yb3:65536", 4, 5), ("m", "xa70000:70000", 4, 3), ("m", "xa99999999999999999999:3", 4, 3), ("m", "xa1:65536", 4, 5),
+        ("m", "xa3:6^256", 4, 7), ("m", "xa3:6-1000H", 4, 7), ("m", "xa3:6/0.1234567890", 4, 7), ("m", "xa3:6*0.1234567890", 4, 7),
+        ("m", "xa3:6*.1234567890", 4, 8), ("m", "xa3:6" + "-H" * 9, 5, 6 + 16), ("m", "xa3:6" + "+i13C" * 5, 5, 6 + 20),
+        ("m", "xa3:6[M" + "+H" * 5 + "]", 5, 6 + 2 + 8), ("m", "xa3:6,y65536", 4, 8), ("m", "xa3:6,mxa65536:3", 4, 10),
+        ("m", "xa3:6,_{" + "x" * 256 + "}", 5, 7 + 257), ("m", "xa2:3{" + "A" * 256 + "}", 5, 7 + 255), ("m", "yb2:3{" + "x" * 256 + "}", 5, 7 + 255),
+        (joined(16, "p") + ",m", "xa3:6", 5, 32), (joined(16, "p") + ",&m", "xa3:6", 5, 32), (joined(15, "p") + ",m", "xa3:6,p", 5, 30 + 7),
+        ("m", "xa3:6" + ",mxa3:6" * 16, 5, 16 * 7), ("m", "yb3:6" + ",myb3:6" * 16, 5, 16 * 7),
+    ):
+        apart(head, rest, no, number, place)
+    apart("m", "xa3:6" + ",mxa3:6" * 15, cut, *[1] * 16)
+    apart("m", "xa3:6" + ",mxa3:6" * 15, yes, HEADER + 16 * RECORD)
+    apart("m", "yb3:6" + ",myb3:6" * 15, cut, *[0] * 16)
+    apart(joined(15, "p") + ",m", "zc3:6", cut, *[0] * 15, 9)
+    apart("m", "xa2:256{" + "A" * 255 + "}", cut, 1)
+    # a stray byte and an unfinished line go before
+    apart("y65536,m", "xa3:6#", no, 2, 13)
+    apart("y65536,m", "xa3:6,", no, 3, 14)
+
+
+def letters_and_rules():
+    """11, 6 and 7 in lines with letters: letters change no rule."""
+    for head, rest, number, place in (
+        ("m", "xa1:3", 6, 0), ("m", "xa1:1", 6, 0), ("m", "xa6:3", 6, 0), ("m", "xa3:2", 6, 0), ("m", "xa2:1", 6, 0), ("m", "yb1:3", 6, 0), ("m", "yb6:3", 6, 0),
+        ("m", "zc65535:2", 6, 0), ("&m", "xa1:3", 6, 0), ("0@m", "xa6:3", 6, 0), ("p,m", "xa1:3", 6, 2), ("m", "xa3:6,mxa1:3", 6, 7), ("m", "xa3:6,m1:3", 6, 7),
+        ("m1:3,m", "xa3:6", 6, 0), ("m", "xa3:6/-0.0", 6, 0), ("m", "xa3:6/-0ppm", 6, 0), ("m", "xa3:6*2", 6, 0), ("s{C},m", "xa3:6", 6, 0),
+        ("m", "xa3:6,s{C}", 6, 7), ("m", "xa3:6{PEP}", 6, 0), ("m", "xa3:6{M[KKK]}", 6, 0), ("m", "yb3:6{PEP}", 6, 0), ("m", "xa6:3{P}", 6, 0),
+        ("p,m", "xa3:6{PEP}", 6, 2), ("m", "xa3:6,y4{PEP}", 6, 7), ("m", "xa3:6{x}", 11, 0), ("m", "yb3:6{x}", 11, 0), ("m", "xa1:1{x}", 11, 0),
+        ("m", "xa3:6{PEPt}", 11, 0), ("m", "xa3:6{M[]}", 11, 0), ("p,m", "xa3:6{x}", 11, 2), ("m", "xa1:1,y1{x}", 11, 7), ("y1{x},m", "xa3:6", 11, 0),
+        ("m", "xa3:6{x},y70000", 4, 11), ("y1{x},m", "xa70000:3", 4, 9), ("m", "xa3:6,y1{x},m1:1", 11, 7), ("m", "xa3:6*0.7,mza3:6*0.301", 7, 11),
+        ("m", "yb3:6*.7,m3:6*.301", 7, 10), ("y1*0.7,m", "xa3:6*0.301", 7, 7), ("y1*0.7,b1*0.7,m", "xa1:3", 6, 14), ("m", "xa3:6*1,mxb3:6*0.000000001", 7, 9),
+    ):
+        apart(head, rest, no, number, place)
+    for head, rest, *codes in (("m", "xa3:6*0.7,mza3:6*0.3", 1, 7), ("m", "yb3:6*0.5,m3:6*0.5", 0, 0), ("m", "xa3:6{PEPT}", 1), ("m", "xa3:6{PEPTIDE}", 1),
+                               ("m", "xa3:6{[KK]-PE[K]PT}", 1), ("m", "xa2:2{K},m2:2{K}", 1, 0), ("m", "xa3:6/0.0", 1)):
+        apart(head, rest, cut, *codes)
+
+
+def letters_and_lengths():
+    """4,096 bytes and more. In the first edition a line of more is 1 too, letters or not."""
+    for head, before, codes in (("mxa3:6", "m", (1,)), ("myb3:6", "m", (0,)), ("p,mzc3:6{PEPT}", "p,m", (0, 9)), ("mya3:6,myb3:6", "m", (4, 0))):
+        line = reached(head, MAX_LINE)
+        apart(before, line[len(before):], cut, *codes, 0, 0)
+        alike(no, reached(head, MAX_LINE + 1), 1, MAX_LINE)
+        alike(no, reached(head, MAX_LINE + 2), 1, MAX_LINE)
+        apart(before, line[len(before):-1] + "\x7f", no, 2, MAX_LINE - 1)
+        apart(before, line[len(before):-1], no, 3, MAX_LINE - 1)
+        alike(no, line + "#", 1, MAX_LINE)
+    alike(yes, reached("m3:6", MAX_LINE))
+    # letters at the end of the longest lines
+    for end, number in (("x", 3), ("xa", 3), ("xx", 2), ("xa3:6#", 2)):
+        front = reached("p", MAX_LINE - 2 - len(end)) + ",m"
+        apart(front, end, no, number, MAX_LINE - (number == 2))
+        alike(no, "p" + front + end, 1, MAX_LINE)
+    alike(no, reached("p", MAX_LINE - 2) + ",m", 3, MAX_LINE)
+    front = reached("p", MAX_LINE - 7) + ",m"
+    apart(front, "xa3:6", cut, 0, 0, 0, 1)
+    alike(no, "p" + front + "xa3:6", 1, MAX_LINE)
+    # the preferred spelling is shorter by two bytes for each `yb`, and longer by one for each point: it has 4,095, 4,096 and 4,097 bytes
+    for points in (1, 2, 3):
+        line = reached("myb3:6*.0" + ",p*.0" * (points - 1), MAX_LINE)
+        apart("m", line[1:], *((yes,) if points == 3 else (respelled, line.replace("myb", "m").replace("*.", "*0."))))
+    for line in ("m" + "x" * 4096, "mxa3:6" + "x" * 4091, "mxa3:6," * 600, "mxa" + "3" * 70000):
+        alike(no, line, 1, MAX_LINE)
+
+
+def letters_freely():
+    """`yb` may be written or not, as counts of 1; any other letters are another table."""
+    second = asked.second
+    for made in (
+        ("m3:6", "myb3:6"), ("&1@m3:6", "&1@myb3:6"), ("m3:6{PEPT}", "myb3:6{PEPT}"), ("m2:2,m3:3", "myb2:2,m3:3", "m2:2,myb3:3", "myb2:2,myb3:3"),
+        ("m3:6-H2O-NH3", "myb3:6-H2O-NH3", "m3:6-NH3-H2O", "myb3:6-NH3-H2O", "myb3:6-NH3-H2O1"), ("m3:6*0.5", "myb3:6*0.5", "m3:6*.5", "myb3:6*.5"),
+        ("m3:6+i[M+H+Na]^2/0.1ppm", "myb3:6+1i[M+Na+H]^2/0.1ppm", "m3:6+1i[M+1H+Na]^2/0.1ppm"), ("mxa3:6-H2O-NH3", "mxa3:6-NH3-H2O"), ("mzc3:6*0.5", "mzc3:6*.5"),
+        ("mxa3:6,m3:6,mzc3:6", "mxa3:6,myb3:6,mzc3:6"), ("mxa3:6-H2O-NH3,m3:6", "mxa3:6-NH3-H2O,m3:6", "mxa3:6-NH3-H2O,myb3:6", "mxa3:6-H2O-NH3,myb3:6"),
+        ("_{myb3:6},m3:6", "_{myb3:6},myb3:6"),
+    ):
+        asked.of(second, best, *made)
+        for line in made:
+            at = first_letter(raw(line))
+            asked.of(asked.first, *((yes, line) if at is None else (no, line, 2, at)))
+    for i, one in enumerate(LETTERS):
+        for other in LETTERS[i + 1:]:
+            asked.of(second, differ, "m" + one + "3:6", "m" + other + "3:6")
+        if one != "yb":
+            asked.of(second, differ, "m3:6", "m" + one + "3:6")
+            asked.of(second, differ, "p,m3:6{PEPT}-H2O", "p,m" + one + "3:6{PEPT}-H2O")
+    asked.of(second, differ, "mxa3:6,mxb3:6", "mxb3:6,mxa3:6")
+    asked.of(second, differ, "mxa3:6", "mxa3:7")
+    asked.of(second, differ, "mxa3:6", "mxa2:6")
+
+
+def bytes_at_letters():
+    """Every byte but the line feed behind `m`, and in the second edition behind one letter, two, and a digit."""
+    for byte in (bytes([b]) for b in range(256) if b != 10):
+        begins = byte.isdigit() and byte != b"0"
+        if byte in (b"x", b"y", b"z"):
+            apart("m", byte.decode(), no, 3, 2)
+        else:
+            alike(no, b"m" + byte, 3 if begins else 2, 2 if begins else 1)
+        for first in (b"mx", b"my", b"mz"):
+            asked.of(asked.second, no, first + byte, *((3, 3) if byte in (b"a", b"b", b"c") else (2, 2)))
+        for letters in (b"xa", b"yb"):
+            asked.of(asked.second, no, b"m" + letters + byte, *((3, 4) if begins else (2, 3)))
+            asked.of(asked.second, ask, b"m" + letters + b"3" + byte)
+            asked.of(asked.second, ask, b"m" + letters + b"3:6" + byte)
+
+
+def reached(head, size):
+    """A line of so many bytes that is read if its head is: the head, and two precursors with eight losses each, in preferred order."""
+    left = size - len(head) - len(",p,p") - 16 * len("-[]")
+    parts = []
+    for i in range(16):
+        n = left // (16 - i)
+        parts.append("-[" + "x" * n + "]")
+        left -= n
+    line = head + ",p" + "".join(parts[:8]) + ",p" + "".join(parts[8:])
+    assert len(line) == size and max(len(part) for part in parts) <= 258, (len(line), size)
+    return line
+
+
 def filled(size, zeros):
     """A line of so many bytes that is read: 16 annotations, of which so many have a confidence without its 0, and the others none."""
     parts = ["_{%s}" + ("*.0" if i < zeros else "") for i in range(16)]
@@ -1091,44 +1376,73 @@ def rooms():
     # refusals by other numbers go before 8
     for line, number, place in (("y1^1", 3, 4), ("y1 ", 2, 2), ("y65536", 4, 1), (joined(17, "p"), 5, 32), ("m1:3", 6, 0), ("y1*0.7,b2*0.7", 7, 7),
                                 ("x" * 4097, 1, 4096), ("r[a[b]", 3, 6), ("r[a]]", 2, 4), ("r[" + "[]" * 128 + "]", 5, 257), ("m1:1,y1{x}", 11, 5),
-                                ("p,y4{PEP}", 6, 2)):
+                                ("p,y4{PEP}", 6, 2), ("mxa3:6", 2, 1), ("p,myb3:6", 2, 3), (reached("mxa3:6", 4096), 2, 1), (reached("mxa3:6", 4097), 1, 4096)):
         for room in (0, 1, 28, ROOM):
             made.append((room, raw(line), (number, place, 0)))
     return made
 
 
-def checked_reads(answers):
+def first_letter(line):
+    """Where the first letter of an internal ion stands in a line of second-edition shape; none without one. Texts and names are passed over: a text
+    ends at its brace, a name where its brackets pair up."""
+    at, begins = 0, True
+    while at < len(line):
+        byte = line[at:at + 1]
+        if begins and byte == b"m" and line[at + 1:at + 2] in (b"x", b"y", b"z"):
+            return at + 1
+        # an annotation begins at its ion, behind `&` and the analyte
+        begins = byte in (b",", b"&", b"@") or begins and byte.isdigit()
+        at = line.index(b"}", at) if byte == b"{" else name_end(line, at) - 1 if byte == b"[" else at
+        at += 1
+    return None
+
+
+def checked_editions(first, second):
+    """Differences between the stored answers of both editions and what the request says of the first (M-113): a line of second-edition shape is 2 at
+    its first letter, and without letters answered the same. What is 1 has no shape that is asked for, and is 1 in both."""
+    for line in first.keys() & second.keys():
+        number = int(second[line].split(b" ")[0])
+        at = first_letter(line) if number not in (1, 2, 3) else None
+        due = b"2 %d 0 -" % at if at is not None else second[line] if number not in (2, 3) else first[line]
+        if first[line] != due or (number == 1) != first[line].startswith(b"1 "):
+            yield line, due, first[line]
+
+
+def checked_reads(of, answers):
     """Differences between the stored answers and what is stated of them."""
     found = {}
-    for line, answer in zip(lines, answers):
+    for line, answer in zip(of.lines, answers):
         number, place, length, digits = answer.split(b" ")
         table = b"" if digits == b"-" else bytes.fromhex(digits.decode())
-        found[line] = (int(number), int(place), int(length), table)
+        got = (int(number), int(place), int(length), table)
+        if found.setdefault(line, got) != got:
+            yield line, found[line], answer
         if len(table) != int(length) or (int(number) != 0 and table) or (int(number) == 0 and not table):
             yield line, "a table and a length that agree", answer
-    for line, (number, place) in stated.items():
+    for line, (number, place) in of.stated.items():
         if found[line][:2] != (number, place):
             yield line, (number, place), found[line][:3]
-    for line, size in sizes.items():
+    for line, size in of.sizes.items():
         if found[line][2] != size:
             yield line, "%d bytes" % size, found[line][:3]
-    for group in equal:
+    for group in of.equal:
         for line in group[1:]:
             if found[line][3] != found[group[0]][3]:
                 yield line, b"the table of " + group[0], found[line][3].hex()
-    for a, b in unequal:
+    for a, b in of.unequal:
         if found[a][3] == found[b][3]:
             yield a, b"another table than " + b, found[a][3].hex()
-    for line, expected in texts.items():
+    for line, expected in of.texts.items():
         count, offset = pair(found[line][3], 24)
         if found[line][3][offset:offset + count] != expected:
             yield line, expected, found[line][3].hex()
-    for line, expected in residue_counts.items():
-        table = found[line][3]
-        got = [pair(table, HEADER + RECORD * i + 36, 1)[0] for i in range(pair(table, 4)[0])]
-        if got != expected:
-            yield line, expected, got
-    for line, expected in units.items():
+    for line, expected in of.residue_counts.items():
+        if [pair(record, 36, 1)[0] for record in records_of(found[line][3])] != expected:
+            yield line, expected, found[line][3].hex()
+    for line, expected in of.letters.items():
+        if [record[3] for record in records_of(found[line][3])] != expected:
+            yield line, expected, found[line][3].hex()
+    for line, expected in of.units.items():
         table = found[line][3]
         count, offset = pair(table, 20)
         got = [tuple(pair(table, offset + 6 * i, 3)) for i in range(count)]
@@ -1136,21 +1450,26 @@ def checked_reads(answers):
             yield line, expected, got
 
 
-def checked_spellings(read, answers):
+def checked_spellings(of, read, answers):
     """Differences between the stored answers of `relabel` and what follows from those of `reads`, and from the stated spellings."""
-    for line, told, answer in zip(lines, read, answers[len(SHOWN):]):
+    for line, told, answer in zip(of.lines, read, answers[len(SHOWN):]):
         number, place, _, digits = told.split(b" ")
         table = bytes.fromhex(digits.decode()) if number == b"0" else b""
         due = decode.shown(decode.decoded(table), table, True).encode() if table else b"!" + number + b" " + place
         if len(due) > MAX_LINE:
             due = b"!1 %d" % MAX_LINE
-        if answer != due or spelled.get(line, due) != due:
-            yield line, spelled.get(line, due), answer
+        if answer != due or of.spelled.get(line, due) != due:
+            yield line, of.spelled.get(line, due), answer
 
 
 def pair(table, at, n=2):
     """n numbers of two bytes each."""
     return [int.from_bytes(table[at + 2 * i:at + 2 * i + 2], "little") for i in range(n)]
+
+
+def records_of(table):
+    """The records of the annotations."""
+    return [table[HEADER + RECORD * i:HEADER + RECORD * (i + 1)] for i in range(pair(table, 4)[0])]
 
 
 def stored(name, kind):
@@ -1159,49 +1478,82 @@ def stored(name, kind):
 
 
 def store(name, kind, data):
+    os.makedirs(os.path.join(ROOT, name), exist_ok=True)
     with open(os.path.join(ROOT, name, kind), "wb") as f:
         f.write(data)
 
 
-def check(made):
-    answers = stored("reads", "stdout").split(b"\n")[:-1]
-    assert len(answers) == len(lines), (len(answers), len(lines))
-    wrong = list(checked_reads(answers))
-    spellings = stored("relabel", "stdout").split(b"\n")[:-1]
-    assert len(spellings) == len(SHOWN) + len(lines), (len(spellings), len(lines))
-    wrong += checked_spellings(answers, spellings)
-    answers = stored("try_read_sized", "stdout").split(b"\n")[:-1]
-    assert len(answers) == len(made), (len(answers), len(made))
-    for (room, line, expected), answer in zip(made, answers):
+def store_second(name, data):
+    """The input of a program for lines of the second edition, and the word that asks for it."""
+    store(name, "stdin", data)
+    store(name, "args", b"--second\n")
+
+
+def answers_of(name, many):
+    """The stored answers of a program."""
+    answers = stored(name, "stdout").split(b"\n")[:-1]
+    assert len(answers) == many, (name, len(answers), many)
+    return answers
+
+
+def checked_lines(of):
+    """Differences in the stored answers for one edition of lines."""
+    answers = answers_of(of.reads, len(of.lines))
+    return [*checked_reads(of, answers), *checked_spellings(of, answers, answers_of(of.relabel, len(SHOWN) + len(of.lines)))]
+
+
+def checked_rooms(made):
+    for (room, line, expected), answer in zip(made, answers_of("try_read_sized", len(made))):
         got = tuple(int(n) for n in answer.split(b" ")[:3])
         if got != expected:
-            wrong.append((b"%d " % room + line, expected, got))
+            yield b"%d " % room + line, expected, got
+
+
+def check(made):
+    said = [dict(zip(of.lines, answers_of(of.reads, len(of.lines)))) for of in asked.each()]
+    wrong = [*checked_lines(asked.first), *checked_lines(asked.second), *checked_editions(*said), *checked_rooms(made)]
     for line, expected, got in wrong:
-        print("line %r: stated %r, stored %r" % (line[:80], expected, got))
-    print("%d lines, %d of them with a stated answer; %d rooms; %d differences" % (len(lines), len(stated), len(made), len(wrong)))
+        print("line %r: stated %.200r, stored %.200r" % (line[:80], expected, got))
+    for of in asked.each():
+        print("%s: %d lines, %d of them with a stated answer" % (of.reads, len(of.lines), len(of.stated)))
+    print("%d lines of both; %d rooms; %d differences" % (len(said[0].keys() & said[1].keys()), len(made), len(wrong)))
     return not wrong
 
 
-def answers_by(folder, name, given, *words):
+def answers_by(folder, name, given, *words, flags=LANDED):
     """What a program of the other implementation prints."""
-    return subprocess.run([os.path.join(folder, name), *LANDED, *words], input=given, stdout=subprocess.PIPE, check=True).stdout
+    return subprocess.run([os.path.join(folder, name), *flags, *words], input=given, stdout=subprocess.PIPE, check=True).stdout
+
+
+def store_inputs(made):
+    """The last line of some lacks its line feed, as it may."""
+    for of, put in zip(asked.each(), (lambda name, data: store(name, "stdin", data), store_second)):
+        put(of.reads, b"\n".join(of.lines))
+        put(of.relabel, b"\n".join([*SHOWN, *of.lines]))
+    store("try_read_sized", "stdin", b"".join(b"%d " % room + line + b"\n" for room, line, _ in made))
+
+
+def store_outputs(folder, made):
+    for of in asked.each():
+        store(of.reads, "stdout", answers_by(folder, "cross", stored(of.reads, "stdin"), flags=of.flags))
+        store(of.relabel, "stdout", answers_by(folder, "relabel", stored(of.relabel, "stdin"), flags=of.flags))
+    store("try_read_sized", "stdout", b"".join(answers_by(folder, "cross", line + b"\n", "--out", str(room)) for room, line, _ in made))
 
 
 def main(words):
     for part in (examples, readings, specification, lengths, counted, numbered, together, sums, points, nested, sequences, spellings, orders, kinds,
                  unfinished, strays):
         part()
+    # lines without letters, which the second edition answers as the first
+    for part in (examples, readings, specification, lengths, counted, together, sums, points, beside_other_faults, spellings, kinds, unfinished):
+        asked.of(asked.second, part)
+    lettered()
     made = rooms()
     if words[:1] == ["--check"]:
         return 0 if check(made) else 1
-    # the last line lacks its line feed, as it may
-    store("reads", "stdin", b"\n".join(lines))
-    store("relabel", "stdin", b"\n".join([*SHOWN, *lines]))
-    store("try_read_sized", "stdin", b"".join(b"%d " % room + line + b"\n" for room, line, _ in made))
+    store_inputs(made)
     if words[:1] == ["--with"]:
-        store("reads", "stdout", answers_by(words[1], "cross", stored("reads", "stdin")))
-        store("relabel", "stdout", answers_by(words[1], "relabel", stored("relabel", "stdin")))
-        store("try_read_sized", "stdout", b"".join(answers_by(words[1], "cross", line + b"\n", "--out", str(room)) for room, line, _ in made))
+        store_outputs(words[1], made)
         return 0 if check(made) else 1
     return 0
 

@@ -3,14 +3,16 @@
 
     python3 tools/compare.py OURS OTHER [--lines N] [--seed S] [--good FILE] [--show K]
 
-OURS and OTHER are programs that read lines from standard input and print one answer a line: "tools/run reads" and another reader,
-or "tools/run relabel" and another relabel program. Each is a path, or words between quotes.
-N (100,000 unless said) lines are made from good ones by damage: bytes and whole parts deleted, inserted, swapped, repeated; numbers
-moved to their bounds; parts repeated past their limits; long lines. Some names have brackets inside, of a depth up to 6; brackets are put
-in, dropped, turned and moved, at times some thousands of them. The braces of series and internal ions mostly hold a sequence with residues
-enough, and at times one too few, one with a byte changed, or another text. FILE holds the good lines, one a line; without it the inputs of
-the program `reads` and lines made here serve. The same S makes the same lines. Prints each difference (K of them, 20 unless said)
-and how often each number was answered; the exit status is 1 where the answers differ.
+OURS and OTHER are programs that read lines from standard input and print one answer a line: "tools/run reads" and another reader, or "tools/run
+relabel" and another relabel program. Each is a path, or words between quotes: "tools/run reads --second" reads lines of the second edition, and the
+other has to be told the same.
+N (100,000 unless said) lines are made from good ones by damage: bytes and whole parts deleted, inserted, swapped, repeated; numbers moved to their
+bounds; parts repeated past their limits; long lines. Some names have brackets inside, of a depth up to 6; brackets are put in, dropped, turned and
+moved, at times some thousands of them. The braces of series and internal ions mostly hold a sequence with residues enough, and at times one too few,
+one with a byte changed, or another text. Some lines have internal ions with letters, as in `mxa3:6`, at times one letter, two in another order,
+doubled, capital or foreign ones; in the first edition such a line is refused at the first letter, so most lines have none. FILE holds the good lines,
+one a line; without it the inputs of the programs `reads` and `try_second_reads` and lines made here serve. The same S makes the same lines. Prints
+each difference (K of them, 20 unless said) and how often each number was answered; the exit status is 1 where the answers differ.
 """
 import argparse
 import collections
@@ -21,6 +23,8 @@ import shlex
 import subprocess
 import sys
 
+# The stored inputs that serve as good lines, of both editions.
+STORED = [os.path.join(os.path.dirname(os.path.abspath(__file__)), "..", "crates", name, "stdin") for name in ("reads", "try_second_reads")]
 SERIES = "a b c d v w x y z da db wa wb".split()
 SYMBOLS = "H C N O S P Na K He Cl Fe Se Li Og U Cn Hf".split()
 NAMES = ["Hex", "HexNAc", "Hexose", "M", "M2", "a", "TMT127N", "Phospho", "x,y/z", "Z~", "He"]
@@ -31,8 +35,9 @@ DECIMALS = ["0", "0.0", "0.1", "0.05", "0.01", "0.02", "0.5", "0.25", "1", "1.0"
 # What stands before the first bracket inside a name that need not begin with a letter; between brackets, or beside them.
 BEFORE = ["", "", "M", "x", "2"]
 INSIDE = ["", "", "", "a", "x", "Hex", "M+", "M-H", "2H1", "13C", ",", "/0.5", "{", "}", "+i", "*.5", " ", "^2", "II"]
+LETTERS = [first + second for first in "xyz" for second in "abc"]
 RESIDUES = "ACDEFGHIKLMNPQRSTVWYXBZJOU"
-ALPHABET = b"yb12350m:I[]{}()+-^/*,.@&?_fsrpM HCNOeiAa\x00\x7f\xff\r~"
+ALPHABET = b"yb12350m:I[]{}()+-^/*,.@&?_fsrpM HCNOeiAaxzc\x00\x7f\xff\r~"
 
 
 def nested(chance, depth):
@@ -59,6 +64,13 @@ def sequence_changed(chance, text):
     """A byte of a sequence dropped, put in, turned into another, or swapped with its neighbour."""
     at, byte = chance.randint(0, len(text)), chance.choice("AKx[]--[]a1 ")
     return chance.choice([text[:at] + text[at + 1:], text[:at] + byte + text[at:], text[:at] + byte + text[at + 1:], text[:at] + text[at + 1:at + 2] + text[at:at + 1] + text[at + 2:]])
+
+
+def letters_changed(chance, letters):
+    """Letters of an internal ion, one of them dropped, both swapped, one or both doubled, capital, or foreign."""
+    first, second = letters
+    return chance.choice([first, second, second + first, first * 2, second * 2, letters * 2, letters + second, letters.upper(), first.upper() + second,
+                          first + second.upper(), chance.choice("adwmb") + second, first + chance.choice("dxz1: "), letters + chance.choice(" :,0")])
 
 
 def brackets_changed(chance, text):
@@ -88,6 +100,7 @@ class Maker:
     def __init__(self, seed, good):
         self.random = random.Random(seed)
         self.good = good
+        self.lettered = False  # whether the line has letters
 
     def name(self, first=NAMES):
         """A name, at times with brackets inside; of a loss it mostly begins with a letter."""
@@ -143,8 +156,16 @@ class Maker:
         many = self.random.randint(1, count) if self.random.random() < 0.6 else count
         return "{" + made + "}", count + 1 if self.random.random() < 0.06 else many
 
+    def letters(self):
+        """What stands behind the `m` of an internal ion."""
+        if not self.lettered or self.random.random() < 0.35:
+            return ""
+        made = self.random.choice(LETTERS)
+        return letters_changed(self.random, made) if self.random.random() < 0.08 else made
+
     def ion(self):
-        kind = self.random.randrange(9)
+        # with letters there are more internal ions
+        kind = 1 if self.lettered and self.random.random() < 0.3 else self.random.randrange(9)
         text = self.random.choice(TEXTS)
         if kind == 0:
             braces, many = self.braces() if self.random.random() < 0.4 else ("", self.number())
@@ -154,8 +175,8 @@ class Maker:
             if self.random.random() < 0.4:
                 braces, many = self.braces()
                 start = start if self.random.random() < 0.95 else self.random.choice([65535 - many, 65536 - many, 65535])
-                return "m%d:%d" % (start, start + many - 1) + braces
-            return "m%s:%s" % (start, self.number(start, 30))
+                return "m%s%d:%d" % (self.letters(), start, start + many - 1) + braces
+            return "m%s%s:%s" % (self.letters(), start, self.number(start, 30))
         if kind == 2:
             return "I" + self.random.choice("ACDKMRZ") + ("[" + self.name(BEFORE) + "]" if self.random.random() < 0.5 else "")
         if kind == 6:
@@ -183,6 +204,7 @@ class Maker:
         return "".join(parts)
 
     def fresh(self):
+        self.lettered = self.random.random() < 0.3
         n = self.random.choice([1, 1, 1, 1, 1, 1, 2, 2, 2, 3, 5, 10, 16, 17])
         if self.random.random() < 0.15:
             return self.shares(n)
@@ -218,9 +240,21 @@ class Maker:
         end = end if end >= 0 else len(line)
         return line[:at] + sequence_changed(self.random, line[at:end].decode("latin-1")).encode("latin-1") + line[end:]
 
+    def letters_moved(self, line):
+        """Letters behind some `m` put in, changed or dropped."""
+        places = [i + 1 for i, b in enumerate(line) if b == 109]
+        if not places:
+            return line
+        at = self.random.choice(places)
+        end = at + (2 if line[at:at + 2].decode("latin-1") in LETTERS else 0)
+        made = self.random.choice(["", self.random.choice(LETTERS), letters_changed(self.random, self.random.choice(LETTERS))])
+        return line[:at] + made.encode() + line[end:]
+
     def damaged(self, line):
         a, b = self.piece(line)
-        how = self.random.randrange(13)
+        how = self.random.randrange(14)
+        if how == 13:
+            return self.letters_moved(line)
         if how == 12:
             return self.text_changed(line)
         if how > 9:
@@ -259,6 +293,15 @@ class Maker:
         return made.replace(b"\n", b" ")
 
 
+def good_lines(paths, longest):
+    """The lines of files, but for those that are very long."""
+    found = []
+    for path in paths:
+        with open(path, "rb") as f:
+            found += [line for line in f.read().split(b"\n") if len(line) < longest]
+    return found
+
+
 def answers(program, given):
     return subprocess.run(shlex.split(program), input=given, stdout=subprocess.PIPE, check=True).stdout.split(b"\n")[:-1]
 
@@ -271,16 +314,14 @@ def answered(answer):
 
 def main():
     parser = argparse.ArgumentParser(description=__doc__.split("\n")[0])
-    parser.add_argument("ours")
-    parser.add_argument("other")
+    parser.add_argument("ours", help='as "tools/run reads", or "tools/run reads --second" for lines of the second edition')
+    parser.add_argument("other", help="the other program, with its words, for lines of the same edition")
     parser.add_argument("--lines", type=int, default=100000)
     parser.add_argument("--seed", type=int, default=1)
     parser.add_argument("--show", type=int, default=20)
-    parser.add_argument("--good", default=os.path.join(os.path.dirname(os.path.abspath(__file__)), "..", "crates", "reads", "stdin"))
+    parser.add_argument("--good", metavar="FILE")
     given = parser.parse_args()
-    with open(given.good, "rb") as f:
-        good = [line for line in f.read().split(b"\n") if len(line) < 5000]
-    maker = Maker(given.seed, good)
+    maker = Maker(given.seed, good_lines([given.good] if given.good else STORED, 5000))
     numbers = collections.Counter()
     differences = 0
     # by stretches of lines, so that neither the lines nor the answers of a long run are held at once

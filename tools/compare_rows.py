@@ -6,19 +6,19 @@
 
 OURS and OTHER are programs that print one answer a line, each a path, or words between quotes. They read rows from standard input:
 "tools/run row_reads" and another reader of rows, or "tools/run peaks" and another program that relabels rows. With --stored they read
-stored rows in hexadecimal digits, one a line: "tools/run row_writes" and another writer of rows.
-N (100,000 unless said, 20,000 with --stored) rows are made: two decimals, some of them at or past their bounds, and a line behind them.
-The line is one of FILE, one of those that tools/compare.py makes, good or damaged, or there is none; without FILE the inputs of the program
-`reads` serve. Then, in any column, bytes are changed, put in and dropped, tabs moved, doubled and dropped, columns swapped and repeated, rows
-cut, rows and lines made as long as they may be or longer, and confidences begun with their point. Stored rows are such decimals and a table
-of edition 2 or 1, one of the stored output of `reads` or of those that tools/compare_tables.py makes; then bytes of the front are changed, and rows are cut,
-shifted and made longer.
+stored rows in hexadecimal digits, one a line: "tools/run row_writes" and another writer of rows. With the word `--second` behind it, as in
+"tools/run peaks --second", ours takes lines of the second edition, and the other has to be told the same.
+N (100,000 unless said, 20,000 with --stored) rows are made: two decimals, some of them at or past their bounds, and a line behind them. The line is
+one of FILE, one of those that tools/compare.py makes, good or damaged, or there is none; without FILE the inputs of the programs `reads` and
+`try_second_reads` serve. Some lines have internal ions with letters, as in `mxa3:6`. Then, in any column, bytes are changed, put in and dropped, tabs
+moved, doubled and dropped, columns swapped and repeated, rows cut, rows and lines made as long as they may be or longer, and confidences begun with
+their point. Stored rows are such decimals and a table of edition 2 or 1, one of the stored outputs of these programs or of those that
+tools/compare_tables.py makes; then bytes of the front are changed, and rows are cut, shifted and made longer.
 The same S makes the same rows. Prints each difference (K of them, 20 unless said) and how often each number was answered; the exit status is
 1 where the answers differ.
 """
 import argparse
 import collections
-import os
 import random
 import re
 import shlex
@@ -28,7 +28,6 @@ import sys
 sys.dont_write_bytecode = True
 import compare
 import compare_tables
-from cases import ROOT
 from row_cases import FRONT, MAX_LINE, MAX_ROW, stored_row
 from table_cases import texts
 
@@ -186,16 +185,6 @@ class StoredMaker:
         return made.hex().encode()
 
 
-def good_lines(path):
-    with open(path, "rb") as f:
-        return [line for line in f.read().split(b"\n") if len(line) <= MAX_LINE + 100]
-
-
-def good_tables():
-    with open(os.path.join(ROOT, "reads", "stdout"), "rb") as f:
-        return [bytes.fromhex(line.split(b" ")[3].decode()) for line in f.read().split(b"\n") if line.startswith(b"0 ")]
-
-
 def answers(program, data):
     return subprocess.run(shlex.split(program), input=data, stdout=subprocess.PIPE, check=True).stdout.split(b"\n")[:-1]
 
@@ -220,15 +209,18 @@ def compared(ours, other, maker, count):
 
 def main():
     parser = argparse.ArgumentParser(description=__doc__.split("\n")[0])
-    parser.add_argument("ours")
-    parser.add_argument("other")
+    parser.add_argument("ours", help='as "tools/run peaks", or "tools/run peaks --second" for lines of the second edition')
+    parser.add_argument("other", help="the other program, with its words, for lines of the same edition")
     parser.add_argument("--stored", action="store_true")
     parser.add_argument("--rows", type=int)
     parser.add_argument("--seed", type=int, default=1)
     parser.add_argument("--show", type=int, default=20)
-    parser.add_argument("--good", default=os.path.join(ROOT, "reads", "stdin"))
+    parser.add_argument("--good", metavar="FILE")
     given = parser.parse_args()
-    maker = StoredMaker(given.seed, good_tables()) if given.stored else RowMaker(given.seed, good_lines(given.good))
+    if given.stored:
+        maker = StoredMaker(given.seed, compare_tables.good_tables())
+    else:
+        maker = RowMaker(given.seed, compare.good_lines([given.good] if given.good else compare.STORED, MAX_LINE + 101))
     count = given.rows if given.rows is not None else 20000 if given.stored else 100000
     numbers = collections.Counter()
     differences = 0

@@ -3,19 +3,21 @@
 
     python3 tools/compare_tables.py OURS OTHER.. [--tables N] [--seed S] [--show K] [--room R] [--first]
 
-OURS is "tools/run writes", a path or words between quotes; OTHER is another writer, with its words behind it: both read stored tables in
-hexadecimal digits from standard input, one a line, and print one answer a line. N (20,000 unless said) tables are made: from fields, with
-each field at or past its bound now and then, or from the stored output of the program `reads`, of edition 2 or 1; then bytes, words and whole
-records are changed, swapped, repeated and cut, with the header set right again or not, the edition is changed, with the records or without
-them, and counts of residues are; some have long texts, for lines around their bound, some names have brackets inside, which mostly pair up,
-and the texts of series and internal ions are mostly sequences with residues enough. The same S makes the same tables.
-With --first, for "tools/run converts" and another program that converts tables of edition 1, most tables are of that edition, more of their lines
-are long, and more texts are no sequences. With R, OURS is "tools/run try_write_sized", given an output of R bytes for each, and OTHER's words have to say the same.
+OURS is "tools/run writes", a path or words between quotes; OTHER is another writer, with its words behind it: both read stored tables in hexadecimal
+digits from standard input, one a line, and print one answer a line. "tools/run writes --second" writes lines of the second edition, and the other has
+to be told the same. N (20,000 unless said) tables are made: from fields, with each field at or past its bound now and then, or from the stored
+outputs of the programs `reads` and `try_second_reads`, of edition 2 or 1; then bytes, words and whole records are changed, swapped, repeated and cut,
+with the header set right again or not, the edition is changed, with the records or without them, and counts of residues are; some have long texts,
+for lines around their bound, some names have brackets inside, which mostly pair up, and the texts of series and internal ions are mostly sequences
+with residues enough. Some tables have internal ions with letters by their field 3, which at times is past its bounds. The same S makes the same
+tables.
+With --first, for "tools/run converts" and another program that converts tables of edition 1, most tables are of that edition, more of their lines are
+long, more texts are no sequences, and few internal ions have letters, since edition 1 has none. With R, OURS is "tools/run try_write_sized", given an
+output of R bytes for each, and OTHER's words have to say the same.
 Prints each difference (K of them, 20 unless said) and how often each number was answered; the exit status is 1 where the answers differ.
 """
 import argparse
 import collections
-import os
 import random
 import shlex
 import subprocess
@@ -23,11 +25,12 @@ import sys
 
 sys.dont_write_bytecode = True
 from compare import brackets_changed, nested, sequence, sequence_changed
-from table_cases import WIDTH, annotation, first_edition, framed, little, number, table
+from table_cases import WIDTH, annotation, first_edition, framed, little, number, table, tables_read
 
 COUNTS = [1, 1, 1, 1, 2, 2, 3, 9, 10, 99, 999]
 EDGES = [0, 1, 2, 12, 13, 118, 119, 255, 256, 998, 999, 1000, 65535]
 NAMES = [b"Hex", b"HexNAc", b"Hexose", b"M", b"M2", b"a", b"Z~", b"He", b"C", b"x,y/z"]
+LETTERS = [1, 2, 3, 4, 6, 7, 8, 9]
 ODD = [b"M+H", b"2H1", b"[", b"a]", b"{", b"a}", b"\x1f", b"\x7f", b"", b"x" * 255, b"x" * 256]
 
 
@@ -37,6 +40,7 @@ class Maker:
         self.good = good
         self.first = first
         self.long = False
+        self.lettered = False
 
     def rarely(self, usual, odd, chance=0.004):
         return self.random.choice(odd) if self.random.random() < chance else usual
@@ -118,15 +122,19 @@ class Maker:
             fields.update(residues=self.random.choice([0, 1, max(count - 1, 0), count, count + 1, count + 256, 65535]))
         return dict(text=made, **fields)
 
+    def letters(self):
+        """Field 3 of an internal ion: of some tables it is set, and now and then past its bounds."""
+        return self.rarely(self.random.choice([0, self.random.choice(LETTERS)]) if self.lettered else 0, [1, 5, 5, 9, 10, 128, 255], 0.02)
+
     def ion(self):
         chance = self.random.random
-        kind = self.random.choice([1, 1, 1, 2, 3, 4, 5, 6, 7, 8, 9])
+        kind = self.random.choice([1, 1, 1, 2, 3, 4, 5, 6, 7, 8, 9, *([2] * 6 if self.lettered else [])])
         fields = dict(kind=kind)
         if kind == 1:
             fields.update(series=self.rarely(self.random.randint(1, 13), [0, 14, 65]), position=self.rarely(self.random.randint(1, 30), [0, 65535]))
         if kind == 2:
             start = self.rarely(self.random.randint(2, 9), [0, 1])
-            fields.update(position=start, end=self.rarely(self.random.randint(start, 30), [0, 65535]))
+            fields.update(position=start, end=self.rarely(self.random.randint(start, 30), [0, 65535]), series=self.letters())
         if kind in (1, 2) and chance() < 0.5:
             fields.update(self.sequenced(fields))
             return fields
@@ -144,7 +152,8 @@ class Maker:
         chance = self.random.random
         fields = self.ion()
         if self.long or chance() < 0.4:
-            fields.update(losses=self.order([self.loss() for _ in range(self.random.choice([1, 1, 2, 2, 3, 4, 8]) if self.long or chance() < 0.98 else 9)]))
+            many = self.random.choice([2, 4, 8, 8, 8] if self.long else [1, 1, 2, 2, 3, 4, 8])
+            fields.update(losses=self.order([self.loss() for _ in range(many if self.long or chance() < 0.98 else 9)]))
         if chance() < 0.2:
             fields.update(isotopes=self.isotopes())
         if chance() < (0.95 if fields["kind"] == 8 else 0.25):
@@ -165,6 +174,7 @@ class Maker:
 
     def fresh(self):
         self.long = self.random.random() < (0.1 if self.first else 0.03)
+        self.lettered = self.random.random() < (0.03 if self.first else 0.4)
         edition = self.random.choice([1, 1, 1, 1, 2] if self.first else [2, 2, 1])
         if self.long:
             return table(*[self.fresh_annotation() for _ in range(self.random.choice([2, 3, 4, 5, 6, 7, 8]))], edition=edition)
@@ -178,6 +188,15 @@ class Maker:
     def sections(self, made):
         pairs = [(number(made, 4 + 4 * i), number(made, 6 + 4 * i)) for i in range(6)]
         return [made[at:at + n * width] for (n, at), width in zip(pairs, self.widths(made))]
+
+    def letters_changed(self, made):
+        """Field 3 of a record, mostly of an internal ion, set, changed or cleared."""
+        width = self.widths(made)[0]
+        places = [at for at in range(28, min(28 + width * number(made, 4), len(made) - 4), width) if made[at] == 2 or self.random.random() < 0.1]
+        if not places:
+            return made
+        at = self.random.choice(places) + 3
+        return made[:at] + bytes([self.random.choice([0, 5, 10, 255, *LETTERS])]) + made[at + 1:]
 
     def edition_changed(self, made):
         """The number of the header alone, or the records with it; or a count of residues."""
@@ -227,7 +246,9 @@ class Maker:
         return bytes(changed)
 
     def damaged(self, made):
-        how = self.random.randrange(12)
+        how = self.random.randrange(13)
+        if how == 12 and len(made) >= 28:
+            return self.letters_changed(made)
         if how == 11 and len(made) >= 28:
             return self.edition_changed(made)
         if how == 10:
@@ -249,7 +270,7 @@ class Maker:
         return self.records_changed(made)
 
     def good_table(self):
-        """One of those that `reads` gave, or the edition 1 table of its fields."""
+        """One of those that `reads` or its fellow for the second edition gave, or the edition 1 table of its fields, which is none if it has letters."""
         made = self.random.choice(self.good)
         return made if self.random.random() < (0.1 if self.first else 0.6) else first_edition(made)
 
@@ -260,14 +281,19 @@ class Maker:
         return made
 
 
+def good_tables(first=False):
+    """The tables of the stored outputs; edition 1 has none with letters."""
+    return tables_read(["reads"] if first else ["reads", "try_second_reads"])
+
+
 def answers(words, given):
     return subprocess.run(words, input=given, stdout=subprocess.PIPE, check=True).stdout.split(b"\n")[:-1]
 
 
 def main():
     parser = argparse.ArgumentParser(description=__doc__.split("\n")[0])
-    parser.add_argument("ours")
-    parser.add_argument("other", nargs="+")
+    parser.add_argument("ours", help='as "tools/run writes", or "tools/run writes --second" for lines of the second edition')
+    parser.add_argument("other", nargs="+", help="the other program, with its words, for lines of the same edition")
     parser.add_argument("--tables", type=int, default=20000)
     parser.add_argument("--seed", type=int, default=1)
     parser.add_argument("--show", type=int, default=20)
@@ -276,9 +302,7 @@ def main():
     # the other program's words may begin with dashes too
     given, others = parser.parse_known_args()
     given.other += others
-    with open(os.path.join(os.path.dirname(os.path.abspath(__file__)), "..", "crates", "reads", "stdout"), "rb") as f:
-        good = [bytes.fromhex(line.split(b" ")[3].decode()) for line in f.read().split(b"\n") if line.startswith(b"0 ")]
-    maker = Maker(given.seed, good, given.first)
+    maker = Maker(given.seed, good_tables(given.first), given.first)
     numbers = collections.Counter()
     differences = 0
     # by stretches, so that neither the tables nor the answers of a long run are held at once

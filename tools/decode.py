@@ -7,7 +7,8 @@
 A line holds the digits alone, as the program `writes` takes them, or NUMBER PLACE LENGTH DIGITS, as the program `reads` prints them;
 of a refusal its number and place are printed. With --line the preferred spelling of each table is printed, and `!NUMBER PLACE` of a
 refusal, which is what the program `relabel` prints. The layout is told in docs/TABLE.md. Tables of both editions are decoded: in edition 2,
-which `reads` gives, an annotation has the count of residues of its sequence behind its other fields.
+which `reads` gives, an annotation has the count of residues of its sequence behind its other fields. Of an internal ion the cleavage is printed, and
+with --line its letters, as in `mxa3:6`, but for yb, which is written without: tables with letters come of lines of the second edition.
 
 This decodes sound tables: those that `reads` made, or that `writes` accepts. It is not a checker. Of bytes that are no table it may
 print something all the same; whether they are one is what `writes` tells.
@@ -21,6 +22,7 @@ SYMBOLS = """
     H He Li Be B C N O F Ne Na Mg Al Si P S Cl Ar K Ca Sc Ti V Cr Mn Fe Co Ni Cu Zn Ga Ge As Se Br Kr Rb Sr Y Zr Nb Mo Tc Ru Rh Pd Ag Cd In Sn
     Sb Te I Xe Cs Ba La Ce Pr Nd Pm Sm Eu Gd Tb Dy Ho Er Tm Yb Lu Hf Ta W Re Os Ir Pt Au Hg Tl Pb Bi Po At Rn Fr Ra Ac Th Pa U Np Pu Am Cm Bk
     Cf Es Fm Md No Lr Rf Db Sg Bh Hs Mt Ds Rg Cn Nh Fl Mc Lv Ts Og""".split()
+CLEAVAGES = "yb xa xb xc ya yb yc za zb zc".split()  # of internal ions, by field 3: yb is held as 0, never as 5
 KINDS = ["", "series", "internal", "immonium", "precursor", "reference", "named", "formula", "SMILES", "unknown"]
 SIGNS = "-+"
 
@@ -134,7 +136,8 @@ def ion_text(a):
     if kind == 1:
         return SERIES[a["letter"] - 1] + str(a["first"]) + ("{%s}" % text if text else "")
     if kind == 2:
-        return "m%d:%d" % (a["first"], a["last"]) + ("{%s}" % text if text else "")
+        letters = CLEAVAGES[a["letter"]] if a["letter"] else ""
+        return "m%s%d:%d" % (letters, a["first"], a["last"]) + ("{%s}" % text if text else "")
     if kind == 3:
         return "I" + chr(a["letter"]) + ("[%s]" % text if text else "")
     if kind == 9:
@@ -157,6 +160,8 @@ def fields(a):
     """What an annotation says, in lines of text."""
     kind, said = a["kind"], []
     said.append("ion: %s, %s" % (KINDS[kind], ion_text(a)))
+    if kind == 2:
+        said.append("cleavage: %s" % CLEAVAGES[a["letter"]])
     if a["residues"]:
         said.append("residues: %d" % a["residues"])
     if a["auxiliary"]:

@@ -294,7 +294,9 @@ class Grammar:
 
 
 def line_grammar():
-    line = Grammar().named(GRAMMAR, (GRAMMAR, 1), 'lineRe', [])
+    """The grammar of lines of the second edition, whose internal ions may have letters."""
+    read, where = Grammar(), (GRAMMAR, 1)
+    line = read.named(GRAMMAR, where, 'lineRe', [read.named(GRAMMAR, where, 'lettersRe', [])])
     if not is_re(line):
         stop((GRAMMAR, 1), 'lineRe is no grammar')
     return line

@@ -1,23 +1,23 @@
 #!/usr/bin/env python3
-"""The cases of the programs `row_reads`, `row_writes`, `peaks`, `try_read_row_sized` and `try_write_row_sized`: rows of peak lists, and what the
-rules say of them in words.
+"""The cases of the programs for rows of peak lists: rows, and what the rules say of them in words. `row_reads`, `row_writes`, `peaks`,
+`try_read_row_sized` and `try_write_row_sized` have lines of the first edition in their rows, `try_second_peaks` those of the second.
 
-    python3 tools/row_cases.py                  writes the stored inputs of the five programs, crates/NAME/stdin
+    python3 tools/row_cases.py                  writes the stored inputs of the six programs, crates/NAME/stdin, and crates/try_second_peaks/args
     python3 tools/row_cases.py --check          holds the stored outputs to what is stated here; prints differences
     python3 tools/row_cases.py --with FOLDER    makes the stored outputs by the programs `cross` and `relabel` in FOLDER, then checks, and
                                                 asks them too for whole lists
-    python3 tools/row_cases.py --lists          gives whole lists, the empty one among them, to the three programs, started by tools/run
+    python3 tools/row_cases.py --lists          gives whole lists, the empty one among them, to the first three programs, started by tools/run
 
 `row_reads` takes a row a line and prints `NUMBER PLACE LENGTH HEX`, HEX being the stored row, `-` where there is none. `row_writes` takes
 stored rows in hexadecimal digits and prints the same of the row's text; what is no pairs of digits is no stored row. `peaks` takes rows and
 prints each in preferred spelling, or `!NUMBER PLACE`. FOLDER is that of an implementation other than this repository's, so that two agree on
 the stored outputs: `cross --rows`, `cross --write-rows --hex` and `relabel --rows`. Lines that are no pairs of digits are not asked of it.
 
-Each case has its whole answer, by requests M-101 and M-112 of document 02, their readings, and document 01: a refusal (`no`), or the two numbers and the
-fields of each annotation (`yes`), from which the bytes are made as "The stored table" has them. Of the lines of tools/cases.py the number and
-the place are stated there, and the table is in the stored output of `reads`: in a row they are the same, the place moved by the columns
-before the line. Outputs that are too short (8) are asked for by `try_read_row_sized` and `try_write_row_sized`, whose lines begin with the
-length of the output and a blank.
+Each case has its whole answer, by requests M-101, M-112 and M-113 of document 02, their readings, and document 01: a refusal (`no`), or the two numbers
+and the fields of each annotation (`yes`), from which the bytes are made as "The stored table" has them. Of the lines of tools/cases.py the number and
+the place are stated there, for each edition of lines, and the table is in the stored output of `reads` or `try_second_reads`: in a row they are the same,
+the place moved by the columns before the line. So tools/cases.py goes first. Outputs that are too short (8) are asked for by `try_read_row_sized` and
+`try_write_row_sized`, whose lines begin with the length of the output and a blank.
 """
 import os
 import subprocess
@@ -26,8 +26,8 @@ import sys
 sys.dont_write_bytecode = True
 import cases
 import table_cases
-from cases import LANDED, MAX_LINE, ROOT, raw, store, stored
-from table_cases import C, H, H2O, annotation, changed, decimal, first_edition, is_pairs, largest, little, number, other, rich, spelled, table, texts
+from cases import LANDED, LANDED_SECOND, MAX_LINE, ROOT, Editions, raw, store, store_second, stored
+from table_cases import C, H, H2O, annotation, changed, cut, decimal, filling, first_edition, is_pairs, largest, little, number, other, rich, spelled, table, texts
 
 MAX_ROW, FRONT = 4160, 20
 ROOM = FRONT + cases.ROOM
@@ -36,8 +36,21 @@ FULL = ",".join(["_{" + "x" * 252 + "}"] * 15 + ["_{" + "x" * 253 + "}"])
 FRONTS = [("1\t1\t", (1, 0), (1, 0)), ("100.5\t7\t", (1005, 1), (7, 0)), ("677.2980\t0.25\t", (6772980, 4), (25, 2)),
           ("123.123456789\t12345678901.2\t", (123123456789, 9), (123456789012, 1))]
 
-rows = []            # in order
-row_answers = {}     # row: number, place, stored row
+# The cases of lines with letters, of both editions.
+LETTERED = (cases.named_by_design, cases.nine, cases.half_letters, cases.no_letters, cases.letters_and_limits, cases.letters_and_rules,
+            cases.letters_and_lengths, cases.letters_freely)
+
+
+class Asked:
+    """What is asked of rows with lines of one edition, and what is stated of it."""
+
+    def __init__(self, lines):
+        self.lines = lines     # the cases of lines of this edition
+        self.rows = []         # in order
+        self.row_answers = {}  # row: number, place, stored row
+
+
+asked = Editions(Asked(cases.asked.first), Asked(cases.asked.second))
 stored_rows = []     # digits, in order
 stored_answers = {}  # digits: number, place, row
 
@@ -66,8 +79,8 @@ def front_is_sound(row):
 def ask(row, *answer):
     row = raw(row)
     assert b"\n" not in row
-    assert row_answers.setdefault(row, answer) == answer, (row, answer)
-    rows.append(row)
+    assert asked.chosen.row_answers.setdefault(row, answer) == answer, (row, answer)
+    asked.chosen.rows.append(row)
 
 
 def no(row, refusal, place):
@@ -80,7 +93,7 @@ def yes(row, mz, intensity, *annotations):
 
 def again(row):
     """A row that has its answer already."""
-    ask(row, *row_answers[raw(row)])
+    ask(row, *asked.chosen.row_answers[raw(row)])
 
 
 def ask_stored(digits, *answer):
@@ -99,6 +112,11 @@ def too_long(row):
 def old(row):
     """A row whose table is a sound one of edition 1: document 02, M-112."""
     ask_stored(row.hex().encode(), 10, 0, b"")
+
+
+def lettered(row):
+    """A row whose table is a sound one of edition 2 with letters: document 02, M-113."""
+    ask_stored(row.hex().encode(), 20, 0, b"")
 
 
 def sound(row):
@@ -222,32 +240,34 @@ def of_tabs():
     yes("1\t1\t?1", one, one, annotation(9, position=1))
 
 
-def of_lines():
+def of_lines(*parts):
     """The line's own number, with the place counted from the row's start."""
-    tables = stored_tables()
-    for part in (cases.examples, cases.readings, cases.specification, cases.counted, cases.together, cases.sums, cases.unfinished):
-        before = len(cases.lines)
-        part()
-        for line in dict.fromkeys(cases.lines[before:]):
-            if line in cases.stated:
-                in_a_row(line, *cases.stated[line], tables)
+    lines, tables = asked.chosen.lines, stored_tables(asked.chosen.lines.reads)
+    for part in parts:
+        before = len(lines.lines)
+        cases.asked.of(lines, part)
+        for line in dict.fromkeys(lines.lines[before:]):
+            if line in lines.stated:
+                in_a_row(line, *lines.stated[line], tables)
     each = (("y1 ", 2, 2), ("y1^1", 3, 4), ("y65536", 4, 1), ("y1" + "-H" * 9, 5, 18), ("y1,m1:3", 6, 3), ("y1,y2{K}", 6, 3), ("m1:1,y1{x}", 11, 5), ("y1*0.7,b2*0.301", 7, 7))
     for front, _, _ in FRONTS:
         for line, refusal, place in each:
             no(front + line, refusal, len(front) + place)
 
 
-def stored_tables():
-    """The tables of the lines of `reads`, by its stored output."""
-    pairs = zip(stored("reads", "stdin").split(b"\n"), stored("reads", "stdout").split(b"\n"))
+def stored_tables(name):
+    """The tables of the lines of `reads`, or of its fellow for the second edition, by its stored output."""
+    pairs = zip(stored(name, "stdin").split(b"\n"), stored(name, "stdout").split(b"\n"))
     return {line: bytes.fromhex(answer.split(b" ")[3].decode()) for line, answer in pairs if answer.startswith(b"0 ")}
 
 
 def in_a_row(line, refusal, place, tables):
     """A line as a third column, behind columns of one length and then another."""
-    front, mz, intensity = FRONTS[len(rows) % len(FRONTS)]
+    front, mz, intensity = FRONTS[len(asked.chosen.rows) % len(FRONTS)]
     if refusal == 0:
         ask(front.encode() + line, 0, 0, stored_row(mz, intensity, tables[line]))
+    elif len(front) + len(line) > MAX_ROW:
+        no(front.encode() + line, 1, MAX_ROW)
     else:
         no(front.encode() + line, refusal, len(front) + place)
 
@@ -395,6 +415,46 @@ def of_sequences():
     no("1\tx\ty1{x}", 13, 2)
 
 
+def apart(front, head, rest, refusal, place):
+    """A row whose line has letters, the first of them behind `head`: there the first edition has a stray byte, and the second refuses it otherwise."""
+    asked.of(asked.first, no, front + head + rest, 2, len(front + head))
+    asked.of(asked.second, no, front + head + rest, refusal, len(front) + place)
+
+
+def apart_read(front, head, rest, mz, intensity, *annotations):
+    """The same, where the second edition reads it."""
+    asked.of(asked.first, no, front + head + rest, 2, len(front + head))
+    asked.of(asked.second, yes, front + head + rest, mz, intensity, *annotations)
+
+
+def of_letters():
+    """Internal ions with letters (M-113), of both editions: places counted from the row's start."""
+    for front, mz, intensity in FRONTS:
+        for code, letters in enumerate(cases.LETTERS, 1):
+            apart_read(front, "m", letters + "3:6", mz, intensity, cut(0 if letters == "yb" else code))
+        long = cut(1, also=1, has_analyte=1, analyte=1, text=b"PEPT", losses=[(0, 0, 1, H2O)])
+        apart_read(front, "p,&1@m", "xa3:6{PEPT}-H2O,m3:6", mz, intensity, annotation(4), long, cut(0))
+        for head, rest, refusal, place in (
+            ("m", "x", 3, 2), ("m", "xa", 3, 3), ("m", "x3:6", 2, 2), ("m", "xx3:6", 2, 2), ("m", "xa3:6,,", 2, 7), ("m", "xa3:6\t", 2, 6), ("m", "x\ta3:6", 2, 2),
+            ("m", "xa3:6,", 3, 7), ("m70000:3,m", "xa3:6", 4, 1), ("m", "xa70000:3", 4, 3), ("m", "xa3:6" + "-H" * 9, 5, 22), ("m", "xa1:3", 6, 0),
+            ("p,m", "xa6:3", 6, 2), ("m", "xa3:6{PEP}", 6, 0), ("m", "xa3:6{x}", 11, 0), ("m", "xa3:6*0.7,myb3:6*0.301", 7, 11),
+        ):
+            apart(front, head, rest, refusal, place)
+            for edition in asked.each():
+                asked.of(edition, yes, front + "p", mz, intensity, annotation(4))
+        apart_read(front, "m", cases.reached("mxa3:6", MAX_LINE)[1:], mz, intensity, cut(1), *filling(MAX_LINE - 6))
+        for edition in asked.each():
+            asked.of(edition, no, front + cases.reached("mxa3:6", MAX_LINE + 1), 1, MAX_LINE + len(front))
+            asked.of(edition, no, front + "mxa3:6" + "x" * MAX_ROW, 1, MAX_ROW)
+    # 12 and 13 go before the line's own
+    for edition in asked.each():
+        for row, refusal, place in (("x\t1\tmxa3:6", 12, 0), ("1\tx\tmxa3:6", 13, 2), ("mxa3:6", 12, 0), ("1\tmxa3:6", 13, 2), ("mxa3:6\t1\ty1", 12, 0)):
+            asked.of(edition, no, row, refusal, place)
+    # the empty third column, and rows without one
+    for row in ("1\t1", "1\t1\t"):
+        asked.of(asked.second, yes, row, (1, 0), (1, 0))
+
+
 # ---- stored rows
 
 def small():
@@ -465,15 +525,16 @@ def stored_lengths():
 
 def stored_tables_behind():
     """Tables and what is none, as tools/table_cases.py states of them: behind a sound front they are answered the same."""
-    answers = {(0, 0): sound, (1, MAX_LINE): too_long, (9, 0): unsound, (10, 0): old}
+    tables = table_cases.asked.first
+    answers = {(0, 0): sound, (1, MAX_LINE): too_long, (9, 0): unsound, (10, 0): old, (20, 0): lettered}
     for part in (table_cases.fields, table_cases.kinds, table_cases.sums, table_cases.ordered, table_cases.nested, table_cases.editions, table_cases.counts,
-                 table_cases.sequences):
-        before = len(table_cases.cases)
+                 table_cases.sequences, table_cases.cleavages_beside):
+        before = len(tables.tables)
         part()
-        for digits in dict.fromkeys(table_cases.cases[before:]):
+        for digits in dict.fromkeys(tables.tables[before:]):
             _, mz, intensity = FRONTS[len(stored_rows) % len(FRONTS)]
             row = stored_row(mz, intensity, bytes.fromhex(digits.decode()))
-            answers[table_cases.stated[digits]](row)
+            answers[tables.stated[digits]](row)
     for row in (small(), large(), empty()):
         for at in range(0, 28, 2):
             for value in (0, 1, 27, 28, 29, 65535):
@@ -502,6 +563,29 @@ def stored_editions():
             unsound(changed(before, FRONT, 2, 2))
     for made in (annotation(text=b"x"), annotation(position=4, text=b"PEP"), annotation(2, position=1, end=1)):
         unsound(stored_row((1, 0), (1, 0), table(made, edition=1)))
+
+
+def stored_letters():
+    """Field 3 of internal ions (M-113): 20 behind 9 and 10, before 1, whatever the columns."""
+    for i, code in enumerate((*range(11), 70, 255)):
+        _, mz, intensity = FRONTS[i % len(FRONTS)]
+        for made in ((cut(code),), (annotation(4), cut(code, text=b"PEPT"))):
+            (sound if code == 0 else lettered if code < 10 and code != 5 else unsound)(stored_row(mz, intensity, table(*made)))
+            (old if code == 0 else unsound)(stored_row(mz, intensity, table(*made, edition=1)))
+    for row in (with_letters(), with_letters(*filling(MAX_LINE - 6)), with_letters(*filling(MAX_LINE - 5)), with_letters(largest(), largest())):
+        lettered(row)
+        for at, value in ((7, 1), (15, 1), (16, 10), (17, 10), (18, 1), (19, 1), (FRONT + 28 + 3, 5), (FRONT + 28 + 3, 10), (FRONT + 28 + 15, 1)):
+            unsound(changed(row, at, value))
+        unsound(row + b"\0")
+        unsound(row[:-1])
+        unsound(in_first_edition(row))
+    too_long(changed(with_letters(*filling(MAX_LINE - 3)), FRONT + 28 + 3, 0))
+    sound(changed(with_letters(*filling(MAX_LINE - 4)), FRONT + 28 + 3, 0))
+
+
+def with_letters(*behind):
+    """A stored row whose line begins with six bytes, two of them letters."""
+    return stored_row((1005, 1), (7, 0), table(cut(1), *behind))
 
 
 def stored_long():
@@ -556,8 +640,8 @@ def lists_of_stored_rows():
 def compare_lists(programs):
     """Differences between what is stated of whole lists and what the programs print, in as many runs."""
     lists, others = whole_lists(), lists_of_stored_rows()
-    for name, asked, answer in (("row_reads", lists, read_answer), ("peaks", lists, peak_answer), ("row_writes", others, write_answer)):
-        for data, parts in asked:
+    for name, given, answer in (("row_reads", lists, read_answer), ("peaks", lists, peak_answer), ("row_writes", others, write_answer)):
+        for data, parts in given:
             found = printed_by(programs[name], data)
             due = b"".join(answer(part) + b"\n" for part in parts)
             if found != due:
@@ -572,17 +656,18 @@ def sizes_around(need, *others):
 def read_rooms():
     """Outputs around the bytes that a row needs: 20 and its table's. Refusals by other numbers go before 8."""
     for row in (b"1\t1", b"1\t1\t", b"1\t1\ty1", b"100.5\t7\ty1-N-C", b"677.303\t34\tb6-H2O/-0.005,&y7/0.003", b"1\t1\tr[[]]", b"1\t1\ty3{PEP}", raw("1\t1\t" + FULL)):
-        data = row_answers[row][2]
+        data = asked.first.row_answers[row][2]
         for room in sizes_around(len(data), 19, 20, 21, 47, 48, 49, len(data) - FRONT, ROOM):
             yield room, row, (0, 0, data) if len(data) <= room else (8, len(data), b"")
     over = (b"x" * (MAX_ROW + 1), raw("1\t1\t" + FULL + "x"))
-    for row in (b"", b"1", b"1\t", b"x", b"1\t1\t\t", b"1\t1\ty1^1", b"1\t1\ty65536", b"1\t1\ty1*0.7,b2*0.301", b"1\t1\tr[a[b]", b"1\t1\ty1{x}", b"1\t1\ty4{PEP}", *over):
+    for row in (b"", b"1", b"1\t", b"x", b"1\t1\t\t", b"1\t1\ty1^1", b"1\t1\ty65536", b"1\t1\ty1*0.7,b2*0.301", b"1\t1\tr[a[b]", b"1\t1\ty1{x}", b"1\t1\ty4{PEP}",
+                b"1\t1\tmxa3:6", *over):
         for room in (0, 1, 20, 48, ROOM):
-            yield room, row, row_answers[row]
+            yield room, row, asked.first.row_answers[row]
 
 
 def write_rooms():
-    """Outputs around the length of a row. 9, 10 and 1 go before 8."""
+    """Outputs around the length of a row. 9, 10, 20 and 1 go before 8."""
     full, most = texts(*[252] * 15, 253), (10**12 - 1, 9)
     at_bound = (stored_row((1, 0), (1, 0), full), stored_row(most, most, full))
     nested = stored_row((1, 0), (1, 0), table(annotation(3, series=67, text=b"[M+]", losses=[(0, 1, 1, b"a[b]")])))
@@ -594,7 +679,9 @@ def write_rooms():
     unpaired = stored_row((1, 0), (1, 0), table(annotation(5, text=b"a[b")))
     short = stored_row((1, 0), (1, 0), table(annotation(position=4, text=b"PEP"), edition=1))
     before = [(in_first_edition(row), 10, 0) for row in (empty(), small(), large(), over)]
-    for row, refusal, place in ((b"", 9, 0), (small()[:-1], 9, 0), (changed(small(), 18, 1), 9, 0), (unpaired, 9, 0), (short, 9, 0), *before, (over, 1, MAX_LINE)):
+    for row, refusal, place in ((b"", 9, 0), (small()[:-1], 9, 0), (changed(small(), 18, 1), 9, 0), (unpaired, 9, 0), (short, 9, 0), *before,
+                                (with_letters(), 20, 0), (with_letters(largest(), largest()), 20, 0),
+                                (changed(with_letters(), FRONT + 28 + 3, 5), 9, 0), (in_first_edition(with_letters()), 9, 0), (over, 1, MAX_LINE)):
         for room in (0, 1, 20, MAX_ROW):
             yield room, row.hex().encode(), (refusal, place, b"")
 
@@ -622,16 +709,16 @@ def printed(refusal, place, data):
 
 
 def read_answer(row):
-    return printed(*row_answers[row])
+    return printed(*asked.first.row_answers[row])
 
 
 def write_answer(digits):
     return printed(*stored_answers[digits])
 
 
-def peak_answer(row):
+def peak_answer(row, of=asked.first):
     """The row read, and written: a line that is too long in preferred spelling is refused by the writer."""
-    refusal, place, data = row_answers[row]
+    refusal, place, data = of.row_answers[row]
     if refusal:
         return b"!%d %d" % (refusal, place)
     return row_text(data) if len(spelled(data[FRONT:])) <= MAX_LINE else b"!1 %d" % MAX_LINE
@@ -640,7 +727,8 @@ def peak_answer(row):
 def programs_of(folder):
     """The programs of another implementation that stand beside ours."""
     cross, relabel = os.path.join(folder, "cross"), os.path.join(folder, "relabel")
-    return {"row_reads": [cross, "--rows", *LANDED], "row_writes": [cross, "--write-rows", "--hex", *LANDED], "peaks": [relabel, "--rows", *LANDED]}
+    return {"row_reads": [cross, "--rows", *LANDED], "row_writes": [cross, "--write-rows", "--hex", *LANDED], "peaks": [relabel, "--rows", *LANDED],
+            "try_second_peaks": [relabel, "--rows", *LANDED_SECOND]}
 
 
 def our_programs():
@@ -654,7 +742,9 @@ def printed_by(command, data):
 def inputs():
     """What the programs are given. The last row of two of them lacks its line feed, as it may."""
     sized = {name: b"".join(asked_with_room(room, line) + b"\n" for room, line, _ in rooms) for name, rooms in sized_cases().items()}
-    return {"row_reads": b"\n".join(rows), "row_writes": b"\n".join(stored_rows), "peaks": b"".join(row + b"\n" for row in rows), **sized}
+    rows, second = asked.first.rows, asked.second.rows
+    return {"row_reads": b"\n".join(rows), "row_writes": b"\n".join(stored_rows), "peaks": b"".join(row + b"\n" for row in rows),
+            "try_second_peaks": b"".join(row + b"\n" for row in second), **sized}
 
 
 def sized_cases():
@@ -663,15 +753,17 @@ def sized_cases():
 
 def store_inputs():
     for name, data in inputs().items():
-        os.makedirs(os.path.join(ROOT, name), exist_ok=True)
-        store(name, "stdin", data)
+        if name == "try_second_peaks":
+            store_second(name, data)
+        else:
+            store(name, "stdin", data)
 
 
 def store_outputs(programs):
-    for name in ("row_reads", "peaks"):
+    for name in ("row_reads", "peaks", "try_second_peaks"):
         store(name, "stdout", printed_by(programs[name], stored(name, "stdin")))
-    asked = b"".join(line + b"\n" for line in stored_rows if is_pairs(line))
-    answers = iter(printed_by(programs["row_writes"], asked).splitlines(keepends=True))
+    pairs = b"".join(line + b"\n" for line in stored_rows if is_pairs(line))
+    answers = iter(printed_by(programs["row_writes"], pairs).splitlines(keepends=True))
     store("row_writes", "stdout", b"".join(next(answers) if is_pairs(line) else b"9 0 0 -\n" for line in stored_rows))
     for (name, rooms), command in zip(sized_cases().items(), (programs["row_reads"], programs["row_writes"])):
         store(name, "stdout", b"".join(answer + b"\n" for answer in answers_in_rooms(command, rooms)))
@@ -679,10 +771,12 @@ def store_outputs(programs):
 
 def stated():
     """For each program what it is asked, and the answers that are stated, in order."""
+    rows, second = asked.first.rows, asked.second.rows
     found = {
         "row_reads": (rows, [read_answer(row) for row in rows]),
         "row_writes": (stored_rows, [write_answer(digits) for digits in stored_rows]),
         "peaks": (rows, [peak_answer(row) for row in rows]),
+        "try_second_peaks": (second, [peak_answer(row, asked.second) for row in second]),
     }
     for name, rooms in sized_cases().items():
         found[name] = [asked_with_room(room, line) for room, line, _ in rooms], [printed(*answer) for _, _, answer in rooms]
@@ -692,13 +786,13 @@ def stated():
 def compare_stored():
     """Differences between what is stated and what is stored."""
     given = inputs()
-    for name, (asked, due) in stated().items():
+    for name, (lines, due) in stated().items():
         if stored(name, "stdin") != given[name]:
             yield name, "the input that this script writes", "another"
         answers = stored(name, "stdout").split(b"\n")
-        if len(answers) != len(asked) + 1 or answers[-1]:
-            yield name, "%d answers" % len(asked), "%d" % (len(answers) - 1)
-        for line, answer, got in zip(asked, due, answers):
+        if len(answers) != len(lines) + 1 or answers[-1]:
+            yield name, "%d answers" % len(lines), "%d" % (len(answers) - 1)
+        for line, answer, got in zip(lines, due, answers):
             if got != answer:
                 yield "%s, %r" % (name, line[:200]), answer, got
 
@@ -712,11 +806,12 @@ def report(differences, what):
 
 
 def check():
-    refused = sum(row_answers[row][0] != 0 for row in rows)
+    for of, name in zip(asked.each(), ("row_reads and peaks", "try_second_peaks")):
+        print("%s: %d rows, %d of them refused" % (name, len(of.rows), sum(of.row_answers[row][0] != 0 for row in of.rows)))
     written = sum(stored_answers[digits][0] == 0 for digits in stored_rows)
     sizes = sum(len(rooms) for rooms in sized_cases().values())
-    what = "%d rows, %d of them refused; %d stored rows, %d of them written; %d with outputs around the size needed; each with a stated answer"
-    return report(compare_stored(), what % (len(rows), refused, len(stored_rows), written, sizes))
+    what = "%d stored rows, %d of them written; %d with outputs around the size needed; each with a stated answer"
+    return report(compare_stored(), what % (len(stored_rows), written, sizes))
 
 
 def check_lists(programs):
@@ -724,9 +819,17 @@ def check_lists(programs):
 
 
 def main(words):
-    for part in (of_specification, of_request, of_columns, of_tabs, of_lines, of_lengths, of_neighbours, of_bytes, of_points, of_names, of_sequences):
+    for part in (of_specification, of_request, of_columns, of_tabs):
         part()
-    for part in (stored_fronts, stored_numbers, stored_lengths, stored_tables_behind, stored_editions, stored_long, stored_digits):
+    of_lines(cases.examples, cases.readings, cases.specification, cases.counted, cases.together, cases.sums, cases.unfinished, *LETTERED)
+    for part in (of_lengths, of_neighbours, of_bytes, of_points, of_names, of_sequences):
+        part()
+    # rows without letters, which the second edition answers as the first
+    for part in (of_specification, of_request, of_points, of_names, of_sequences):
+        asked.of(asked.second, part)
+    asked.of(asked.second, of_lines, cases.examples, cases.readings, *LETTERED)
+    of_letters()
+    for part in (stored_fronts, stored_numbers, stored_lengths, stored_tables_behind, stored_editions, stored_letters, stored_long, stored_digits):
         part()
     # a last row that is empty would be none without its line feed
     again("1\t1")

@@ -1,7 +1,8 @@
 #!/usr/bin/env python3
-"""The cases of the programs `writes`, `try_write_sized`, `converts` and `convert`: stored tables, and what the rules say of them in words.
+"""The cases of the programs that write and convert stored tables: tables, and what the rules say of them in words. `writes` and `try_write_sized`
+write lines of the first edition, `try_second_writes` those of the second, `converts` and `convert` turn tables of edition 1 into those of edition 2.
 
-    python3 tools/table_cases.py                  writes the stored inputs of the four programs, crates/NAME/stdin
+    python3 tools/table_cases.py                  writes the stored inputs of the five programs, crates/NAME/stdin, and crates/try_second_writes/args
     python3 tools/table_cases.py --check          holds the stored outputs to what is stated here; prints differences
     python3 tools/table_cases.py --with FOLDER    makes the stored outputs by the program `cross` in FOLDER, then checks
 
@@ -9,16 +10,17 @@
 for each, HEX being the line, `-` where it is none or empty; with `--out N` too it does so with an output of N bytes; with `--convert --hex`
 HEX is the table of edition 2. It is a writer other than this repository's, so that two agree on the stored outputs. Lines that are no pairs of
 digits are not asked of it: they are no table. Tables are made here from fields, by the section "The stored table" of document 01 and by request
-M-105 of document 02, in edition 2 unless edition 1 is asked for; those of the program `reads` come from its stored output, so tools/cases.py
-goes first. By request M-112 a sound table of edition 1 is 10 where it is to be written. Where a table is written, its line is held to the fields
-that its bytes have; where one is converted, the new table, and where its sequences break the rules, the number and the place.
+M-105 of document 02, in edition 2 unless edition 1 is asked for; those of the programs `reads` and `try_second_reads` come from their stored outputs, so
+tools/cases.py goes first. By request M-112 a sound table of edition 1 is 10 where it is to be written. By M-113 one of edition 2 is 20 where its line
+is to be of the first edition and an internal ion has its field 3 set (`lettered`), and one of edition 1 with it set is no table. Where a table is
+written, its line is held to the fields that its bytes have; where one is converted, the new table, and where its sequences break the rules, the
+number and the place.
 """
 import copy
-import os
 import sys
 
 sys.dont_write_bytecode = True
-from cases import ROOT, answers_by, residues, store, stored
+from cases import LANDED, LANDED_SECOND, LETTERS, MAX_LINE, Editions, answers_by, residues, store, store_second, stored
 
 SERIES = "a b c d v w x y z da db wa wb".split()
 SYMBOLS = (
@@ -151,7 +153,8 @@ def spelled_annotation(table, c):
     braced = "{" + text + "}" if text else ""
     named = "[" + text + "]" if text else ""
     position = str(number(r, 6))
-    ion = ["", SERIES[r[3] - 1 if r[0] == 1 else 0] + position + braced, "m" + position + ":" + str(number(r, 8)) + braced, "I" + chr(r[3]) + named, "p",
+    letters = LETTERS[r[3] - 1] if r[0] == 2 and r[3] else ""
+    ion = ["", SERIES[r[3] - 1 if r[0] == 1 else 0] + position + braced, "m" + letters + position + ":" + str(number(r, 8)) + braced, "I" + chr(r[3]) + named, "p",
            "r" + named, "_" + braced, "f{" + units + "}", "s" + braced, "?" + (position if position != "0" else "")][r[0]]
     made = ("&" if r[1] else "") + (str(number(r, 4)) + "@" if r[2] else "") + ion
     for _ in range(r[32]):
@@ -170,6 +173,17 @@ def spelled_annotation(table, c):
     off = int.from_bytes(r[16:24], "little", signed=True)
     made += "/" + ("-" if off < 0 else "") + decimal(abs(off), r[12]) + ["", "", "ppm"][r[11]] if r[11] else ""
     return made + ("*" + decimal(number(r, 24, 4), r[14]) if r[13] else "")
+
+
+def records_of(table):
+    """The records of the annotations of a sound table."""
+    width = WIDTH[number(table, 0)]
+    return [table[28 + width * i:28 + width * (i + 1)] for i in range(number(table, 4))]
+
+
+def has_letters(table):
+    """Whether an internal ion of a sound table has its field 3 set, so that its line has letters."""
+    return any(record[0] == 2 and record[3] for record in records_of(table))
 
 
 # ---- a table of edition 1, sound but for its sequences
@@ -205,22 +219,33 @@ def converted(table):
 
 # ---- cases
 
-cases = []    # lines of digits, in order
-stated = {}   # line: (number, place)
-spare = []    # (room, line, stated)
+class Asked:
+    """What the writer of one edition of lines is asked, and what is stated of it."""
+
+    def __init__(self, name, flags):
+        self.name, self.flags = name, flags  # the program, and what the other implementation is told
+        self.tables = []  # lines of digits, in order
+        self.stated = {}  # line: (number, place)
+
+
+asked = Editions(Asked("writes", LANDED), Asked("try_second_writes", LANDED_SECOND))
+spare = []    # (room, table, stated)
 turned = []   # lines of digits that are converted, in order
 turns = {}    # line: (number, place)
 briefly = []  # lines of digits for the program `convert`, each with its stated answer
 
 
+def ask_digits(digits, *answer):
+    asked.chosen.tables.append(digits)
+    assert not answer or asked.chosen.stated.setdefault(digits, answer) == answer, (digits, answer)
+
+
 def ask(data):
-    cases.append(data.hex().encode())
-    return cases[-1]
+    ask_digits(data.hex().encode())
 
 
 def state(data, *answer):
-    digits = ask(data)
-    assert stated.setdefault(digits, answer) == answer, (digits, answer)
+    ask_digits(data.hex().encode(), *answer)
 
 
 def today(data, *answer):
@@ -238,7 +263,19 @@ def yes(data):
 
 def over(data):
     """A table whose line is too long."""
-    state(data, *today(data, 1, 4096))
+    state(data, *today(data, 1, MAX_LINE))
+
+
+def lettered(data, *answer):
+    """A sound table of edition 2 whose line has letters: 20 where it is to be of the first edition, before all but 9 and 10 (document 02, M-113).
+    Of the second edition it is written, or answered otherwise."""
+    assert number(data, 0) == 2
+    state(data, *((20, 0) if asked.chosen is asked.first else answer or (0, 0)))
+
+
+def lettered_over(data):
+    """The same, of a line that is too long."""
+    lettered(data, 1, MAX_LINE)
 
 
 def both(answer, *annotations):
@@ -269,13 +306,21 @@ def other():
             annotation(7, units=[(0, 6, 2), (13, 6, 1)], isotopes=[(0, 1, 3, 0, 0)], items=[(1, 0, 1, H)], sure=1, sure_decimals=1, confidence=5)]
 
 
-def of_lines():
-    """The tables of short readable lines, among them those of document 01, in both editions."""
-    with open(os.path.join(ROOT, "reads", "stdin"), "rb") as lines, open(os.path.join(ROOT, "reads", "stdout"), "rb") as answers:
-        pairs = zip(lines.read().split(b"\n"), answers.read().split(b"\n"))
-    for made in dict.fromkeys(bytes.fromhex(a.split(b" ")[3].decode()) for line, a in pairs if a.startswith(b"0 ") and len(line) <= 40):
-        yes(made)
-        yes(first_edition(made))
+def tables_read(names, longest=None):
+    """The tables of readable lines, of up to so many bytes if that is said, by the stored outputs of programs; each once."""
+    found = {}
+    for name in names:
+        for line, answer in zip(stored(name, "stdin").split(b"\n"), stored(name, "stdout").split(b"\n")):
+            if answer.startswith(b"0 ") and (longest is None or len(line) <= longest):
+                found[bytes.fromhex(answer.split(b" ")[3].decode())] = True
+    return list(found)
+
+
+def of_lines(name="reads"):
+    """The tables of short lines that a program reads, among them those of document 01, in both editions of tables."""
+    for made in tables_read([name], 40):
+        (lettered if has_letters(made) else yes)(made)
+        (no if has_letters(made) else yes)(first_edition(made))
 
 
 def bytes_changed():
@@ -377,7 +422,7 @@ def counts():
             no(table(*made))
     no(table(annotation(position=3, text=b"PEP", residues=1), annotation(text=b"K", residues=3)))
     # every small table with its count one more, and one less
-    for digits in list(cases[:400]):
+    for digits in asked.chosen.tables[:400]:
         made = bytes.fromhex(digits.decode())
         if number(made, 0) == 2 and number(made, 4):
             count = number(made, 64)
@@ -520,6 +565,11 @@ def kinds():
         for name, value, holders in (("position", 5, (1, 9)), ("end", 7, (2,)), ("series", 3, (1,)), ("series", 70, (3,)), ("text", b"Ab", (3, 5, 6, 8)), ("text", b"AB", (1, 2, 3, 5, 6, 8)), ("units", C, (7,)), ("text", b"", (1, 2, 3, 4, 7, 9)), ("units", [], (1, 2, 3, 4, 5, 6, 8, 9))):
             if name == "position" and kind == 2:
                 continue
+            if kind == 2 and value == 3:
+                # letters, which an internal ion has in edition 2 alone
+                lettered(table(annotation(2, series=3, **more)))
+                no(table(annotation(2, series=3, **more), edition=1))
+                continue
             (good if kind in holders else bad)(**{**more, "kind": kind, name: value})
         for b in range(256):
             if more.get("text") and b in b"\0\x1f !,/[]{}~\x7f\x80\xff":
@@ -598,6 +648,103 @@ def nested():
     both(no, *full, annotation(5, text=b"[]" * 126 + b"x]"))
 
 
+def cut(code, **fields):
+    """An internal ion with a number in field 3."""
+    return annotation(2, **{"position": 3, "end": 6, "series": code, **fields})
+
+
+def cleavages():
+    """Field 3 of internal ions. Document 02, M-113: 0 is `yb`, and 1 to 9 but 5 are the other letters, in edition 2 alone."""
+    most = {name: value for name, value in rich().items() if name not in ("kind", "series", "position", "end")}
+    more = ({}, dict(text=b"PEPT"), dict(position=2, end=2), dict(position=65535, end=65535), dict(also=1, has_analyte=1, analyte=0), dict(losses=[(0, 0, 2, H2O)]), dict(isotopes=[(1, 2, 2, 13, 6)]), dict(items=[(1, 0, 1, NA)]),
+            dict(charge=2), dict(deviation=2, decimals=2, off=-20), dict(sure=1, sure_decimals=1, confidence=5), most)
+    for code in (*range(16), 64, 65, 90, 127, 128, 129, 255):
+        for fields in more:
+            one = cut(code, **fields)
+            (yes if code == 0 else lettered if code < 10 and code != 5 else no)(table(one))
+            (yes if code == 0 else no)(table(one, edition=1))
+    cleavages_beside()
+    letters_and_faults()
+    long_letters()
+    # of the other kinds field 3 is what it was: a series, a letter, or not used
+    for code in range(1, 10):
+        good(series=code)
+        for kind, fields in ((3, {}), (4, {}), (5, dict(text=b"TMT")), (6, dict(text=b"a b")), (7, dict(units=C)), (8, dict(text=b"CN", items=[(1, 0, 1, H)])), (9, {})):
+            bad(kind=kind, series=code, **fields)
+    made = table(cut(9, text=b"PEPT"), cut(1), annotation(4))
+    lettered(made)
+    for i, b in enumerate(made):
+        for value in dict.fromkeys(((b + 1) % 256, (b + 255) % 256, 0, 5)):
+            if value != b:
+                ask(changed(made, i, value))
+    for n in range(len(made)):
+        no(made[:n])
+    for tail in (b"\0", b"\0\0", b"\0" * 38, made):
+        no(made + tail)
+        no(changed(made + tail, 2, len(made + tail), 2))
+
+
+def cleavages_beside():
+    """Letters in one annotation of several, or in more."""
+    plain = [annotation(4), cut(0), annotation(series=3), annotation(3, series=67), annotation(7, units=C)]
+    for at in range(6):
+        for code, answer in ((1, lettered), (9, lettered), (5, no), (10, no)):
+            made = plain[:at] + [cut(code)] + plain[at:]
+            answer(table(*made))
+            no(table(*made, edition=1))
+    both(yes, *plain)
+    for codes, answer in (((1, 9), lettered), ((0, 9), lettered), ((9, 0), lettered), ((1, 2, 3, 4, 0, 6, 7, 8, 9), lettered), ((1,) * 16, lettered), ((0,) * 15 + (8,), lettered), ((1, 5), no), ((5, 1), no), ((1, 10), no), ((255, 1), no),
+                          ((0, 5), no), ((1,) * 15 + (5,), no), ((1,) * 17, no)):
+        answer(table(*[cut(code) for code in codes]))
+        no(table(*[cut(code) for code in codes], edition=1))
+
+
+def letters_and_faults():
+    """9 goes before 20, in the annotation that has letters or in another; and a table of edition 1 with letters is 9, not 10."""
+    faults = (dict(position=1, end=1), dict(position=1), dict(position=7), dict(position=0), dict(end=0), dict(text=b"PEP"), dict(text=b"x"), dict(text=b"M[]"), dict(text=b"A" * 256), dict(text=b"PEPT", residues=3), dict(text=b"PEPT", residues=0), dict(residues=4),
+              dict(zero=1), dict(last=1), dict(charge=0), dict(also=2), dict(analyte=1), dict(units=C), dict(decimals=1), dict(deviation=1, decimals=10), dict(sure=1, confidence=2), dict(deviation=1, off=10**12),
+              dict(losses=[(0, 0, 1, H), (0, 0, 1, C)]), dict(losses=[(0, 1, 1, b"2H1")]), dict(losses=[(0, 0, 1, C)] * 9), dict(isotopes=[(0, 0, 1, 0, 0)] * 2), dict(items=[(1, 2, 1, []), (0, 0, 1, H)]))
+    for fields in faults:
+        for made in ((cut(1, **fields),), (cut(1), cut(0, **fields)), (cut(9, **fields), cut(0))):
+            both(no, *made)
+    for other in (annotation(position=4, text=b"PEP"), annotation(text=b"x"), annotation(8, text=b"CN"), annotation(5, text=b"a["), annotation(3, series=67, text=b"M+"), annotation(0), annotation(10)):
+        both(no, cut(1), other)
+        both(no, other, cut(1))
+    share = dict(sure=1, sure_decimals=1, confidence=6)
+    both(no, cut(1, **share), cut(2, **share))
+    lettered(table(cut(1, **share), cut(2)))
+    for edition in (0, 1, 3, 256, 258, 65535):
+        no(changed(table(cut(1)), 0, edition, 2))
+    no(changed(table(cut(1), edition=1), 0, 2, 2))
+
+
+def filling(size):
+    """Two precursors that take so many bytes of a line, with the comma before each; 16 losses, in order."""
+    left, names = size - len(",p,p") - 16 * len("-[]"), []
+    for i in range(16):
+        n = left // (16 - i)
+        names.append((0, 1, 1, b"x" * n))
+        left -= n
+    return annotation(4, losses=names[:8]), annotation(4, losses=names[8:])
+
+
+def long_letters():
+    """Lines of 4,096 bytes with letters, and longer ones: 20 goes before 1."""
+    for code in (0, 1, 9):
+        before = len(spelled(table(cut(code))))
+        for size in (MAX_LINE - 1, MAX_LINE, MAX_LINE + 1, MAX_LINE + 2):
+            made = table(cut(code), *filling(size - before))
+            assert len(spelled(made)) == size
+            fits, longer = (lettered, lettered_over) if code else (yes, over)
+            (fits if size <= MAX_LINE else longer)(made)
+            no(changed(made, 28 + 15, 1))
+            no(made[:-1])
+    lettered_over(table(cut(1), largest(), largest()))
+    lettered_over(table(largest(), largest(), cut(1)))
+    no(table(cut(5), largest(), largest()))
+    no(table(cut(1), largest(), largest(), edition=1))
+
+
 def sums():
     """Confidences over the line."""
     def share(confidence, decimals):
@@ -664,12 +811,10 @@ def digits():
     """Lines that are no pairs of digits, and capitals, which are digits."""
     made = table(annotation()).hex().encode()
     for line in (b"0", made[:-1], made + b"0", made + b" ", b" " + made, made[:-1] + b"g", b"g" + made[1:], made + b"\r", b"0x" + made, b"zz", b"/0", b":0", b"@0", b"G0", b"`0", b"0\xff", b"0" * 87257):
-        cases.append(line)
-        stated[line] = (9, 0)
+        ask_digits(line, 9, 0)
     for edition in (2, 1):
         made = table(rich(), edition=edition)
-        cases.append(made.hex().upper().encode())
-        stated[cases[-1]] = today(made, 0, 0)
+        ask_digits(made.hex().upper().encode(), *today(made, 0, 0))
 
 
 def rooms():
@@ -686,6 +831,11 @@ def rooms():
                          (table(annotation(text=b"x"), edition=1), (9, 0, 0)), (texts(*[252] * 15, 254, edition=1), (10, 0, 0))):
         for room in (0, 1, 2, 4096):
             spare.append((room, made, answer))
+    # 20 goes before 1 and 8, and behind 9
+    for made, answer in ((table(cut(1)), 20), (table(annotation(), cut(9, text=b"PEPT"), annotation(4)), 20), (table(cut(4), *filling(4090)), 20), (table(cut(4), *filling(4091)), 20), (table(cut(1), largest(), largest()), 20), (table(cut(5)), 9),
+                         (table(cut(1), edition=1), 9), (table(cut(1, text=b"PEP")), 9), (table(cut(0), edition=1), 10)):
+        for room in (0, 1, 5, 6, 7, 4096):
+            spare.append((room, made, (answer, 0, 0)))
 
 
 # ---- conversions
@@ -797,12 +947,28 @@ def of_sequences():
 
 
 def of_lines_read():
-    """The edition 1 tables of the fields of short lines: each gives the table that the line is read to."""
-    with open(os.path.join(ROOT, "reads", "stdin"), "rb") as lines, open(os.path.join(ROOT, "reads", "stdout"), "rb") as answers:
-        pairs = zip(lines.read().split(b"\n"), answers.read().split(b"\n"))
-    for made in dict.fromkeys(bytes.fromhex(a.split(b" ")[3].decode()) for line, a in pairs if a.startswith(b"0 ") and len(line) <= 5):
+    """The edition 1 tables of the fields of short lines: each gives the table that the line is read to, if the line has no letters."""
+    for made in tables_read(["reads"], 5):
         assert converted(first_edition(made)) == (0, 0, made)
         turn(first_edition(made), 0, 0)
+    for made in tables_read(["try_second_reads"], 7):
+        if has_letters(made):
+            turn(first_edition(made), 9, 0)
+
+
+def of_cleavages():
+    """Field 3 of internal ions (M-113): edition 1 has no letters, so that such bytes are no table, before all else."""
+    for code in (*range(11), 70, 128, 255):
+        (show if code in (0, 1, 5, 9, 10) else turn)(first(cut(code)), 9 if code else 0, 0)
+        turn(table(cut(code)), 9, 0)
+        for text, answer in ((b"PEPT", 0), (b"PEP", 6), (b"x", 11)):
+            turn(first(cut(code, text=text)), 9 if code else answer, 0)
+        for beside, answer in ((annotation(4), 0), (annotation(position=4, text=b"PEP"), 6), (annotation(text=b"x"), 11)):
+            place = 0 if code or answer == 0 else len(spelled(first(cut(0)))) + 1
+            turn(first(cut(code), beside), 9 if code else answer, place)
+            turn(first(beside, cut(code)), 9 if code else answer, 0)
+    turn(first(*line_of_4598(), cut(1)), 9, 0)
+    turn(first(*line_of_4598(), cut(0)), 0, 0)
 
 
 def of_damage():
@@ -845,8 +1011,8 @@ def parts_of(answer):
     return tuple(int(n) for n in found[:3]), b"" if found[3] == b"-" else bytes.fromhex(found[3].decode())
 
 
-def fault(data, answer, expected):
-    """What is wrong with an answer to a table, by what is stated and by the table's own fields."""
+def fault(data, answer, expected, second=False):
+    """What is wrong with an answer to a table that is to be a line of the first edition, or of the second, by what is stated and by the table's own fields."""
     got, line = parts_of(answer)
     if len(line) != got[2]:
         return "a line of the length that is said"
@@ -854,11 +1020,19 @@ def fault(data, answer, expected):
         return expected
     if got[0] == 0 and line != spelled(data):
         return spelled(data)
-    if got[0] not in (0, 1, 8, 9, 10):
-        return "0, 1, 8, 9 or 10"
+    if got[0] not in (0, 1, 8, 9, 10, 20):
+        return "0, 1, 8, 9, 10 or 20"
     if got[0] != 9 and number(data, 0) != (1 if got[0] == 10 else 2):
         return "10 for a table of edition 1, and no other number but 9"
+    if got[0] not in (9, 10) and (got[0] == 20) != (has_letters(data) and not second):
+        return "20 for a table with letters in the first edition, and no other number but 9"
+    if got[0] == 10 and has_letters(data):
+        return "9 for a table of edition 1 with letters"
     return None
+
+
+def second_fault(data, answer, expected):
+    return fault(data, answer, expected, True)
 
 
 def turn_fault(data, answer, expected):
@@ -904,22 +1078,33 @@ def brief_faults():
 
 
 def check():
-    wrong = [*faults("writes", [(line, stated.get(line, ())) for line in cases], fault),
+    first, second = asked.each()
+    wrong = [*faults(first.name, stated_of(first), fault), *faults(second.name, stated_of(second), second_fault),
              *faults("try_write_sized", [(made.hex().encode(), answer) for _, made, answer in spare], fault),
              *faults("converts", [(line, turns.get(line, ())) for line in turned], turn_fault), *brief_faults()]
     for line, expected, got in wrong:
-        print("table %s: stated %r, stored %s" % (line[:400].decode("latin-1"), expected, got[:200].decode()))
-    done = [sum(answer.startswith(b"0 ") for answer in stored(name, "stdout").split(b"\n")) for name in ("writes", "converts")]
-    print("%d tables, %d of them with a stated answer, %d written; %d rooms" % (len(cases), sum(line in stated for line in cases), done[0], len(spare)))
-    print("%d to be converted, %d of them with a stated answer, %d converted; %d in brief" % (len(turned), sum(line in turns for line in turned), done[1], len(briefly)))
+        print("table %s: stated %.200r, stored %s" % (line[:400].decode("latin-1"), expected, got[:200].decode()))
+    for of in asked.each():
+        print("%s: %d tables, %d of them with a stated answer, %d written" % (of.name, len(of.tables), sum(line in of.stated for line in of.tables), done(of.name)))
+    print("%d rooms" % len(spare))
+    print("%d to be converted, %d of them with a stated answer, %d converted; %d in brief" % (len(turned), sum(line in turns for line in turned), done("converts"), len(briefly)))
     print("%d differences" % len(wrong))
     return not wrong
 
 
-def answers_of(folder, given, *words):
+def stated_of(of):
+    return [(line, of.stated.get(line, ())) for line in of.tables]
+
+
+def done(name):
+    """How many tables a program did not refuse."""
+    return sum(answer.startswith(b"0 ") for answer in stored(name, "stdout").split(b"\n"))
+
+
+def answers_of(folder, given, *words, flags=LANDED):
     """What the other implementation prints for each line of digits; what is no pairs of digits is no table."""
-    asked = b"".join(line + b"\n" for line in given if is_pairs(line))
-    answers = iter(answers_by(folder, "cross", asked, "--hex", *words).splitlines())
+    pairs = b"".join(line + b"\n" for line in given if is_pairs(line))
+    answers = iter(answers_by(folder, "cross", pairs, "--hex", *words, flags=flags).splitlines())
     return [next(answers) if is_pairs(line) else b"9 0 0 -" for line in given]
 
 
@@ -929,26 +1114,34 @@ def lined(answers):
 
 def store_inputs():
     """The last line of some lacks its line feed, as it may."""
-    store("writes", "stdin", b"\n".join(cases))
+    store(asked.first.name, "stdin", b"\n".join(asked.first.tables))
+    store_second(asked.second.name, b"\n".join(asked.second.tables))
     store("try_write_sized", "stdin", lined(b"%d " % room + made.hex().encode() for room, made, _ in spare))
     store("converts", "stdin", b"\n".join(turned))
     store("convert", "stdin", lined(briefly))
 
 
 def store_outputs(folder):
-    store("writes", "stdout", lined(answers_of(folder, cases, "--write")))
+    for of in asked.each():
+        store(of.name, "stdout", lined(answers_of(folder, of.tables, "--write", flags=of.flags)))
     store("try_write_sized", "stdout", lined(answer for room, made, _ in spare for answer in answers_of(folder, [made.hex().encode()], "--write", "--out", str(room))))
     store("converts", "stdout", lined(answers_of(folder, turned, "--convert")))
     store("convert", "stdout", lined(brief(answer) for answer in answers_of(folder, briefly, "--convert")))
 
 
 def main(words):
-    for part in (of_lines, bytes_changed, cut_and_longer, editions, counts, sequences, ordered, fields, kinds, nested, sums, long, digits, rooms):
+    for part in (of_lines, bytes_changed, cut_and_longer, editions, counts, sequences, ordered, fields, kinds, nested, sums, long, digits, rooms, cleavages):
         part()
-    for part in (of_request, of_fields, of_sequences, of_lines_read, of_damage, of_digits):
+    of_lines("try_second_reads")
+    # tables that the second edition answers as the first, but for those with letters
+    asked.of(asked.second, of_lines, "try_second_reads")
+    for part in (editions, fields, kinds, sums, cleavages):
+        asked.of(asked.second, part)
+    for part in (of_request, of_fields, of_sequences, of_lines_read, of_cleavages, of_damage, of_digits):
         part()
     # each once
-    cases[:] = dict.fromkeys(cases)
+    for of in asked.each():
+        of.tables[:] = dict.fromkeys(of.tables)
     turned[:] = dict.fromkeys(turned)
     if words[:1] == ["--check"]:
         return 0 if check() else 1

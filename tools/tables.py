@@ -7,6 +7,7 @@ It writes crates/shape/specs/Tables.antt, crates/shape/proofs/Rows.antt and crat
 the check proves that the tables are those of the grammar, and that the grammar is that of the rules.
 """
 import functools
+import re
 import sys
 
 sys.dont_write_bytecode = True
@@ -106,13 +107,15 @@ def machine(line):
             row.append(index[to] if to else None)
         rows.append(row)
         i += 1
-    # deep states are the last
-    order = sorted(range(len(states)), key=lambda q: bool(opened(states[q])))
+    # states that letters alone lead to are the last, so that those before them are the first edition's machine; deep states stand before them
+    lettered = lambda q: re.fullmatch(rb'(.*,)?m[xyz][abc]?', bytes(paths[q]), re.DOTALL) is not None
+    order = sorted(range(len(states)), key=lambda q: (lettered(q), bool(opened(states[q]))))
     place = {q: n for n, q in enumerate(order)} | {None: len(states)}
-    deeps = sum(not opened(s) for s in states)
+    flats = sum(not lettered(q) for q in range(len(states)))
+    deeps = flats - sum(bool(opened(s)) for s in states)
     rows = [[place[to] for to in rows[q]] for q in order]
     accepts = [int(any(all(nodes[r][1] for r in k) for k in states[q])) for q in order]
-    return classes, reps, rows, accepts, [paths[q] for q in order], deeps
+    return classes, reps, rows, accepts, [paths[q] for q in order], deeps, flats
 
 
 # ---- what is written
@@ -155,15 +158,27 @@ def layout(classes, rows, accepts):
     return rows_at, ends_at, ends_at + ROWS
 
 
-def tables_antt(classes, reps, rows, accepts, paths, deeps):
+def letters_at(classes, rows, flats):
+    """For each first letter the place in the machine's bytes of the cell by which it leads to a state of letters; there is one row with such cells."""
+    rows_at, width = len(classes), len(rows[0])
+    found = [(q, c) for q, row in enumerate(rows[:flats]) for c, to in enumerate(row) if to >= flats and to < len(rows)]
+    letters = [(letter, classes[ord(letter)]) for letter in 'xyz']
+    if {q for q, _ in found} != {found[0][0]} or sorted(c for _, c in found) != sorted(c for _, c in letters):
+        sys.exit('letters lead on elsewhere than behind one `m`')
+    return [(letter, rows_at + found[0][0] * width + c) for letter, c in letters]
+
+
+def tables_antt(classes, reps, rows, accepts, paths, deeps, flats):
     rows_at, ends_at, size = layout(classes, rows, accepts)
     numbers = [
         ('how many states there are; the state of this number is where no shape goes on', 'states', len(rows)),
-        ('the states from this number on are deep: a bracket is open inside a name', 'deeps', deeps),
+        ('the states from this number on, and before the next, are deep: a bracket is open inside a name', 'deeps', deeps),
+        ('to the states from this number on letters of an internal ion alone lead; those before are the first edition\'s', 'flats', flats),
         ('how many classes of bytes there are', 'kinds', len(reps)),
         ("where the rows begin in the machine's bytes", 'rowsAt', rows_at),
         ('where the marks of the states in which a line may end begin', 'endsAt', ends_at),
         ("how many the machine's bytes are", 'size', size),
+        *[(f'where the machine has what follows `m{letter}`: a state that letters alone lead to', f'{letter}At', at) for letter, at in letters_at(classes, rows, flats)],
     ]
     named = [
         ('the class of each byte', 'classes', 'List ℕ', antt_wrapped(classes)),
@@ -183,36 +198,39 @@ def tables_antt(classes, reps, rows, accepts, paths, deeps):
     return '\n'.join(out) + '\n'
 
 
-def rows_antt(rows):
-    n = len(rows)
+def rows_antt(n, which):
+    """The rows of the second edition's machine, or of the first's, which has fewer."""
+    machine, tables, more = ('machine', 'rows, words, states', []) if which == 2 else ('machine1', 'rows, words, flats', ['rows1', 'words1'])
     starts = range(0, n, CHUNK)
-    out = ['-- The rows of the machine, each tested: in chunks, since a test has its step limit. Made by tools/tables.py. Assumes nothing.',
+    out = [f'-- The rows of the machine of the {"second" if which == 2 else "first"} edition of lines, each tested: in chunks, since a test has its step limit. Made by tools/tables.py. Assumes nothing.',
            'use Prim.Native.Nat.{ℕ, _+_}', 'use mathlib.Core.Bool.{Bool}', 'use lib.Dec.{T}',
            'use Rattle.lang.proofs.Machine.{allB}', 'use Rattle.lang.proofs.Certify.{rowT, Below, none-yet, chunk}',
            'use Rattle.rules.specs.Elements.{symbols}',
-           'use Rattle.shape.specs.Tables.{classes, reps, rows, words, states}',
+           f'use Rattle.shape.specs.Tables.{{classes, reps, {tables}}}',
            'use Rattle.shape.proofs.Grammar.{symbolRe}',
-           'use Rattle.shape.proofs.TableMachine.{machine}', '',
-           'row : ℕ → Bool', 'unfolding machine', 'row q = rowT machine q']
+           f'use Rattle.shape.proofs.TableMachine.{{{", ".join([machine] + more)}}}', '',
+           'row : ℕ → Bool', f'unfolding {machine}', f'row q = rowT {machine} q']
     for a in starts:
-        out += ['', f'rows{a} : T (allB (λ i. row ({a} + i)) {min(CHUNK, n - a)})', 'unfolding row machine words rows classes reps symbolRe symbols', f'rows{a} = tt']
+        out += ['', f'rows{a} : T (allB (λ i. row ({a} + i)) {min(CHUNK, n - a)})', ' '.join(['unfolding row', machine, *more, 'words rows classes reps symbolRe symbols']), f'rows{a} = tt']
     term = 'none-yet row'
     for a in starts:
         term = f'chunk row {a} {min(CHUNK, n - a)} ({term}) rows{a}'
-    out += ['', 'pub all-rows : Below (rowT machine) states', 'unfolding row machine', f'all-rows = {term}']
+    out += ['', f'pub all-rows : Below (rowT {machine}) {tables.split()[-1]}', f'unfolding row {machine}', f'all-rows = {term}']
     return '\n'.join(out) + '\n'
 
 
-def tables_rt(classes, rows, accepts, deeps):
+def tables_rt(classes, rows, accepts, deeps, flats):
     rows_at, ends_at, size = layout(classes, rows, accepts)
     words = packed(machine_bytes(classes, rows, accepts))
     numbers = [
         ('How many states there are; the state of this number is where no shape goes on.', 'STATES', len(rows)),
-        ('The states from this number on are deep: a bracket is open inside a name.', 'DEEPS', deeps),
+        ('The states from this number on, and before the next, are deep: a bracket is open inside a name.', 'DEEPS', deeps),
+        ("To the states from this number on letters of an internal ion alone lead; those before are the first edition's.", 'FLATS', flats),
         ('How many classes of bytes there are.', 'KINDS', len(rows[0])),
         ("Where the rows begin in the machine's bytes.", 'ROWS_AT', rows_at),
         ('Where the marks of the states in which a line may end begin.', 'ENDS_AT', ends_at),
         ("How many the machine's bytes are.", 'SIZE', size),
+        *[(f'Where the machine has what follows `m{letter}`: a state that letters alone lead to.', f'{letter.upper()}_AT', at) for letter, at in letters_at(classes, rows, flats)],
     ]
     out = ['// The scan\'s tables. Made by tools/tables.py; nothing is trusted of it.']
     for comment, name, value in numbers:
@@ -222,11 +240,12 @@ def tables_rt(classes, rows, accepts, deeps):
 
 
 def main():
-    classes, reps, rows, accepts, paths, deeps = machine(line_grammar())
-    for path, text in [('crates/shape/specs/Tables.antt', tables_antt(classes, reps, rows, accepts, paths, deeps)),
-                       ('crates/shape/proofs/Rows.antt', rows_antt(rows)), ('crates/scan_line/src/tables.rt', tables_rt(classes, rows, accepts, deeps))]:
+    classes, reps, rows, accepts, paths, deeps, flats = machine(line_grammar())
+    for path, text in [('crates/shape/specs/Tables.antt', tables_antt(classes, reps, rows, accepts, paths, deeps, flats)),
+                       ('crates/shape/proofs/Rows.antt', rows_antt(len(rows), 2)), ('crates/shape/proofs/FirstRows.antt', rows_antt(flats, 1)),
+                       ('crates/scan_line/src/tables.rt', tables_rt(classes, rows, accepts, deeps, flats))]:
         (ROOT / path).write_text(text, encoding='utf-8')
-    print(f'{len(rows)} states, of which {len(rows) - deeps} deep; {len(reps)} classes')
+    print(f'{len(rows)} states, of which {flats - deeps} deep and {len(rows) - flats} for letters; {len(reps)} classes')
 
 
 if __name__ == '__main__':

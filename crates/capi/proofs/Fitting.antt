@@ -1,4 +1,4 @@
--- Two bytes hold each number of the answer to a line or a table: places lie in the line, which has no more than 51,071 bytes where a table is converted,
+-- Two bytes hold each number of the answer to a line or a table: places lie in the line, which has no more than 51,103 bytes where a table is converted,
 -- and no table has more than 43,628.
 -- Assumes nothing.
 use Prim.Native.Nat.{ℕ, _≤_}
@@ -13,7 +13,7 @@ use Rattle.rules.specs.Limits.{lineMarks}
 use Rattle.rules.specs.Fields.{Table}
 use Rattle.rules.specs.Preferred.{preferredSpelling}
 use Rattle.rules.specs.House.{formed, annotationRules, firstForeign, firstBreach}
-use Rattle.rules.specs.Editions.{ed1, current}
+use Rattle.rules.specs.Editions.{ed1, current, LineEdition}
 use Rattle.rules.specs.Answers.{Answer, Delivers, no-room, done, Sound, ReadsSum, ReadsRules, ReadsForm, ReadsSpelling, Reads, Holds, Writes, Converts, held}
 use Rattle.rules.proofs.Rises.{line-rises}
 use Rattle.rules.proofs.Sizes.{sizes-fit}
@@ -38,7 +38,7 @@ module _ (s : Spelling) (room : ℕ) where
   sum-most : Kept (lineMarks s) → firstForeign current 0 s ≡ silent → firstBreach current 0 s ≡ silent → {a : Answer} → a .place ≤ mostOfLine → ReadsSum current s room a → AtMost mostOfLine a
   sum-most k f b h (ReadsSum.excess p z) = record { number = omega arith; place = h; size = omega arith }
   sum-most k f b h (ReadsSum.kept z t y d) =
-      let w : Sound current t = record { spelling = s; says = y; limits = k; form = f; rules = b; sum = z } in
+      let w : Sound current t = record { spelling = s; edition = tt; says = y; limits = k; form = f; rules = b; sum = z } in
       delivered-most (omega (arith, sizes-fit current t w)) (omega arith) d
 
   rules-most : Kept (lineMarks s) → firstForeign current 0 s ≡ silent → {a : Answer} → a .place ≤ mostOfLine → ReadsRules current s room a → AtMost mostOfLine a
@@ -54,11 +54,11 @@ module _ (s : Spelling) (room : ℕ) where
       record { number = omega (arith, line-rises s .within m (w .is-in) (w .broken) .number); place = h; size = omega arith }
   spelling-most h (ReadsSpelling.kept k r) = form-most k h r
 
-pub reads-most : {line : List ℕ} {room : ℕ} {a : Answer} → Reads line room a → AtMost mostOfLine a
+pub reads-most : {l : LineEdition} {line : List ℕ} {room : ℕ} {a : Answer} → Reads l line room a → AtMost mostOfLine a
 reads-most (Reads.long h) = record { number = omega arith; place = omega arith; size = omega arith }
 reads-most (Reads.misshapen h (stray k s)) = record { number = omega arith; place = omega (arith, s .inside); size = omega arith }
 reads-most (Reads.misshapen h (short b n)) = record { number = omega arith; place = omega arith; size = omega arith }
-reads-most {line} {room} (Reads.spelled h s e r) = spelling-most s room (omega (arith, reads-place {line = line} {room = room} (Reads.spelled h s e r))) r
+reads-most {l} {line} {room} (Reads.spelled h s w e r) = spelling-most s room (omega (arith, reads-place {l = l} {line = line} {room = room} (Reads.spelled h s w e r))) r
 
 -- ---- writing
 
@@ -66,11 +66,12 @@ reads-most {line} {room} (Reads.spelled h s e r) = spelling-most s room (omega (
 abbrev pub mostOfRow : ℕ
 mostOfRow = 4160
 
-pub writes-most : {bytes : List ℕ} {room : ℕ} {a : Answer} → Writes bytes room a → AtMost mostOfRow a
+pub writes-most : {l : LineEdition} {bytes : List ℕ} {room : ℕ} {a : Answer} → Writes l bytes room a → AtMost mostOfRow a
 writes-most (Writes.no-table n) = record { number = omega arith; place = omega arith; size = omega arith }
 writes-most (Writes.old t h o) = record { number = omega arith; place = omega arith; size = omega arith }
-writes-most (Writes.long t h l) = record { number = omega arith; place = omega arith; size = omega arith }
-writes-most (Writes.fits t h l d) = delivered-most (omega arith) (omega arith) d
+writes-most (Writes.lettered t h n) = record { number = omega arith; place = omega arith; size = omega arith }
+writes-most (Writes.long t h w n) = record { number = omega arith; place = omega arith; size = omega arith }
+writes-most (Writes.fits t h w n d) = delivered-most (omega arith) (omega arith) d
 
 -- ---- converting: the line of an old table may be longer than one that is read
 
@@ -95,15 +96,15 @@ converts-most {room = room} (held t h x) = converted-most t h room (form-answers
 pub at-most : {m : ℕ} {a : Answer} → m ≤ most → AtMost m a → AtMost most a
 at-most g h = record { number = omega (arith, h .number); place = omega (arith, h .place); size = omega (arith, h .size) }
 
-pub reads-fit : {line : List ℕ} {room : ℕ} {a : Answer} → Reads line room a → AtMost most a
+pub reads-fit : {l : LineEdition} {line : List ℕ} {room : ℕ} {a : Answer} → Reads l line room a → AtMost most a
 reads-fit r = at-most (omega arith) (reads-most r)
 
-pub writes-fit : {bytes : List ℕ} {room : ℕ} {a : Answer} → Writes bytes room a → AtMost most a
+pub writes-fit : {l : LineEdition} {bytes : List ℕ} {room : ℕ} {a : Answer} → Writes l bytes room a → AtMost most a
 writes-fit w = at-most (omega arith) (writes-most w)
 
 pub converts-fit : {bytes : List ℕ} {room : ℕ} {a : Answer} → Converts bytes room a → AtMost most a
 converts-fit x = at-most (omega arith) (converts-most x)
 
-pub relabels-fit : {line : List ℕ} {room : ℕ} {a : Answer} → Relabels line room a → AtMost most a
+pub relabels-fit : {l : LineEdition} {line : List ℕ} {room : ℕ} {a : Answer} → Relabels l line room a → AtMost most a
 relabels-fit (refused r n) = let h = reads-fit r in record { number = h .number; place = h .place; size = omega arith }
 relabels-fit (relabelled r e w) = writes-fit w

@@ -12,6 +12,7 @@ use Rattle.rules.specs.Limits as Limits
 use Rattle.rules.specs.Limits.{maxLine}
 use Rattle.rules.specs.Fields.{Table}
 use Rattle.rules.specs.Preferred.{preferred}
+use Rattle.rules.specs.Editions.{LineEdition}
 use Rattle.rules.specs.Answers.{Answer}
 use Rattle.rules.specs.Rows.{Row, tab, rowHeadSize, thirdText, preferredThird, preferredRow}
 use Rattle.rules.specs.RowAnswers.{Cut, Moves, ReadsThird, ReadsIntensity, ReadsRow, WritesRow, thirdAt, ConvertsRow}
@@ -29,10 +30,10 @@ moved-fit g k h (Moves.done e) = record { number = omega arith; place = omega ar
 moved-fit g k h (Moves.no-room e) = record { number = omega arith; place = omega (arith, h .place); size = omega arith }
 moved-fit g k h (Moves.refused e f) = record { number = omega (arith, h .number); place = omega (arith, h .place); size = omega arith }
 
-third-fits : {mz intensity : Decimal} {third : List ℕ} {at room : ℕ} {a : Answer} → at ≤ 8320 → ReadsThird mz intensity third at room a → AtMost most a
+third-fits : {l : LineEdition} {mz intensity : Decimal} {third : List ℕ} {at room : ℕ} {a : Answer} → at ≤ 8320 → ReadsThird l mz intensity third at room a → AtMost most a
 third-fits g (ReadsThird.line r m) = moved-fit (omega arith) (omega arith) (reads-most r) m
 
-intensity-fits : {mz : Decimal} {bytes : List ℕ} {at room : ℕ} {a : Answer} → at ≤ 4160 → length bytes ≤ 4160 → ReadsIntensity mz bytes at room a → AtMost most a
+intensity-fits : {l : LineEdition} {mz : Decimal} {bytes : List ℕ} {at room : ℕ} {a : Answer} → at ≤ 4160 → length bytes ≤ 4160 → ReadsIntensity l mz bytes at room a → AtMost most a
 intensity-fits g l (ReadsIntensity.bad c b) = record { number = omega arith; place = omega arith; size = omega arith }
 intensity-fits g l (ReadsIntensity.good c d r) = third-fits (omega (arith, cut-place c)) r
 
@@ -40,7 +41,7 @@ intensity-fits g l (ReadsIntensity.good c d r) = third-fits (omega (arith, cut-p
 rest-short : {s column more : List ℕ} {place : ℕ} → Cut s column more place → length more ≤ length s
 rest-short {s} {place = place} c = omega (arith, length-drop place s, ap length (cut-rest c))
 
-pub reads-row-fit : {row : List ℕ} {room : ℕ} {a : Answer} → ReadsRow row room a → AtMost most a
+pub reads-row-fit : {l : LineEdition} {row : List ℕ} {room : ℕ} {a : Answer} → ReadsRow l row room a → AtMost most a
 reads-row-fit (ReadsRow.long h) = record { number = omega arith; place = omega arith; size = omega arith }
 reads-row-fit (ReadsRow.bad h c b) = record { number = omega arith; place = omega arith; size = omega arith }
 reads-row-fit (ReadsRow.good h c d r) = intensity-fits (omega (arith, cut-place c)) (omega (arith, rest-short c)) r
@@ -65,11 +66,12 @@ row-short r m i h =
       third-short (r .table) h,
     )
 
-pub writes-row-fit : {bytes : List ℕ} {room : ℕ} {a : Answer} → WritesRow bytes room a → AtMost most a
+pub writes-row-fit : {l : LineEdition} {bytes : List ℕ} {room : ℕ} {a : Answer} → WritesRow l bytes room a → AtMost most a
 writes-row-fit (WritesRow.no-row n) = record { number = omega arith; place = omega arith; size = omega arith }
 writes-row-fit (WritesRow.old r h o) = record { number = omega arith; place = omega arith; size = omega arith }
-writes-row-fit (WritesRow.long r h l) = record { number = omega arith; place = omega arith; size = omega arith }
-writes-row-fit (WritesRow.fits r h l d) = at-most (omega arith) (delivered-most (row-short r (h .mz) (h .intensity) l) (omega arith) d)
+writes-row-fit (WritesRow.lettered r h n) = record { number = omega arith; place = omega arith; size = omega arith }
+writes-row-fit (WritesRow.long r h w n) = record { number = omega arith; place = omega arith; size = omega arith }
+writes-row-fit (WritesRow.fits r h w n d) = at-most (omega arith) (delivered-most (row-short r (h .mz) (h .intensity) n) (omega arith) d)
 
 -- ---- converting
 
@@ -92,6 +94,6 @@ converts-row-fit {room = room} (ConvertsRow.held r h x m) =
     let b = converted-most (r .table) (h .table) (room - rowHeadSize) (form-answers (r .table) (h .table) (room - rowHeadSize) x) in
     moved-fit (omega (arith, third-near r (h .mz) (h .intensity))) (omega arith) b m
 
-pub relabels-row-fit : {row : List ℕ} {room : ℕ} {a : Answer} → RelabelsRow row room a → AtMost most a
+pub relabels-row-fit : {l : LineEdition} {row : List ℕ} {room : ℕ} {a : Answer} → RelabelsRow l row room a → AtMost most a
 relabels-row-fit (RelabelsRow.refused r n) = let h = reads-row-fit r in record { number = h .number; place = h .place; size = omega arith }
 relabels-row-fit (RelabelsRow.relabelled r e w) = writes-row-fit w

@@ -1,9 +1,11 @@
-// The calls from C. Document 02, M-108. A slice is handed over from C as a pointer and a length; include/mzpaf.h says the same to a C
-// programmer.
+// The calls from C. Document 02, M-108 and M-113: lines are those of the first edition, and by a lent machine those of the edition that it was
+// prepared for. A slice is handed over from C as a pointer and a length; include/mzpaf.h says the same to a C programmer.
 ghost use mathlib.Core.Path.{_≡_};
 ghost use lib.ListN.{length};
 ghost use Rattle.rules.specs.Answers.{Reads, Writes, Converts};
 ghost use Rattle.rules.specs.RowAnswers.{ReadsRow, WritesRow, ConvertsRow};
+ghost use Rattle.rules.specs.Editions.{first-lines};
+ghost use Rattle.scan_line.specs.Lines.{linesIn};
 ghost use Rattle.scan_line.specs.Steps.{scannedBy};
 ghost use Rattle.read_line.specs.Readings.{readOf};
 ghost use Rattle.write_table.specs.Writings.{writtenOf, convertedOf};
@@ -14,7 +16,7 @@ ghost use Rattle.convert_row.specs.Conversions.{convertRowOf};
 ghost use Rattle.respell_row.specs.Relabelled.{relabelledRowOf};
 ghost use Rattle.rows.specs.Relabels.{RelabelsRow};
 ghost use Rattle.pack_answer.specs.Handed.{handed, handedOf, Hands};
-ghost use Rattle.capi.specs.Prepared.{prepared, preparedOf};
+ghost use Rattle.capi.specs.Prepared.{prepared, putOf, preparedOf};
 use convert_row::convert_row_by;
 use lines::convert;
 use lines::read;
@@ -32,6 +34,7 @@ use rows::read_row;
 use rows::relabel_row;
 use rows::write_row;
 use scan_line;
+use scan_line::Lines;
 use write_row::write_row_by;
 use write_table::convert_by;
 use write_table::write_by;
@@ -41,7 +44,7 @@ use write_table::write_by;
 // The table that a line spells.
 #[no_mangle]
 pub extern "C" fn mzpaf_read(line: &[u8], out: &mut [u8], answer: &mut [u8]) -> u16
-    ensures { λ r. ⌜ Hands (Reads (now (line .entry)) (length (now (out .entry)))) (length (now (out .entry))) (length (now (answer .entry))) (handed r (now (out .exit)) (now (answer .exit))) ⌝ }
+    ensures { λ r. ⌜ Hands (Reads first-lines (now (line .entry)) (length (now (out .entry)))) (length (now (out .entry))) (length (now (answer .entry))) (handed r (now (out .exit)) (now (answer .exit))) ⌝ }
 {
     let a = read(line, out);
     hand_over(a, out, answer)
@@ -50,7 +53,7 @@ pub extern "C" fn mzpaf_read(line: &[u8], out: &mut [u8], answer: &mut [u8]) -> 
 // The preferred line of a stored table.
 #[no_mangle]
 pub extern "C" fn mzpaf_write(table: &[u8], out: &mut [u8], answer: &mut [u8]) -> u16
-    ensures { λ r. ⌜ Hands (Writes (now (table .entry)) (length (now (out .entry)))) (length (now (out .entry))) (length (now (answer .entry))) (handed r (now (out .exit)) (now (answer .exit))) ⌝ }
+    ensures { λ r. ⌜ Hands (Writes first-lines (now (table .entry)) (length (now (out .entry)))) (length (now (out .entry))) (length (now (answer .entry))) (handed r (now (out .exit)) (now (answer .exit))) ⌝ }
 {
     let a = write(table, out);
     hand_over(a, out, answer)
@@ -68,7 +71,7 @@ pub extern "C" fn mzpaf_convert(table: &[u8], out: &mut [u8], answer: &mut [u8])
 // The preferred spelling of a line.
 #[no_mangle]
 pub extern "C" fn mzpaf_relabel(line: &[u8], out: &mut [u8], answer: &mut [u8]) -> u16
-    ensures { λ r. ⌜ Hands (Relabels (now (line .entry)) (length (now (out .entry)))) (length (now (out .entry))) (length (now (answer .entry))) (handed r (now (out .exit)) (now (answer .exit))) ⌝ }
+    ensures { λ r. ⌜ Hands (Relabels first-lines (now (line .entry)) (length (now (out .entry)))) (length (now (out .entry))) (length (now (answer .entry))) (handed r (now (out .exit)) (now (answer .exit))) ⌝ }
 {
     let a = relabel_line(line, out);
     hand_over(a, out, answer)
@@ -79,7 +82,7 @@ pub extern "C" fn mzpaf_relabel(line: &[u8], out: &mut [u8], answer: &mut [u8]) 
 // The stored row that a row spells.
 #[no_mangle]
 pub extern "C" fn mzpaf_read_row(row: &[u8], out: &mut [u8], answer: &mut [u8]) -> u16
-    ensures { λ r. ⌜ Hands (ReadsRow (now (row .entry)) (length (now (out .entry)))) (length (now (out .entry))) (length (now (answer .entry))) (handed r (now (out .exit)) (now (answer .exit))) ⌝ }
+    ensures { λ r. ⌜ Hands (ReadsRow first-lines (now (row .entry)) (length (now (out .entry)))) (length (now (out .entry))) (length (now (answer .entry))) (handed r (now (out .exit)) (now (answer .exit))) ⌝ }
 {
     let a = read_row(row, out);
     hand_over(a, out, answer)
@@ -88,7 +91,7 @@ pub extern "C" fn mzpaf_read_row(row: &[u8], out: &mut [u8], answer: &mut [u8]) 
 // The preferred row of a stored row.
 #[no_mangle]
 pub extern "C" fn mzpaf_write_row(stored: &[u8], out: &mut [u8], answer: &mut [u8]) -> u16
-    ensures { λ r. ⌜ Hands (WritesRow (now (stored .entry)) (length (now (out .entry)))) (length (now (out .entry))) (length (now (answer .entry))) (handed r (now (out .exit)) (now (answer .exit))) ⌝ }
+    ensures { λ r. ⌜ Hands (WritesRow first-lines (now (stored .entry)) (length (now (out .entry)))) (length (now (out .entry))) (length (now (answer .entry))) (handed r (now (out .exit)) (now (answer .exit))) ⌝ }
 {
     let a = write_row(stored, out);
     hand_over(a, out, answer)
@@ -106,21 +109,35 @@ pub extern "C" fn mzpaf_convert_row(stored: &[u8], out: &mut [u8], answer: &mut 
 // The preferred spelling of a row.
 #[no_mangle]
 pub extern "C" fn mzpaf_relabel_row(row: &[u8], out: &mut [u8], answer: &mut [u8]) -> u16
-    ensures { λ r. ⌜ Hands (RelabelsRow (now (row .entry)) (length (now (out .entry)))) (length (now (out .entry))) (length (now (answer .entry))) (handed r (now (out .exit)) (now (answer .exit))) ⌝ }
+    ensures { λ r. ⌜ Hands (RelabelsRow first-lines (now (row .entry)) (length (now (out .entry)))) (length (now (out .entry))) (length (now (answer .entry))) (handed r (now (out .exit)) (now (answer .exit))) ⌝ }
 {
     let a = relabel_row(row, out);
     hand_over(a, out, answer)
 }
 
-// ---- by a lent machine: whoever has many lines prepares it once
+// ---- by a lent machine: whoever has many lines, or lines of the second edition, prepares it once
 
-// The machine, put into a buffer: 8 where that is too short.
+// The machine of an edition of lines, 1 or 2, put into a buffer. Any other number is 9; then 8 where the buffer is too short. Document 02, M-113.
 #[no_mangle]
-pub extern "C" fn mzpaf_prepare(machine: &mut [u8]) -> u16
-    ensures { λ r. ⌜ prepared r (now (machine .exit)) ≡ preparedOf (length (now (machine .entry))) ⌝ }
+pub extern "C" fn mzpaf_prepare(lines: u16, machine: &mut [u8]) -> u16
+    ensures { λ r. ⌜ prepared r (now (machine .exit)) ≡ preparedOf lines (length (now (machine .entry))) ⌝ }
+{
+    if lines == 1 {
+        return put_machine(Lines::First, machine);
+    }
+    if lines == 2 {
+        return put_machine(Lines::Second, machine);
+    }
+    clear(machine);
+    9
+}
+
+// 8 and zeros, or 0 and the machine.
+fn put_machine(lines: Lines, machine: &mut [u8]) -> u16
+    ensures { λ r. ⌜ prepared r (now (machine .exit)) ≡ putOf (linesIn lines) (length (now (machine .entry))) ⌝ }
 {
     clear(machine);
-    let made = scan_line::machine();
+    let made = scan_line::machine(lines);
     if machine.len() < made.len() {
         return 8;
     }

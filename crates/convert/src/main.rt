@@ -1,4 +1,5 @@
 // Each line of standard input is a stored table of edition 1 in hexadecimal digits, and is answered by the table of edition 2 of the same line.
+use run_program::asked_lines;
 use run_program::was_asked;
 use run_writes::Form;
 use run_writes::Task;
@@ -13,10 +14,18 @@ Standard input has one stored table a line, in hexadecimal digits. Lines end at 
 
 Standard output has one line for each: the table of edition 2 in hexadecimal digits, or `!`, the number of refusal,
 a space and the place, which is counted in the preferred spelling of the line.
+
+With --second nothing changes: a table of edition 1 has no letters.
 ",
         true,
     ) {
         return;
     }
-    answer_tables(b"convert", Task::ConvertTable, Form::Digits, false);
+    answer_tables(
+        b"convert",
+        asked_lines(),
+        Task::ConvertTable,
+        Form::Digits,
+        false,
+    );
 }

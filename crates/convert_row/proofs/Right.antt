@@ -11,18 +11,15 @@ use Rattle.rules.specs.Decimals.{decimalText}
 use Rattle.rules.specs.Lines.{Spelling}
 use Rattle.rules.specs.Fields.{Table}
 use Rattle.rules.specs.Preferred.{preferredSpelling}
-use Rattle.rules.specs.Editions.{Edition}
+use Rattle.rules.specs.Editions.{Edition, LineEdition}
 use Rattle.rules.specs.Answers.{Answer, refuses, Delivers, no-room, done, ReadsSum, excess, ReadsRules, breach, ReadsForm, foreign, Converts}
 use Rattle.rules.specs.Rows.{tab, rowHeadSize}
 use Rattle.rules.specs.RowAnswers.{thirdAt, ConvertsRow, no-row, Moves}
 use Rattle.print_table.proofs.Short.{line-short}
 use Rattle.put_bytes.specs.Puts.{maxPlace}
-use Rattle.scan_line.specs.Verdicts.{JudgedBy}
-use Rattle.scan_line.specs.Steps.{scannedBy}
-use Rattle.read_line.specs.Same.{allBytes}
 use Rattle.write_table.specs.Writings.{convertedOf}
 use Rattle.write_table.proofs.Prefers.{preferred-kept}
-use Rattle.write_table.proofs.Right.{convert-right}
+use Rattle.write_table.proofs.Right.{Lent, convert-right}
 use Rattle.numbers.specs.Making.{ruled}
 use Rattle.answers.specs.Behind.{capped}
 use Rattle.answers.proofs.Behind.{capped-is}
@@ -92,14 +89,12 @@ module _ (s : List ℕ) (room : ℕ) (small : room ≤ maxPlace) (h : Head) (x :
 
 -- ---- any bytes
 
-pub convert-row-right : (machine s : List ℕ) (room : ℕ) → room ≤ maxPlace → Bytes s
-    → ((l : List ℕ) → allBytes l ≡ true → length l ≤ maxPlace → JudgedBy l (scannedBy machine l))
-    → ConvertsRow s room (convertRowOf machine s room)
+pub convert-row-right : (l : LineEdition) (machine s : List ℕ) (room : ℕ) → room ≤ maxPlace → Bytes s → Lent l machine → ConvertsRow s room (convertRowOf machine s room)
 unfolding convertRowOf
-convert-row-right machine s room small y judged = by (headOf s .good) refl
+convert-row-right l machine s room small y lent = by (headOf s .good) refl
   where
     by : (t : Bool) → headOf s .good ≡ t → ConvertsRow s room (cond t
         (heldOf (headBytes (headOf s .mz) (headOf s .intensity)) (thirdPlace (headOf s .mz) (headOf s .intensity)) room (convertedOf machine (drop rowHeadSize s) (room - rowHeadSize)))
         (refuses room 9 0))
-    by true e = table-right s room small (headOf s) (head-good s y e) (convert-right machine (drop rowHeadSize s) (room - rowHeadSize) (omega arith) judged)
+    by true e = table-right s room small (headOf s) (head-good s y e) (convert-right l machine (drop rowHeadSize s) (room - rowHeadSize) (omega arith) lent)
     by false e = no-row (λ r g. subst T (sym (head-there g) ∙ e) tt)

@@ -1,4 +1,5 @@
 // Each line of standard input is a stored table of edition 1 in hexadecimal digits, converted into an output that is as long as a table may be.
+use run_program::asked_lines;
 use run_program::was_asked;
 use run_writes::Form;
 use run_writes::Task;
@@ -13,10 +14,18 @@ Standard input has one stored table a line, in hexadecimal digits. Lines end at 
 
 Standard output has one answer a line: the number of refusal, the place, which is counted in the preferred spelling of
 the line, how many bytes the table of edition 2 has, and the table in hexadecimal digits, `-` where there is none.
+
+With --second nothing changes: a table of edition 1 has no letters.
 ",
         true,
     ) {
         return;
     }
-    answer_tables(b"converts", Task::ConvertTable, Form::Fields, false);
+    answer_tables(
+        b"converts",
+        asked_lines(),
+        Task::ConvertTable,
+        Form::Fields,
+        false,
+    );
 }

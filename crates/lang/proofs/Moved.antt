@@ -3,7 +3,7 @@ use Prim.Native.Nat.{ℕ, _+_, _-_, _<_, _≤_}
 use mathlib.Core.Path.{_≡_, refl, sym, _∙_, subst}
 use mathlib.Core.Bool.{Bool, true, false, cond, _&&_}
 use native.Mathlib.Omega.{arith}
-use lib.Dec.{T, leb, leb→le, le→leb, ltb, ltb→lt, lt→ltb}
+use lib.Dec.{T, ltb, ltb→lt, lt→ltb}
 use Rattle.lang.specs.Re.{inC}
 use Rattle.lang.specs.Scan.{counted, moved}
 use Rattle.lang.proofs.Deriv.{and-0, and-1, and-i}
@@ -17,10 +17,10 @@ no-cond : {A : Type 0} (x : Bool) (a b : A) → (T x → ⊥) → cond x a b ≡
 no-cond true a b t = absurd (t tt)
 no-cond false a b t = refl
 
--- one byte, o, opens a bracket, and one, z, closes one; the states from `deeps` on are deep
-module _ (o z deeps q d t b : ℕ) where
+-- one byte, o, opens a bracket, and one, z, closes one; the state is deep or not
+module _ (deep : Bool) (o z q d t b : ℕ) where
   abbrev Moves : ℕ × ℕ → Type 0
-  Moves p = moved (leb deeps q) (inC (one o) b) (inC (one z) b) q d t ≡ p
+  Moves p = moved deep (inC (one o) b) (inC (one z) b) q d t ≡ p
 
   abbrev Counts : ℕ × ℕ → Type 0
   Counts p = counted (inC (one o) b) (inC (one z) b) q d t ≡ p
@@ -28,22 +28,22 @@ module _ (o z deeps q d t b : ℕ) where
   is-one : {x : ℕ} → b ≡ x → T (inC (one x) b)
   is-one {x} e = subst (λ (y : ℕ). T (inC (one x) y)) (sym e) (one-in x)
 
-  deep-moves : deeps ≤ q → {p : ℕ × ℕ} → Counts p → Moves p
-  deep-moves h e = yes-cond (leb deeps q) (counted (inC (one o) b) (inC (one z) b) q d t) (t, d) (le→leb deeps q h) ∙ e
+  deep-moves : T deep → {p : ℕ × ℕ} → Counts p → Moves p
+  deep-moves h e = yes-cond deep (counted (inC (one o) b) (inC (one z) b) q d t) (t, d) h ∙ e
 
   not-opened : (b ≡ o → ⊥) → {p : ℕ × ℕ} → cond (ltb 0 d && inC (one z) b) (q, d - 1) (t, d) ≡ p → Counts p
   not-opened n e = no-cond (inC (one o) b) (q, d + 1) (cond (ltb 0 d && inC (one z) b) (q, d - 1) (t, d)) (λ u. n (one-eq o b u)) ∙ e
 
-  pub moved-flat : q < deeps → Moves (t, d)
-  moved-flat h = no-cond (leb deeps q) (counted (inC (one o) b) (inC (one z) b) q d t) (t, d) (λ u. let g = leb→le deeps q u in omega arith)
+  pub moved-flat : (T deep → ⊥) → Moves (t, d)
+  moved-flat h = no-cond deep (counted (inC (one o) b) (inC (one z) b) q d t) (t, d) h
 
-  pub moved-open : deeps ≤ q → b ≡ o → Moves (q, d + 1)
+  pub moved-open : T deep → b ≡ o → Moves (q, d + 1)
   moved-open h e = deep-moves h (yes-cond (inC (one o) b) (q, d + 1) (cond (ltb 0 d && inC (one z) b) (q, d - 1) (t, d)) (is-one e))
 
-  pub moved-close : deeps ≤ q → (b ≡ o → ⊥) → b ≡ z → 0 < d → Moves (q, d - 1)
+  pub moved-close : T deep → (b ≡ o → ⊥) → b ≡ z → 0 < d → Moves (q, d - 1)
   moved-close h n e g = deep-moves h (not-opened n (yes-cond (ltb 0 d && inC (one z) b) (q, d - 1) (t, d) (and-i (ltb 0 d) (inC (one z) b) (lt→ltb 0 d g) (is-one e))))
 
-  pub moved-on : deeps ≤ q → (b ≡ o → ⊥) → (b ≡ z → 0 < d → ⊥) → Moves (t, d)
+  pub moved-on : T deep → (b ≡ o → ⊥) → (b ≡ z → 0 < d → ⊥) → Moves (t, d)
   moved-on h n f =
       deep-moves h (not-opened n (no-cond (ltb 0 d && inC (one z) b) (q, d - 1) (t, d) (λ u. f (one-eq z b (and-1 (ltb 0 d) (inC (one z) b) u)) (ltb→lt 0 d (and-0 (ltb 0 d) (inC (one z) b) u)))))
 

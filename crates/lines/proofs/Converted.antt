@@ -5,23 +5,24 @@ use mathlib.Core.Path.{_≡_, refl, sym, ap, subst}
 use mathlib.Core.Bool.{Bool, _||_}
 use mathlib.Core.List.{List}
 use native.Mathlib.Omega.{arith}
-use lib.Dec.{T, eqb}
+use lib.Dec.{T, T, eqb}
 use lib.ListN.{length, take}
 use Rattle.lang.specs.Parts.{silent, written}
 use Rattle.lang.specs.Order.{Each}
 use Rattle.rules.specs.Fields.{Table, Says}
 use Rattle.rules.specs.House.{firstForeign, firstBreach}
+use Rattle.rules.specs.Lines.{Spelling, within}
 use Rattle.rules.specs.Limits.{maxLine, maxAnnotations}
 use Rattle.rules.specs.Preferred.{preferred, preferredSpelling}
 use Rattle.rules.specs.Stored.{stored}
 use Rattle.rules.specs.Answers.{Answer, refuses, gives, Delivers, no-room, done, Sound, Holds, Reads, ReadsForm, foreign, ReadsRules, breach, ReadsSum, excess, Writes, Converts, held}
 use Rattle.rules.specs.Largest.{maxAnyTable}
-use Rattle.rules.specs.Editions.{ed1, ed2, current}
+use Rattle.rules.specs.Editions.{ed1, ed2, current, LineEdition, first-lines, second-lines}
 use Rattle.rules.proofs.Bounds.{table-few}
 use Rattle.rules.proofs.Lengths.{added-is, stored-length}
 use Rattle.rules.proofs.OneAnswer.{written-not-silent}
 use Rattle.rules.proofs.OneTable as OneTable
-use Rattle.rules.proofs.PreferredSpells.{said-in-order, preferred-says}
+use Rattle.rules.proofs.PreferredSpells.{said-in-order, preferred-says, preferred-within}
 use Rattle.rules.proofs.Sizes.{sizes-fit}
 use Rattle.rules.proofs.SoundEditions.{sound-in}
 use Rattle.shape.proofs.OneSpelling.{one-spelling}
@@ -53,7 +54,7 @@ module _ {bytes : List ℕ} (t : Table) (h : Holds ed1 bytes t) (room : ℕ) whe
   sum-answers f r (excess p z) = absurd (written-not-silent _ z (preferred-sum t (h .sound)))
   sum-answers f r {a} (ReadsSum.kept z u y d) =
       read (record {
-        sound = record { spelling = preferredSpelling t; says = says; limits = preferred-kept t (h .sound); form = f; rules = r; sum = z };
+        sound = record { spelling = preferredSpelling t; edition = tt; says = says; limits = preferred-kept t (h .sound); form = f; rules = r; sum = z };
         delivers = subst (λ (x : Table). Delivers room (stored current x) a) (OneTable.one-table one-spelling y says) d;
       })
 
@@ -67,22 +68,29 @@ module _ {bytes : List ℕ} (t : Table) (h : Holds ed1 bytes t) (room : ℕ) whe
 
 -- ---- back again
 
--- the result is the table of the current edition of the same fields; it is written as its line, and where that is short enough, reading it gives the result
+-- a spelling of the first edition of lines is one of each
+within-any : (l : LineEdition) (s : Spelling) → T (within first-lines s) → T (within l s)
+within-any first-lines s w = w
+within-any second-lines s w = tt
+
+-- the result is the table of the current edition of the same fields; in each edition of lines it is written as its line, and where that is short enough, reading it gives
+-- the result
 pub record ConvertsBack (bytes result : List ℕ) : Type 0 where
   pub table : Table
   pub was : Holds ed1 bytes table
   pub is : Holds current result table
-  pub writes : (room : ℕ) (b : Answer) → Writes result room b → HandsOver room (preferred table) b
-  pub reads : length (preferred table) ≤ maxLine → (room : ℕ) (b : Answer) → length result ≤ room → Reads (preferred table) room b → b ≡ gives room result
+  pub writes : (l : LineEdition) (room : ℕ) (b : Answer) → Writes l result room b → HandsOver room (preferred table) b
+  pub reads : (l : LineEdition) → length (preferred table) ≤ maxLine → (room : ℕ) (b : Answer) → length result ≤ room → Reads l (preferred table) room b → b ≡ gives room result
 
 given-back : {bytes : List ℕ} (t : Table) → Holds ed1 bytes t → Sound current t → ConvertsBack bytes (stored current t)
 given-back t h s =
+    let own = preferred-within first-lines (h .sound .says) (h .sound .edition) in
     record {
       table = t;
       was = h;
       is = record { sound = s; is = refl };
-      writes = λ room b w. hands-over t (record { sound = s; is = refl }) w;
-      reads = λ l room b g r. reads-one r (reads-preferred t s l room g);
+      writes = λ l room b w. hands-over t (record { sound = s; is = refl }) (within-any l (preferredSpelling t) own) w;
+      reads = λ l k room b g r. reads-one r (reads-preferred l t s (within-any l (preferredSpelling t) own) k room g);
     }
 
 delivered-back : {bytes : List ℕ} (t : Table) → Holds ed1 bytes t → Sound current t → {room : ℕ} {a : Answer} → Delivers room (stored current t) a → a .number ≡ 0
@@ -99,11 +107,11 @@ convert-back {bytes} {room} (held t h x) e = by (form-answers t h room x) e
     by (rule p z) e = absurd (omega arith)
     by (read y) e = delivered-back t h (y .sound) (y .delivers) e
 
--- and every line that can be read today: the bytes that its table had in edition 1 are converted to those that it has now
-pub old-converted : (t : Table) → Sound current t → (room : ℕ) → length (stored current t) ≤ room → {a : Answer} → Converts (stored ed1 t) room a → a ≡ gives room (stored current t)
-old-converted t s room g x =
+-- and every line of the first edition that can be read today: the bytes that its table had in edition 1 are converted to those that it has now
+pub old-converted : (t : Table) (s : Sound current t) → T (within first-lines (s .spelling)) → (room : ℕ) → length (stored current t) ≤ room → {a : Answer} → Converts (stored ed1 t) room a → a ≡ gives room (stored current t)
+old-converted t s own room g x =
     converts-one x
-    (held t (record { sound = sound-in ed1 t s; is = refl })
+    (held t (record { sound = sound-in ed1 t s own; is = refl })
     (ReadsForm.kept (preferred-form current t s)
     (ReadsRules.kept (preferred-rules current t s) (ReadsSum.kept (preferred-sum t s) t (preferred-says (said-in-order (s .says))) (done g)))))
 

@@ -8,7 +8,7 @@ use Rattle.lang.specs.Parts.{silent}
 use Rattle.lang.specs.Mark.{Kept}
 use Rattle.rules.specs.Lines.{Spelling, lineText, Misshapen}
 use Rattle.rules.specs.Limits.{maxLine, lineMarks}
-use Rattle.rules.specs.Editions.{current}
+use Rattle.rules.specs.Editions.{current, LineEdition}
 use Rattle.rules.specs.House.{firstForeign, firstBreach}
 use Rattle.rules.specs.Answers.{Answer, Delivers, no-room, done, Reads, ReadsSpelling, ReadsForm, ReadsRules, ReadsSum}
 use Rattle.rules.specs.Largest.{maxTable}
@@ -25,7 +25,7 @@ module _ (s : Spelling) (room : ℕ) (short : length (lineText s) ≤ maxLine) (
   sum-enough : Kept (lineMarks s) → firstForeign current 0 s ≡ silent → firstBreach current 0 s ≡ silent → {a : Answer} → ReadsSum current s room a → a .number ≡ 8 → ⊥
   sum-enough k f r (ReadsSum.excess p z) e = omega arith
   sum-enough k f r (ReadsSum.kept z t y d) e =
-      let small = table-small y {e = current} (record { spelling = s; says = y; limits = k; form = f; rules = r; sum = z }) short in
+      let small = table-small y {e = current} (record { spelling = s; edition = tt; says = y; limits = k; form = f; rules = r; sum = z }) short in
       delivers-enough d (omega arith) e
 
   rules-enough : Kept (lineMarks s) → firstForeign current 0 s ≡ silent → {a : Answer} → ReadsRules current s room a → a .number ≡ 8 → ⊥
@@ -41,11 +41,11 @@ module _ (s : Spelling) (room : ℕ) (short : length (lineText s) ≤ maxLine) (
   spelling-enough (ReadsSpelling.limit m w) e = omega (arith, line-rises s .within m (w .is-in) (w .broken) .number)
   spelling-enough (ReadsSpelling.kept k r) e = form-enough k r e
 
-misshapen-enough : {line : List ℕ} {n p : ℕ} → Misshapen line n p → n ≡ 8 → ⊥
+misshapen-enough : {l : LineEdition} {line : List ℕ} {n p : ℕ} → Misshapen l line n p → n ≡ 8 → ⊥
 misshapen-enough (Misshapen.stray p x) e = omega arith
 misshapen-enough (Misshapen.short x y) e = omega arith
 
-pub read-enough : (line : List ℕ) {room : ℕ} {a : Answer} → Reads line room a → maxTable ≤ room → a .number ≡ 8 → ⊥
+pub read-enough : {l : LineEdition} (line : List ℕ) {room : ℕ} {a : Answer} → Reads l line room a → maxTable ≤ room → a .number ≡ 8 → ⊥
 read-enough line (Reads.long h) g e = omega arith
 read-enough line (Reads.misshapen h x) g e = misshapen-enough x e
-read-enough line {room} (Reads.spelled h s q r) g e = spelling-enough s room (omega (arith, ap length q)) g r e
+read-enough line {room} (Reads.spelled h s i q r) g e = spelling-enough s room (omega (arith, ap length q)) g r e

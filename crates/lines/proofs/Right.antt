@@ -5,19 +5,20 @@ use mathlib.Core.Path.{_≡_, refl, sym, ap, _∙_, subst}
 use mathlib.Core.Bool.{Bool, true, false, cond}
 use mathlib.Core.List.{List}
 use native.Mathlib.Omega.{arith}
-use lib.Dec.{eqb, ltb}
+use lib.Dec.{T, eqb, ltb}
 use lib.ListN.{length, getD, take, replicate}
 use borrow.Author.Tests.{eqb-true, eqb-false}
 use Rattle.lang.specs.Mark.{Kept}
 use Rattle.lang.specs.Order.{Each}
-use Rattle.rules.specs.Lines.{Spelling, lineText}
+use Rattle.rules.specs.Lines.{Spelling, lineText, within}
 use Rattle.rules.specs.Fields.{Table, Says}
 use Rattle.rules.specs.Limits.{maxLine, lineMarks}
 use Rattle.rules.specs.Preferred.{preferred}
 use Rattle.rules.specs.Stored.{stored}
 use Rattle.rules.specs.Answers.{Answer, refuses, gives, Sound, Holds, Reads}
 use Rattle.rules.specs.Largest.{maxTable}
-use Rattle.rules.specs.Editions.{current}
+use Rattle.rules.specs.Editions.{current, LineEdition, second-lines}
+use Rattle.rules.proofs.PreferredSpells.{preferred-within}
 use Rattle.scan_line.specs.declared.Verdict.{Verdict}
 use Rattle.scan_line.specs.declared.Verdict.the-variants.{Fine, Short, Stray}
 use Rattle.scan_line.specs.Steps.{machineBytes, scannedBy}
@@ -41,9 +42,10 @@ use Rattle.lines.proofs.Enough.{read-enough}
 -- ---- what was read
 
 -- with number 0: a table that the line spells, sound, its stored bytes and zeros behind them
-pub record Read (line : List ℕ) (room : ℕ) (a : Answer) : Type 0 where
+pub record Read (l : LineEdition) (line : List ℕ) (room : ℕ) (a : Answer) : Type 0 where
   pub table : Table
   pub spelling : Spelling
+  pub edition : T (within l spelling)
   pub text : lineText spelling ≡ line
   pub short : length line ≤ maxLine
   pub says : Each Says spelling table
@@ -51,22 +53,22 @@ pub record Read (line : List ℕ) (room : ℕ) (a : Answer) : Type 0 where
   pub sound : Sound current table
   pub is : a ≡ gives room (stored current table)
 
-pub reads-table : (line : List ℕ) (room : ℕ) {a : Answer} → Reads line room a → a .number ≡ 0 → Read line room a
+pub reads-table : {l : LineEdition} (line : List ℕ) (room : ℕ) {a : Answer} → Reads l line room a → a .number ≡ 0 → Read l line room a
 reads-table line room (Reads.long h) e = absurd (omega arith)
 reads-table line room (Reads.misshapen h x) e = absurd (no-number x e)
-reads-table line room (Reads.spelled h s q r) e =
-    let y = spelling-as s room r e in
-    record { table = y .table; spelling = s; text = q; short = h; says = y .says; limits = y .limits; sound = y .sound; is = y .is }
+reads-table line room (Reads.spelled h s i q r) e =
+    let y = spelling-as {l = second-lines} s room tt r e in
+    record { table = y .table; spelling = s; edition = i; text = q; short = h; says = y .says; limits = y .limits; sound = y .sound; is = y .is }
 
 -- what stands in the output is the table's
-pub bytes-read : (line : List ℕ) (room : ℕ) {a : Answer} (x : Read line room a) → take (a .size) (a .out) ≡ stored current (x .table)
+pub bytes-read : {l : LineEdition} (line : List ℕ) (room : ℕ) {a : Answer} (x : Read l line room a) → take (a .size) (a .out) ≡ stored current (x .table)
 bytes-read line room {a} x = ap (λ (y : Answer). take (y .size) (y .out)) (x .is) ∙ take-given room (stored current (x .table))
 
-pub holds-read : (line : List ℕ) (room : ℕ) {a : Answer} (x : Read line room a) → Holds current (take (a .size) (a .out)) (x .table)
+pub holds-read : {l : LineEdition} (line : List ℕ) (room : ℕ) {a : Answer} (x : Read l line room a) → Holds current (take (a .size) (a .out)) (x .table)
 holds-read line room x = record { sound = x .sound; is = sym (bytes-read line room x) }
 
 -- what is spelled for it
-spelled-read : (line : List ℕ) (room : ℕ) {a : Answer} (x : Read line room a) → spellingOf line (totalsOf current line) (partsAt line 0) ≡ preferred (x .table)
+spelled-read : {l : LineEdition} (line : List ℕ) (room : ℕ) {a : Answer} (x : Read l line room a) → spellingOf line (totalsOf current line) (partsAt line 0) ≡ preferred (x .table)
 spelled-read line room x =
     let s = x .spelling in
     ap (λ (w : List ℕ). spellingOf w (totalsOf current w) (partsAt w 0)) (sym (x .text))
@@ -118,24 +120,24 @@ module _ (line : List ℕ) (room : ℕ) where
 
 -- ---- by the rules
 
-relabel-from : (line : List ℕ) (room : ℕ) (a : Answer) → Reads line maxTable a → (b : Bool) → eqb (a .number) 0 ≡ b
-    → Relabels line room (cond b (lineOver (spellingOf line (totalsOf current line) (partsAt line 0)) room) (refuses room (a .number) (a .place)))
-relabel-from line room a r true e =
+relabel-from : {l : LineEdition} (line : List ℕ) (room : ℕ) (a : Answer) → Reads l line maxTable a → (b : Bool) → eqb (a .number) 0 ≡ b
+    → Relabels l line room (cond b (lineOver (spellingOf line (totalsOf current line) (partsAt line 0)) room) (refuses room (a .number) (a .place)))
+relabel-from {l} line room a r true e =
     let n = eqb-true (a .number) 0 e in
     let x = reads-table line maxTable r n in
     relabelled r n
-    (line-right (take (a .size) (a .out)) room (x .table) (holds-read line maxTable x) (spellingOf line (totalsOf current line) (partsAt line 0)) (spelled-read line maxTable x))
+    (line-right l (take (a .size) (a .out)) room (x .table) (holds-read line maxTable x) (preferred-within l (x .says) (x .edition)) (spellingOf line (totalsOf current line) (partsAt line 0)) (spelled-read line maxTable x))
 relabel-from line room a r false e = refused r (eqb-false (a .number) 0 e)
 
-pub relabel-right : (v : Verdict) (line : List ℕ) (room : ℕ) → JudgedBy line v → Relabels line room (relabelledOf v line room)
-relabel-right v line room j =
+pub relabel-right : (l : LineEdition) (v : Verdict) (line : List ℕ) (room : ℕ) → JudgedBy l line v → Relabels l line room (relabelledOf v line room)
+relabel-right l v line room j =
     let a = readOf v line maxTable in
-    let r = read-right line maxTable (omega arith) v j in
-    subst (Relabels line room) (sym (any-is line room v (λ e. read-enough line r (omega arith) e))) (relabel-from line room a r (eqb (a .number) 0) refl)
+    let r = read-right l line maxTable (omega arith) v j in
+    subst (Relabels l line room) (sym (any-is line room v (λ e. read-enough line r (omega arith) e))) (relabel-from line room a r (eqb (a .number) 0) refl)
 
 -- by the machine that was made
-pub relabel-made : (line : List ℕ) (room : ℕ) (m : List ℕ) {r : Answer} → m ≡ machineBytes
-    → ((i : ℕ) → i < length line → getD line i 0 < 256) → length line < 2 ^ 64 → r ≡ relabelledOf (scannedBy m line) line room → Relabels line room r
-relabel-made line room m e bytes h x =
-    subst (Relabels line room) (sym (x ∙ ap (λ (m : List ℕ). relabelledOf (scannedBy m line) line room) e))
-    (relabel-right (scannedBy machineBytes line) line room (by-machine line bytes h))
+pub relabel-made : (l : LineEdition) (line : List ℕ) (room : ℕ) (m : List ℕ) {r : Answer} → m ≡ machineBytes l
+    → ((i : ℕ) → i < length line → getD line i 0 < 256) → length line < 2 ^ 64 → r ≡ relabelledOf (scannedBy m line) line room → Relabels l line room r
+relabel-made l line room m e bytes h x =
+    subst (Relabels l line room) (sym (x ∙ ap (λ (m : List ℕ). relabelledOf (scannedBy m line) line room) e))
+    (relabel-right l (scannedBy (machineBytes l) line) line room (by-machine l line bytes h))

@@ -11,7 +11,7 @@ use Rattle.lang.specs.Mark.{In, here, later}
 use Rattle.lang.specs.Order.{Each, none, next}
 use Rattle.rules.specs.Bytes.{bytes}
 use Rattle.rules.specs.Numbers.{Number}
-use Rattle.rules.specs.Ions.{Ion, ionText}
+use Rattle.rules.specs.Ions.{ionText, TableIon}
 use Rattle.rules.specs.Losses.{Loss, lossText}
 use Rattle.rules.specs.Isotopes.{isotopesText}
 use Rattle.rules.specs.Adducts.{adductText}
@@ -64,7 +64,7 @@ text-long {a} {b} s =
     omega (
       arith,
       length-append (ionFields (b .ion) .text) (flat (λ l. lostName (l .what)) (b .losses)),
-      ap (λ (x : Ion Number). length (ionFields x .text)) (e .ion),
+      ap (λ (x : TableIon). length (ionFields x .text)) (e .ion),
       ion-long (a .ion) .text,
       perm-flat (λ (l : Loss Number). lostName (l .what)) (e .losses),
       losses-long (a .losses),

@@ -7,15 +7,16 @@ use lib.Dec.{eqb, ltb}
 use lib.ListN.{length, take}
 use Rattle.rules.specs.Limits.{maxLine}
 use Rattle.rules.specs.Answers.{Answer, refuses, Reads, Writes}
+use Rattle.rules.specs.Editions.{LineEdition}
 use Rattle.rules.specs.Largest.{maxTable}
 use Rattle.scan_line.specs.declared.Verdict.{Verdict}
 use Rattle.scan_line.specs.Verdicts.{numberOf, placeOf}
 use Rattle.respell_line.specs.Relabelled.{relabelledOver}
 
--- what reading the line and writing its table answer: the refusal of the reader, or what the writer gives for the table that was read
-pub data Relabels (line : List ℕ) (room : ℕ) : Answer → Type 0 where
-  refused : {a : Answer} → Reads line maxTable a → (a .number ≡ 0 → ⊥) → Relabels line room (refuses room (a .number) (a .place))
-  relabelled : {a b : Answer} → Reads line maxTable a → a .number ≡ 0 → Writes (take (a .size) (a .out)) room b → Relabels line room b
+-- what reading the line of an edition and writing its table answer: the refusal of the reader, or what the writer gives for the table that was read
+pub data Relabels (l : LineEdition) (line : List ℕ) (room : ℕ) : Answer → Type 0 where
+  refused : {a : Answer} → Reads l line maxTable a → (a .number ≡ 0 → ⊥) → Relabels l line room (refuses room (a .number) (a .place))
+  relabelled : {a b : Answer} → Reads l line maxTable a → a .number ≡ 0 → Writes l (take (a .size) (a .out)) room b → Relabels l line room b
 
 -- ---- what the code means, for a machine of any bytes
 

@@ -16,7 +16,6 @@ use Rattle.rules.specs.Fields.{filledAnnotation}
 use Rattle.rules.specs.Limits.{annotationMarks, nextMarks, rowMarks, lineMarks}
 use Rattle.rules.specs.Editions.{Edition}
 use Rattle.rules.specs.House.{one}
-use Rattle.rules.proofs.Confidences.{zeroLeftOut}
 use Rattle.rules.proofs.Keeps.{kept-left, kept-right}
 use Rattle.rules.proofs.RisesParts.{ion-some}
 use Rattle.put_bytes.specs.Puts.{maxPlace}
@@ -29,7 +28,7 @@ use Rattle.faults.specs.Faults.{after}
 use Rattle.faults.proofs.Marks.{after-append}
 use Rattle.read_annotation.specs.declared.Measured.{Measured}
 use Rattle.read_annotation.specs.Measured.{measureOf}
-use Rattle.read_annotation.proofs.SpelledAnnotation.{EndsAnnotation, at-end, at-comma, Measures, measure-read}
+use Rattle.read_annotation.proofs.SpelledAnnotation.{EndsAnnotation, at-end, at-comma, freelySpelled, Measures, measure-read}
 use Rattle.measure_line.specs.declared.Totals.{Totals}
 use Rattle.measure_line.specs.Totals.{nothing, noted, summed, goesOn, behindComma, addOf, addNext, addedWith, totalsFrom, totalsBy, totalsOf}
 use Rattle.measure_line.proofs.Loops.{loop-on, loop-ends}
@@ -48,7 +47,7 @@ spelledCounts (a ∷ s) = plus (countsIn a) (spelledCounts s)
 -- whether an annotation of a spelling leaves out the 0 of its confidence
 abbrev pub anyFree : Spelling → Bool
 anyFree [] = false
-anyFree (a ∷ s) = zeroLeftOut (a .confidence) || anyFree s
+anyFree (a ∷ s) = freelySpelled a || anyFree s
 
 -- faults, where the limits ms are those of the annotations s, the first of which begins at a place
 pub record Finds (edition : Edition) (ms : List Mark) (s : Spelling) (from : ℕ) (t u : Totals) : Type 0 where
@@ -90,7 +89,7 @@ module _ (edition : Edition) (line : List ℕ) (small : length line ≤ maxPlace
     one-counts : addedWith line t from m .counts ≡ plus (t .counts) (countsIn a)
     one-counts = ap (plus (t .counts)) (h .counts) ∙ plus-capped (t .counts) (countsIn a)
 
-    one-free : addedWith line t from m .free ≡ (t .free || zeroLeftOut (a .confidence))
+    one-free : addedWith line t from m .free ≡ (t .free || freelySpelled a)
     one-free = ap (λ (b : Bool). t .free || b) (h .free)
 
     one-annotation : m .counts .annotations ≡ 1
@@ -186,7 +185,7 @@ module _ (edition : Edition) (line : List ℕ) (small : length line ≤ maxPlace
     free-more : {u : Totals} → Through more next u → u .free ≡ (t .free || anyFree (a ∷ more))
     free-more r =
         r .free ∙ ap (λ (b : Bool). b || anyFree more) (one-free a t from m g h)
-        ∙ or-assoc (t .free) (zeroLeftOut (a .confidence)) (anyFree more)
+        ∙ or-assoc (t .free) (freelySpelled a) (anyFree more)
 
   -- t is a sum already
   through : (more : Spelling) (n : ℕ) (t : Totals) → t .counts ≡ plus (t .counts) noCounts → length line - t .at ≤ n → t .at ≤ length line → drop (t .at) line ≡ flat nextText more

@@ -1,5 +1,6 @@
 // The relabel program for peak lists, document 02, M-101.
 use run_program::Input;
+use run_program::asked_lines;
 use run_program::was_asked;
 
 fn main() {
@@ -12,10 +13,13 @@ line feeds, and the last may lack its own.
 
 Standard output has one answer a line: the row in preferred spelling; or `!`, the number of refusal, a space and the
 place, as !13 6. The number is never 0, 8 or 9. Each row is answered alone, whatever stands around it.
+
+With --second, lines of annotations are those of the second edition, in which an internal ion may have letters:
+mxa3:6.
 ",
         true,
     ) {
         return;
     }
-    run_relabel::relabel_lines(b"peaks", Input::Rows);
+    run_relabel::relabel_lines(b"peaks", asked_lines(), Input::Rows);
 }

@@ -6,20 +6,20 @@ use mathlib.Core.Bool.{Bool, true, false}
 use mathlib.Core.List.{List, [], _∷_, _++_, map}
 use native.Mathlib.Omega.{arith}
 use native.Mathlib.Numerals.{add-one}
-use lib.Dec.{T, ltb→lt, leb→le}
+use lib.Dec.{T, eqb, ltb→lt, leb→le}
 use lib.ListN.{length, getD, take, drop}
 use lib.Seq.{take-append-seam}
-use borrow.Author.Tests.{ne-eqb}
+use borrow.Author.Tests.{ne-eqb, eqb-false}
 use Rattle.lang.specs.Parts.{Opt, silent, written, optText, items, flat, wordOf}
 use Rattle.lang.specs.Mark.{In}
 use Rattle.rules.specs.Bytes.{bytes}
 use Rattle.rules.specs.Numbers.{digits, Number, numberText}
 use Rattle.rules.specs.Texts.{Text, Name, Modification, isText, isName, isModification, inBraces, inBrackets, bracedText, bracketText}
 use Rattle.rules.specs.Formulas.{FormulaUnit, plain, labelled}
-use Rattle.rules.specs.Ions.{Series, seriesNames, Ion, series, internal, immonium, precursor, reference, named, composed, smiles, unknown, ionMap, ionText}
+use Rattle.rules.specs.Ions.{Series, seriesNames, cleavageNames, Cleavage, series, internal, immonium, precursor, reference, named, composed, smiles, unknown, ionMap, ionText, TableIon}
 use Rattle.rules.specs.Annotations.{TableAnnotation, flagText, analyteText}
-use Rattle.rules.specs.Preferred.{shortened}
-use Rattle.rules.specs.Stored.{stores, flag, present, valueOr0, number, bytesOf, ionFields, unitRecord, commonFields}
+use Rattle.rules.specs.Preferred.{shortened, shortenedCut}
+use Rattle.rules.specs.Stored.{heldCut, stores, flag, present, valueOr0, number, bytesOf, ionFields, unitRecord, commonFields}
 use Rattle.rules.specs.Limits.{maxUnits, maxText}
 use Rattle.rules.specs.Layout.{markedAt, analytePresentAt, letterAt, analyteAt, positionAt, lastAt, chargeAt, unitCountAt, lossCountAt}
 use Rattle.rules.proofs.FitParts.{UnitFits}
@@ -32,7 +32,7 @@ use Rattle.slices.proofs.StoredNumbers.{word-stored}
 use Rattle.slices.specs.Numbers.{u16At}
 use Rattle.print_parts.proofs.Rows.{all-in, unitRows}
 use Rattle.print_parts.proofs.Tails.{byte-kept}
-use Rattle.print_ion.specs.Texts.{seriesPrinted, bracesPrinted, bracketsPrinted, ionUnits, ionBytes}
+use Rattle.print_ion.specs.Texts.{seriesPrinted, lettersPrinted, bracesPrinted, bracketsPrinted, ionUnits, ionBytes}
 use Rattle.print_ion.specs.Ions.{positionPrinted, internalPrinted, immoniumPrinted, labelPrinted, composedPrinted, kindPrinted, ionPrinted}
 use Rattle.print_ion.specs.Fronts.{flagPrinted, analytePrinted, frontPrinted}
 
@@ -88,6 +88,19 @@ series-stored s =
     let h = ltb→lt (s .which) 13 (s .known) in
     ap (λ (n : ℕ). getD ([] ∷ map bytes seriesNames) n []) (byte-kept (s .which + 1) (omega arith) ∙ add-one (s .which))
 
+letters-stored : (c : Cleavage) → lettersPrinted (heldCut c % 256) ≡ optText wordOf (shortenedCut c)
+unfolding lettersPrinted
+letters-stored c = by (eqb (c .which) 4) refl
+  where
+    by : (t : Bool) → eqb (c .which) 4 ≡ t
+        → lettersPrinted (elim t [ true ↦ 0 | false ↦ c .which + 1 ] % 256) ≡ optText (wordOf {words = map bytes cleavageNames}) (elim t [ true ↦ silent | false ↦ written c ])
+    by true e = refl
+    by false e =
+        let h = ltb→lt (c .which) 9 (c .known) in
+        let n = eqb-false (c .which) 4 e in
+        let q : (c .which + 1) % 256 ≡ c .which + 1 = byte-kept (c .which + 1) (omega arith) in
+        rw (q, ne-eqb (c .which + 1) 5 (λ z. n (omega arith)), add-one (c .which))
+
 -- ---- texts and names, of which none is empty
 
 braced : (t : Text) → bracesPrinted (t .bytes) ≡ bracedText t
@@ -123,11 +136,12 @@ module _ (s : List ℕ) where
   unfolding positionPrinted
   position-is w p q r = ap₂ (λ (a b : List ℕ). a ++ b) p (ap₂ (λ (n : ℕ) (b : List ℕ). digits n ++ b) q r)
 
-  internal-is : (w : List ℕ) {z : List ℕ} {m n : ℕ} → u16At (drop positionAt s) ≡ m → u16At (drop lastAt s) ≡ n → bracesPrinted w ≡ z
-      → internalPrinted s w ≡ bytes "m" ++ (digits m ++ (bytes ":" ++ (digits n ++ z)))
+  internal-is : (w : List ℕ) {x z : List ℕ} {m n : ℕ} → lettersPrinted (getD s letterAt 0) ≡ x → u16At (drop positionAt s) ≡ m → u16At (drop lastAt s) ≡ n → bracesPrinted w ≡ z
+      → internalPrinted s w ≡ bytes "m" ++ (x ++ (digits m ++ (bytes ":" ++ (digits n ++ z))))
   unfolding internalPrinted
-  internal-is w p q r =
-      ap₂ (λ (m : ℕ) (b : List ℕ). bytes "m" ++ (digits m ++ (bytes ":" ++ b))) p (ap₂ (λ (n : ℕ) (b : List ℕ). digits n ++ b) q r)
+  internal-is w o p q r =
+      ap₂ (λ (x b : List ℕ). bytes "m" ++ (x ++ b)) o
+      (ap₂ (λ (m : ℕ) (b : List ℕ). digits m ++ (bytes ":" ++ b)) p (ap₂ (λ (n : ℕ) (b : List ℕ). digits n ++ b) q r))
 
   immonium-is : (w : List ℕ) {z : List ℕ} {n : ℕ} → getD s letterAt 0 ≡ n → bracketsPrinted w ≡ z → immoniumPrinted s w ≡ bytes "I" ++ ((n ∷ []) ++ z)
   unfolding immoniumPrinted
@@ -145,7 +159,7 @@ label-is (written n) s e =
     rw (e, ne-eqb (n .value) 0 z)
 
 -- the annotation with another ion
-abbrev withIon : TableAnnotation → Ion Number → TableAnnotation
+abbrev withIon : TableAnnotation → TableIon → TableAnnotation
 withIon a x =
     record {
       marked = a .marked;
@@ -161,15 +175,15 @@ withIon a x =
 
 -- by kind
 module _ (a : TableAnnotation) (ks : List ℕ) where
-  kind-printed : (x : Ion Number) (ku : List ℕ) → FrontOk (withIon a x)
-      → kindPrinted (getD (noted (withIon a x) ks) 0 0) (noted (withIon a x) ks) (unitRows (ionFields x .units) ++ ku) (ionFields x .text) ≡ ionText (ionMap shortened x)
+  kind-printed : (x : TableIon) (ku : List ℕ) → FrontOk (withIon a x)
+      → kindPrinted (getD (noted (withIon a x) ks) 0 0) (noted (withIon a x) ks) (unitRows (ionFields x .units) ++ ku) (ionFields x .text) ≡ ionText (ionMap shortened shortenedCut x)
   unfolding kindPrinted
   kind-printed (series s n t) ku h =
       let b = withIon a (series s n t) in
       position-is (noted b ks) (bytesOf t) (series-stored s) (position-stored b ks (h .position)) (opt-braced t)
-  kind-printed (internal m n t) ku h =
-      let b = withIon a (internal m n t) in
-      internal-is (noted b ks) (bytesOf t) (position-stored b ks (h .position)) (end-stored b ks (h .end)) (opt-braced t)
+  kind-printed (internal c m n t) ku h =
+      let b = withIon a (internal c m n t) in
+      internal-is (noted b ks) (bytesOf t) (letters-stored c) (position-stored b ks (h .position)) (end-stored b ks (h .end)) (opt-braced t)
   kind-printed (immonium c m) ku h =
       let b = withIon a (immonium c m) in
       immonium-is (noted b ks) (bytesOf m) (byte-kept (c .val) (h .letter)) (modified m)
@@ -185,7 +199,7 @@ module _ (a : TableAnnotation) (ks : List ℕ) where
       label-is n (noted b ks) (position-stored b ks (h .position))
 
 ion-printed : (a : TableAnnotation) (ks ku kt : List ℕ) → FrontOk a
-    → ionPrinted (noted a ks) (unitRows (ionFields (a .ion) .units) ++ ku) (ionFields (a .ion) .text ++ kt) ≡ ionText (ionMap shortened (a .ion))
+    → ionPrinted (noted a ks) (unitRows (ionFields (a .ion) .units) ++ ku) (ionFields (a .ion) .text ++ kt) ≡ ionText (ionMap shortened shortenedCut (a .ion))
 ion-printed a ks ku kt h =
     ap (kindPrinted (getD (noted a ks) 0 0) (noted a ks) (unitRows (ionFields (a .ion) .units) ++ ku)) (text-taken a ks kt (h .short))
     ∙ kind-printed a ks (a .ion) ku h
@@ -214,7 +228,7 @@ analyte-stored a ks h = word-stored (valueOr0 (λ n. n) (a .analyte)) (drop posi
 
 pub front-printed : (a : TableAnnotation) (ks ku kt : List ℕ) → FrontOk a
     → frontPrinted (stores (commonFields a) ++ ks) (flat (λ u. stores (unitRecord u)) (ionFields (a .ion) .units) ++ ku) (ionFields (a .ion) .text ++ kt)
-    ≡ flagText (bytes "&") (a .marked) ++ (optText analyteText (a .analyte) ++ ionText (ionMap shortened (a .ion)))
+    ≡ flagText (bytes "&") (a .marked) ++ (optText analyteText (a .analyte) ++ ionText (ionMap shortened shortenedCut (a .ion)))
 front-printed a ks ku kt h =
     ap₂ (λ (x y : List ℕ). x ++ y) (flag-is (noted a ks) (a .marked) (flag-kept (a .marked)))
     (ap₂ (λ (x y : List ℕ). x ++ y) (analyte-is (noted a ks) (a .analyte) refl (analyte-stored a ks (h .analyte))) (ion-printed a ks ku kt h))

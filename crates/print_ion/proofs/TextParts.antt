@@ -1,7 +1,7 @@
 -- The changes of an ion's text. Assumes nothing.
 use Prim.Native.Nat.{ℕ, zero, suc, _<_, _≤_}
 use mathlib.Core.Path.{_≡_, refl, sym, ap, ap₂, _∙_}
-use mathlib.Core.Bool.{false}
+use mathlib.Core.Bool.{Bool, true, false, cond}
 use mathlib.Core.List.{List, [], _∷_, _++_, map}
 use native.Mathlib.Omega.{arith}
 use native.Mathlib.Decide.{decLe}
@@ -10,26 +10,39 @@ use lib.ListN.{length, getD, take, drop, List·getD-eq-default}
 use borrow.Author.Tests.{eq-eqb, ne-eqb}
 use Rattle.rules.specs.Bytes.{bytes}
 use Rattle.rules.specs.Numbers.{digits}
-use Rattle.rules.specs.Ions.{seriesNames}
+use Rattle.rules.specs.Ions.{seriesNames, cleavageNames}
 use Rattle.rules.specs.Layout.{markedAt, analytePresentAt, analyteAt, positionAt, kindAt}
 use Rattle.slices.specs.Numbers.{u16At}
-use Rattle.print_ion.specs.Texts.{seriesPrinted, enclosedPrinted, ionBytes}
+use Rattle.print_ion.specs.Texts.{seriesPrinted, lettersPrinted, enclosedPrinted, ionBytes}
 use Rattle.print_ion.specs.Ions.{labelPrinted, kindPrinted, ionPrinted}
 use Rattle.print_ion.specs.Fronts.{flagPrinted, analytePrinted}
 
 -- ---- series
 
-pub series-is : {n : ℕ} (k : ℕ) → n ≡ k → seriesPrinted k ≡ seriesPrinted n
-series-is k e = ap seriesPrinted (sym e)
+-- what an arm puts, by its number
+pub arm-is : (printed : ℕ → List ℕ) {n : ℕ} (k : ℕ) → n ≡ k → printed k ≡ printed n
+arm-is printed k e = ap printed (sym e)
+
+-- names are numbered from 1
+none-named : (names : List (List ℕ)) (n : ℕ) → (1 ≤ n → n ≤ length names → ⊥) → [] ≡ getD ([] ∷ names) n []
+none-named names zero h = refl
+none-named names (suc n) h = by (decLe (suc n) (length names))
+  where
+    by : Dec (suc n ≤ length names) → [] ≡ getD ([] ∷ names) (suc n) []
+    by (yes g) = absurd (h (omega arith) g)
+    by (no g) = sym (List·getD-eq-default ([] ∷ names) [] {n = suc n} (omega arith))
 
 pub series-none : (n : ℕ) → (1 ≤ n → n ≤ 13 → ⊥) → [] ≡ seriesPrinted n
 unfolding seriesPrinted
-series-none zero h = refl
-series-none (suc n) h = by (decLe (suc n) 13)
+series-none n h = none-named (map bytes seriesNames) n h
+
+pub letters-none : (n : ℕ) → (1 ≤ n → n ≤ 9 → ⊥) → [] ≡ lettersPrinted n
+unfolding lettersPrinted
+letters-none n h = by (eqb n 5)
   where
-    by : Dec (suc n ≤ 13) → [] ≡ getD ([] ∷ map bytes seriesNames) (suc n) []
-    by (yes g) = absurd (h (omega arith) g)
-    by (no g) = sym (List·getD-eq-default ([] ∷ map bytes seriesNames) [] {n = suc n} (omega arith))
+    by : (t : Bool) → [] ≡ cond t [] (getD ([] ∷ map bytes cleavageNames) n [])
+    by true = refl
+    by false = none-named (map bytes cleavageNames) n h
 
 -- ---- texts and names
 

@@ -9,13 +9,14 @@ use Rattle.rules.specs.Numbers.{digits}
 use Rattle.rules.specs.Layout.{kindAt, letterAt, positionAt, lastAt}
 use Rattle.slices.specs.Numbers.{u16At}
 use Rattle.put_formula.specs.Preferred.{printedUnits}
-use Rattle.print_ion.specs.Texts.{seriesPrinted, bracesPrinted, bracketsPrinted, ionUnits, ionBytes}
+use Rattle.print_ion.specs.Texts.{seriesPrinted, lettersPrinted, bracesPrinted, bracketsPrinted, ionUnits, ionBytes}
 
 unfoldable pub positionPrinted : List ℕ → List ℕ → List ℕ
 positionPrinted s w = seriesPrinted (getD s letterAt 0) ++ (digits (u16At (drop positionAt s)) ++ bracesPrinted w)
 
 unfoldable pub internalPrinted : List ℕ → List ℕ → List ℕ
-internalPrinted s w = bytes "m" ++ (digits (u16At (drop positionAt s)) ++ (bytes ":" ++ (digits (u16At (drop lastAt s)) ++ bracesPrinted w)))
+internalPrinted s w =
+    bytes "m" ++ (lettersPrinted (getD s letterAt 0) ++ (digits (u16At (drop positionAt s)) ++ (bytes ":" ++ (digits (u16At (drop lastAt s)) ++ bracesPrinted w))))
 
 unfoldable pub immoniumPrinted : List ℕ → List ℕ → List ℕ
 immoniumPrinted s w = bytes "I" ++ (getD s letterAt 0 ∷ bracketsPrinted w)

@@ -2,7 +2,7 @@
 ghost use mathlib.Core.Path.{_≡_};
 ghost use mathlib.Core.List.{_∷_};
 ghost use Rattle.put_bytes.specs.Puts.{Put};
-ghost use Rattle.print_ion.specs.Texts.{seriesPrinted, enclosedPrinted, bracesPrinted, bracketsPrinted, ionUnits, ionBytes};
+ghost use Rattle.print_ion.specs.Texts.{seriesPrinted, lettersPrinted, enclosedPrinted, bracesPrinted, bracketsPrinted, ionUnits, ionBytes};
 ghost use Rattle.print_ion.specs.Ions.{positionPrinted, internalPrinted, immoniumPrinted, labelPrinted, composedPrinted, ionPrinted};
 ghost use Rattle.print_ion.specs.Fronts.{flagPrinted, analytePrinted, frontPrinted};
 use layout::ANALYTE_AT;
@@ -51,6 +51,24 @@ fn put_series(out: &mut [u8], to: usize, letter: u8) -> usize
     }
 }
 
+// The letters of an internal ion, by the number of its cleavage: nothing for yb, which is 0, and for a number that no table holds.
+fn put_letters(out: &mut [u8], to: usize, letter: u8) -> usize
+    ensures { λ r. ⌜ Put (now (out .entry)) to (lettersPrinted letter) (now (out .exit)) r ⌝ }
+{
+    match letter {
+        1 => put_run(out, to, b"xa"),
+        2 => put_run(out, to, b"xb"),
+        3 => put_run(out, to, b"xc"),
+        4 => put_run(out, to, b"ya"),
+        5 => to,
+        6 => put_run(out, to, b"yc"),
+        7 => put_run(out, to, b"za"),
+        8 => put_run(out, to, b"zb"),
+        9 => put_run(out, to, b"zc"),
+        _ => to,
+    }
+}
+
 // A text or name between two bytes; nothing where there is none.
 fn put_enclosed(out: &mut [u8], to: usize, first: u8, w: &[u8], last: u8) -> usize
     ensures { λ r. ⌜ Put (now (out .entry)) to (enclosedPrinted first (now (w .entry)) last) (now (out .exit)) r ⌝ }
@@ -85,15 +103,16 @@ fn print_series(out: &mut [u8], to: usize, s: &[u8], w: &[u8]) -> usize
     put_enclosed(out, b, b'{', w, b'}')
 }
 
-// 2: both ends.
+// 2: letters and both ends.
 fn print_internal(out: &mut [u8], to: usize, s: &[u8], w: &[u8]) -> usize
     ensures { λ r. ⌜ Put (now (out .entry)) to (internalPrinted (now (s .entry)) (now (w .entry))) (now (out .exit)) r ⌝ }
 {
     let a = put8(out, to, b'm');
-    let b = put_number(out, a, u16_at(rest(s, POSITION_AT)) as u64);
-    let c = put8(out, b, b':');
-    let d = put_number(out, c, u16_at(rest(s, LAST_AT)) as u64);
-    put_enclosed(out, d, b'{', w, b'}')
+    let b = put_letters(out, a, byte_of(s, LETTER_AT));
+    let c = put_number(out, b, u16_at(rest(s, POSITION_AT)) as u64);
+    let d = put8(out, c, b':');
+    let e = put_number(out, d, u16_at(rest(s, LAST_AT)) as u64);
+    put_enclosed(out, e, b'{', w, b'}')
 }
 
 // 3: the letter.

@@ -6,7 +6,7 @@ use mathlib.Core.Bool.{Bool, true, false, _&&_}
 use mathlib.Core.List.{List, [], _∷_, _++_, map}
 use native.Mathlib.Omega.{arith}
 use native.Mathlib.Nat.{mul-suc}
-use lib.Dec.{T, leb, leb→le}
+use lib.Dec.{T, eqb, leb, leb→le}
 use lib.ListN.{length, getD, length-append, length-map}
 use Rattle.lang.specs.Parts.{Opt, silent, written, optText, items, flat, Such, wordOf}
 use Rattle.lang.specs.Mark.{In, here, later}
@@ -17,12 +17,12 @@ use Rattle.rules.specs.Decimals.{Decimal, whole, lastDigits, pointText, decimal
 use Rattle.rules.specs.Texts.{bracedText, bracketText}
 use Rattle.rules.specs.Elements.{symbols, Symbol}
 use Rattle.rules.specs.Formulas.{writtenText, FormulaUnit, plain, labelled, unitText, unitMap, Formula, formulaText, formulaMap}
-use Rattle.rules.specs.Ions.{seriesNames, Series, Ion, series, internal, immonium, precursor, reference, named, composed, smiles, unknown, ionText, ionMap}
+use Rattle.rules.specs.Ions.{seriesNames, Series, cleavageNames, Cleavage, series, internal, immonium, precursor, reference, named, composed, smiles, unknown, ionText, ionMap, TableIon}
 use Rattle.rules.specs.Losses.{Sign, minus, plus, signText, Lost, lost-formula, lost-name, lostText, lostMap, Loss, lossText, lossMap}
 use Rattle.rules.specs.Isotopes.{Shift, shiftText, shiftMap, Specific, specificText, specificMap}
 use Rattle.rules.specs.Isotopes.{Isotopes, no-isotope, plain-isotope, average-isotope, specific-isotopes, isotopesText, isotopesMap}
 use Rattle.rules.specs.Adducts.{Added, added-formula, electron, addedText, addedMap, Item, itemText, adductText, itemMap}
-use Rattle.rules.specs.Preferred.{shortened, countOr1}
+use Rattle.rules.specs.Preferred.{shortened, countOr1, shortenedCut}
 use Rattle.rules.specs.Limits.{maxLosses, maxIsotopes, maxItems, maxUnits, maxText, maxPlaces, maxDigits}
 use Rattle.rules.specs.Stored.{Field, valueOr0, number, bytesOf, ionFields, lostUnits, lostName, specificRecord, isotopeRecords, addedUnits}
 use Rattle.rules.specs.Layout.{isotopeWidths}
@@ -155,7 +155,18 @@ label-short : (n : Opt Number) → valueOr0 number n < 65536 → length (optText
 label-short silent h = omega arith
 label-short (written n) h = number-short (n .value) h
 
-pub ion-short : (x : Ion Number) → IonFits x → Small (ionFields x .units) (ionFields x .text) → length (ionText (ionMap shortened x)) ≤ 269
+-- a cleavage has two letters
+letters-short : (c : Cleavage) → length (optText wordOf (shortenedCut c)) ≤ 2
+letters-short c = by (eqb (c .which) 4)
+  where
+    two : length (wordOf c) ≤ 2
+    two = word-at (map bytes cleavageNames) tt (c .which)
+
+    by : (t : Bool) → length (optText (wordOf {words = map bytes cleavageNames}) (elim t [ true ↦ silent | false ↦ written c ])) ≤ 2
+    by true = omega arith
+    by false = two
+
+pub ion-short : (x : TableIon) → IonFits x → Small (ionFields x .units) (ionFields x .text) → length (ionText (ionMap shortened shortenedCut x)) ≤ 271
 ion-short (series s n t) h b =
     let p = h .small .position in
     omega (
@@ -166,13 +177,15 @@ ion-short (series s n t) h b =
       number-short (n .value) (omega arith),
       braced-short t (b .short),
     )
-ion-short (internal m n t) h b =
+ion-short (internal c m n t) h b =
     let p = h .small .position in
     let q = h .small .end in
     let rest = bytes ":" ++ (numberText n ++ optText bracedText t) in
     omega (
       arith,
+      length-append (optText wordOf (shortenedCut c)) (numberText m ++ rest),
       length-append (numberText m) rest,
+      letters-short c,
       length-append (numberText n) (optText bracedText t),
       number-short (m .value) (omega arith),
       number-short (n .value) (omega arith),

@@ -16,7 +16,7 @@ use Rattle.rules.specs.Losses.{lossText, lossMap}
 use Rattle.rules.specs.Isotopes.{isotopesMap, isotopesText}
 use Rattle.rules.specs.Adducts.{Item, itemText, itemMap, adductText}
 use Rattle.rules.specs.Annotations.{TableAnnotation, flagText, analyteText, annotationText}
-use Rattle.rules.specs.Preferred.{shortenedAnnotation, shortened}
+use Rattle.rules.specs.Preferred.{shortenedAnnotation, shortened, shortenedCut}
 use Rattle.rules.specs.Stored.{stores, ionFields, unitRecord, lostUnits, lostName, lossRecord, isotopeRecords, addedUnits, itemRecord, commonFields, addedFields, annotationUnits, annotationTexts}
 use Rattle.rules.specs.Limits.{maxLosses, maxIsotopes, maxItems}
 use Rattle.rules.specs.Editions.{Edition, ed1, ed2}
@@ -153,7 +153,7 @@ module _ (e : Edition) (a : TableAnnotation) (q : StoredParts) (b : Bounded a) (
 
   -- the text, change by change
   front-text : frontPrinted (laid e a q .notes) (laid e a q .units) (laid e a q .text)
-      ≡ flagText (bytes "&") (a .marked) ++ (optText analyteText (a .analyte) ++ ionText (ionMap shortened (a .ion)))
+      ≡ flagText (bytes "&") (a .marked) ++ (optText analyteText (a .analyte) ++ ionText (ionMap shortened shortenedCut (a .ion)))
   front-text =
       ap₂ (λ (u t : List ℕ). frontPrinted (laid e a q .notes) u t) (units-laid e a q) (text-laid e a q)
       ∙ front-printed a (addedNotes e a q) (unitsAfterIon a q) (textAfterIon a q) (front-ok a r b)
@@ -176,7 +176,7 @@ module _ (e : Edition) (a : TableAnnotation) (q : StoredParts) (b : Bounded a) (
   annotation-laid =
       let f = flagText (bytes "&") (a .marked) in
       let n = optText analyteText (a .analyte) in
-      let x = ionText (ionMap shortened (a .ion)) in
+      let x = ionText (ionMap shortened shortenedCut (a .ion)) in
       let more =
       ap₂ (λ (v w : List ℕ). v ++ w) losses-text
       (ap₂ (λ (v w : List ℕ). v ++ w) isotopes-text (ap₂ (λ (v w : List ℕ). v ++ w) adduct-text (tail-printed a (addedNotes e a q) (tail-ok a r)))) in

@@ -59,8 +59,8 @@ confidence-short : (x : Opt Decimal) → ConfidenceFits x → length (optText co
 confidence-short silent h = omega arith
 confidence-short (written d) h = let v = h .value in omega (arith, decimal-short d (h .places) (omega arith))
 
--- 1 + 6 + 269 + 2104 + 56 + 699 + 6 + 27 + 23 is 3191
-pub annotation-short : (a : TableAnnotation) → InRange a → Bounded a → length (annotationText (shortenedAnnotation a)) ≤ 3191
+-- 1 + 6 + 271 + 2104 + 56 + 699 + 6 + 27 + 23 is 3193
+pub annotation-short : (a : TableAnnotation) → InRange a → Bounded a → length (annotationText (shortenedAnnotation a)) ≤ 3193
 annotation-short a r b =
     let s = shortenedAnnotation a in
     let confidence = optText confidenceText (s .confidence) in
@@ -96,9 +96,9 @@ annotation-short a r b =
 
 -- at most 16 annotations, and a comma before each but the first
 abbrev pub longestLine : ℕ
-longestLine = 51071
+longestLine = 51103
 
-joined-short : (t : Table) → length t ≤ maxAnnotations → ((a : TableAnnotation) → In a t → length (annotationText (shortenedAnnotation a)) ≤ 3191)
+joined-short : (t : Table) → length t ≤ maxAnnotations → ((a : TableAnnotation) → In a t → length (annotationText (shortenedAnnotation a)) ≤ 3193)
     → length (preferred t) ≤ longestLine
 joined-short [] few h = omega arith
 joined-short (a ∷ t) few h =
@@ -107,7 +107,7 @@ joined-short (a ∷ t) few h =
       arith,
       length-append (annotationText (shortenedAnnotation a)) next,
       h a here,
-      row-short nextText shortenedAnnotation 3192 t (λ b i. omega (arith, h b (later i))),
+      row-short nextText shortenedAnnotation 3194 t (λ b i. omega (arith, h b (later i))),
     )
 
 pub line-short : {e : Edition} (t : Table) → Sound e t → length (preferred t) ≤ longestLine

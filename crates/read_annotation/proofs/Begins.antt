@@ -17,7 +17,7 @@ use Rattle.rules.specs.Bytes.{bytes, _to_, digit}
 use Rattle.rules.specs.Texts.{firstIn, startsWith, bracedText}
 use Rattle.rules.specs.Numbers.{numberText}
 use Rattle.rules.specs.Formulas.{Written}
-use Rattle.rules.specs.Ions.{Ion, series, internal, immonium, precursor, reference, named, composed, smiles, unknown, ionText}
+use Rattle.rules.specs.Ions.{series, internal, immonium, precursor, reference, named, composed, smiles, unknown, ionText, SpelledIon}
 
 -- `?` and all letters
 abbrev high : List Rng
@@ -39,10 +39,10 @@ word-at c (w ∷ ws) t (suc n) h = word-at c ws (and-1 (firstIn c w) (allFirst c
 word-first : (c : List Rng) (ws : List (List ℕ)) → T (allFirst c ws) → (l : Listed ws) (k : List ℕ) → firstIn c (wordOf l ++ k) ≡ true
 word-first c ws t l k = first-append c (wordOf l) k (word-at c ws t (l .which) (ltb→lt (l .which) (length ws) (l .known)))
 
-ion-high : (x : Ion Written) (k : List ℕ) → firstIn high (ionText x ++ k) ≡ true
+ion-high : (x : SpelledIon) (k : List ℕ) → firstIn high (ionText x ++ k) ≡ true
 ion-high (series s n t) k =
     ap (firstIn high) (append-assoc (wordOf s) (numberText n ++ optText bracedText t) k) ∙ word-first high _ tt s ((numberText n ++ optText bracedText t) ++ k)
-ion-high (internal m n t) k = refl
+ion-high (internal c m n t) k = refl
 ion-high (immonium a m) k = refl
 ion-high precursor k = refl
 ion-high (reference n) k = refl
@@ -51,12 +51,12 @@ ion-high (composed f) k = refl
 ion-high (smiles t) k = refl
 ion-high (unknown n) k = refl
 
-pub ion-begins-apart : (x : Ion Written) (k : List ℕ) → firstIn digit (ionText x ++ k) ≡ false
+pub ion-begins-apart : (x : SpelledIon) (k : List ℕ) → firstIn digit (ionText x ++ k) ≡ false
 ion-begins-apart x k = first-below 63 122 48 57 (omega arith) (ionText x ++ k) (ion-high x k)
 
 high-no-mark : (s : List ℕ) → firstIn high s ≡ true → startsWith (bytes "&") s ≡ false
 high-no-mark [] e = refl
 high-no-mark (b ∷ s) e = let r = in-range 63 122 b e in rw (ne-eqb 38 b (λ q. omega arith))
 
-pub ion-no-mark : (x : Ion Written) (k : List ℕ) → startsWith (bytes "&") (ionText x ++ k) ≡ false
+pub ion-no-mark : (x : SpelledIon) (k : List ℕ) → startsWith (bytes "&") (ionText x ++ k) ≡ false
 ion-no-mark x k = high-no-mark (ionText x ++ k) (ion-high x k)

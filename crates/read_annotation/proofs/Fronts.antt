@@ -9,7 +9,7 @@ use Rattle.lang.specs.Parts.{Opt, optText}
 use Rattle.lang.specs.Mark.{marksOf}
 use Rattle.rules.specs.Bytes.{bytes}
 use Rattle.rules.specs.Formulas.{Written}
-use Rattle.rules.specs.Ions.{Ion, ionText}
+use Rattle.rules.specs.Ions.{ionText, SpelledIon}
 use Rattle.rules.specs.Annotations.{flagText, analyteText}
 use Rattle.rules.specs.Limits.{optPart, analytePart, ionParts}
 use Rattle.rules.specs.Editions.{ed2}
@@ -29,7 +29,7 @@ use Rattle.read_annotation.proofs.Ions.{ion-told}
 use Rattle.read_annotation.proofs.Sequences.{sequence-read}
 use Rattle.read_annotation.proofs.Prefixes.{prefixLength, prefix-read}
 
-module _ (m : Bool) (n : Opt ℕ) (x : Ion Written) (k : List ℕ) where
+module _ (m : Bool) (n : Opt ℕ) (x : SpelledIon) (k : List ℕ) where
   abbrev pub behindFlag : List ℕ
   behindFlag = optText analyteText n ++ (ionText x ++ k)
 

@@ -1,13 +1,9 @@
--- What a part begins with, and the groups of parts, from what the readers of each tell. Assumes nothing.
+-- The groups of parts, and what is measured of them, from what the readers of each tell. Assumes nothing.
 use Prim.Native.Nat.{ℕ, _-_}
-use mathlib.Core.Path.{_≡_, refl, sym}
-use mathlib.Core.Bool.{Bool, true, false, _&&_}
-use mathlib.Core.List.{List, [], _∷_}
-use lib.Dec.{eqb}
+use mathlib.Core.Path.{_≡_}
+use mathlib.Core.Bool.{Bool}
+use mathlib.Core.List.{List}
 use lib.ListN.{length, drop}
-use Rattle.lang.proofs.Tests.{not-t}
-use Rattle.rules.specs.Bytes.{bytes}
-use Rattle.rules.specs.Texts.{startsWith}
 use Rattle.rules.specs.Editions.{Edition}
 use Rattle.rules.specs.Limits.{maxLosses, maxAnnotations, manyMark}
 use Rattle.counts.specs.declared.Counts.{Counts}
@@ -34,25 +30,7 @@ use Rattle.read_annotation.specs.Parts.{prefixOf, adductOf}
 use Rattle.read_annotation.specs.Sequences.{sequenceOfIon}
 use Rattle.read_annotation.specs.Groups.{frontOf, middleOf, tailOf}
 use Rattle.read_annotation.specs.House.{ifAsked, rulesOf, shareOf}
-use Rattle.read_annotation.specs.Measured.{ownCounts, partsOf, measuredOf}
-
--- ---- `[M`
-
-pub adduct-apart : (s : List ℕ) → startsWith (bytes "[") s ≡ false → false ≡ startsWith (bytes "[M") s
-adduct-apart [] e = refl
-adduct-apart (b ∷ s) e = by (eqb 91 b) e
-  where
-    by : (x : Bool) → x && true ≡ false → false ≡ (x && startsWith (bytes "M") s)
-    by true e = absurd (not-t {x = true} e tt)
-    by false e = refl
-
-pub adduct-behind : (s : List ℕ) → startsWith (bytes "[") s ≡ true → startsWith (bytes "M") (drop 1 s) ≡ startsWith (bytes "[M") s
-adduct-behind [] e = absurd (not-t {x = true} (sym e) tt)
-adduct-behind (b ∷ s) e = by (eqb 91 b) e
-  where
-    by : (x : Bool) → x && true ≡ true → startsWith (bytes "M") s ≡ (x && startsWith (bytes "M") s)
-    by true e = refl
-    by false e = absurd (not-t {x = true} (sym e) tt)
+use Rattle.read_annotation.specs.Measured.{ownCounts, partsOf, isFree, measuredOf}
 
 -- ---- groups
 
@@ -85,11 +63,11 @@ module _ (end : ℕ) (s : List ℕ) (f : Fault) {t u : List ℕ} where
 
 -- ---- what was read, measured
 
-pub measure-is : (e : Edition) (s : List ℕ) (p : Parts) {t u v : List ℕ} {o n : Counts} {share q : ℕ} {formed kept : Bool} → share ≡ shareOf (p .tail .confidence)
-    → t ≡ drop (p .front .len) s → u ≡ drop (p .middle .len) t → o ≡ ownCounts (p .front .ion) → n ≡ plus o (p .middle .counts)
+pub measure-is : (e : Edition) (s : List ℕ) (p : Parts) {t u v : List ℕ} {o n : Counts} {share q : ℕ} {free formed kept : Bool} → share ≡ shareOf (p .tail .confidence)
+    → free ≡ isFree (p .tail .confidence .bare) (drop (p .front .at) s) → t ≡ drop (p .front .len) s → u ≡ drop (p .middle .len) t → o ≡ ownCounts (p .front .ion) → n ≡ plus o (p .middle .counts)
     → formed ≡ ifAsked e (p .front .formed)
     → kept ≡ rulesOf e (p .front .ion) (p .front .residues) (p .middle .counts .items) (p .tail .deviation) share → v ≡ drop (p .tail .len) u → q ≡ length s - length v
-    → record { counts = n; free = p .tail .confidence .bare; share = share; formed = formed; kept = kept; len = q; fault = p .tail .confidence .fault }
+    → record { counts = n; free = free; share = share; formed = formed; kept = kept; len = q; fault = p .tail .confidence .fault }
     ≡ measuredOf e s p
 unfolding measuredOf
-measure-is e s p ps pt pu po pn pf pk pv pq = rw (pn, po, pf, ← ps, ← pt, ← pu, ← pk, ← pv, ← pq)
+measure-is e s p ps pz pt pu po pn pf pk pv pq = rw (pn, po, pf, pz, ← ps, ← pt, ← pu, ← pk, ← pv, ← pq)

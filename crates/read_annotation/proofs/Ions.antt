@@ -10,9 +10,9 @@ use borrow.Author.Tests.{le-leb}
 use Rattle.lang.specs.Mark.{Kept, here, later, marksOf}
 use Rattle.rules.specs.Numbers.{Number}
 use Rattle.rules.specs.Formulas.{Written, unitMap}
-use Rattle.rules.specs.Ions.{Ion, series, internal, immonium, precursor, reference, named, composed, smiles, unknown, ionText, ionMap}
+use Rattle.rules.specs.Ions.{series, internal, immonium, precursor, reference, named, composed, smiles, unknown, ionText, ionMap, SpelledIon}
 use Rattle.rules.specs.Adducts.{Item}
-use Rattle.rules.specs.Fields.{filled}
+use Rattle.rules.specs.Fields.{filled, filledCut}
 use Rattle.rules.specs.House.{isEmpty, ionRule}
 use Rattle.rules.specs.Limits.{maxPosition, numberPart, ionParts}
 use Rattle.rules.specs.Stored.{ionFields}
@@ -24,15 +24,15 @@ use Rattle.read_ion.proofs.SpelledIon.{ionRead}
 use Rattle.read_annotation.specs.House.{ionRuleOf}
 
 -- as the rules count it
-pub record IonTold (x : Ion Written) (g : Fault) : Type 0 where
-  pub units : ionRead x g .units ≡ length (ionFields (ionMap filled x) .units)
-  pub text : ionRead x g .text ≡ length (ionFields (ionMap filled x) .text)
+pub record IonTold (x : SpelledIon) (g : Fault) : Type 0 where
+  pub units : ionRead x g .units ≡ length (ionFields (ionMap filled filledCut x) .units)
+  pub text : ionRead x g .text ≡ length (ionFields (ionMap filled filledCut x) .text)
   pub len : ionRead x g .len ≡ length (ionText x)
   pub fault : ionRead x g .fault ≡ g
 
-pub ion-told : (x : Ion Written) (g : Fault) → IonTold x g
+pub ion-told : (x : SpelledIon) (g : Fault) → IonTold x g
 ion-told (series s n t) g = record { units = refl; text = refl; len = refl; fault = refl }
-ion-told (internal m n t) g = record { units = refl; text = refl; len = refl; fault = refl }
+ion-told (internal c m n t) g = record { units = refl; text = refl; len = refl; fault = refl }
 ion-told (immonium a m) g = record { units = refl; text = refl; len = refl; fault = refl }
 ion-told precursor g = record { units = refl; text = refl; len = refl; fault = refl }
 ion-told (reference n) g = record { units = refl; text = refl; len = refl; fault = refl }
@@ -49,12 +49,12 @@ some-items : (xs : List (Item Written)) → leb 1 (length xs) ≡ not (isEmpty x
 some-items [] = refl
 some-items (x ∷ xs) = le-leb 1 (length (x ∷ xs)) (omega arith)
 
-pub ion-rule : (x : Ion Written) (g : Fault) (at : ℕ) (xs : List (Item Written)) → Kept (marksOf at (ionParts x)) → ionRuleOf (ionRead x g) (length xs) ≡ ionRule x (not (isEmpty xs))
+pub ion-rule : (x : SpelledIon) (g : Fault) (at : ℕ) (xs : List (Item Written)) → Kept (marksOf at (ionParts x)) → ionRuleOf (ionRead x g) (length xs) ≡ ionRule x (not (isEmpty xs))
 unfolding ionRuleOf
 ion-rule (series s n t) g at xs k = refl
-ion-rule (internal m n t) g at xs k =
-    let p = kept-part at (ionParts (internal m n t)) k (numberPart maxPosition m) (later here) in
-    let q = kept-part at (ionParts (internal m n t)) k (numberPart maxPosition n) (later (later (later here))) in
+ion-rule (internal c m n t) g at xs k =
+    let p = kept-part at (ionParts (internal c m n t)) k (numberPart maxPosition m) (later (later here)) in
+    let q = kept-part at (ionParts (internal c m n t)) k (numberPart maxPosition n) (later (later (later (later here)))) in
     ap₂ (λ (a b : ℕ). leb 2 a && leb a b) (told-within m (p .0) (p .1)) (told-within n (q .0) (q .1))
 ion-rule (immonium a m) g at xs k = refl
 ion-rule precursor g at xs k = refl

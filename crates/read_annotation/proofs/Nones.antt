@@ -17,7 +17,8 @@ use Rattle.read_changes.proofs.ChangeLoop.{begin as no-changes, ends as changes
 use Rattle.read_isotopes.proofs.IsotopeLoops.{begin as no-isotopes, counted-all}
 use Rattle.read_annotation.specs.Parts.{adductOf}
 use Rattle.read_annotation.specs.Groups.{beginsMiddle, middleOf}
-use Rattle.read_annotation.proofs.Groups.{adduct-apart, middle-is}
+use Rattle.read_ion.proofs.SpelledYb.{starts-apart}
+use Rattle.read_annotation.proofs.Groups.{middle-is}
 
 neither : (a b : Bool) → a || b ≡ false → (a ≡ false) × (b ≡ false)
 neither true b e = absurd (not-t {x = true} e tt)
@@ -26,7 +27,7 @@ neither false b e = (refl, e)
 module _ (end : ℕ) (s : List ℕ) (f : Fault) where
   adduct-none : startsWith (bytes "[") s ≡ false → record { n = 0; units = 0; text = 0; len = 0; fault = f } ≡ adductOf end s f
   unfolding adductOf
-  adduct-none e = rw (sym (adduct-apart s e))
+  adduct-none e = rw (sym (starts-apart 91 (bytes "M") s e))
 
   pub middle-none : {n : Counts} → beginsMiddle s ≡ false → n ≡ noCounts → record { counts = n; len = 0; fault = f } ≡ middleOf end s f
   middle-none e pn =

@@ -12,7 +12,7 @@ use Rattle.rules.specs.Isotopes.{isotopesMap}
 use Rattle.rules.specs.Adducts.{Item, itemMap}
 use Rattle.rules.specs.Confidences.{meantDecimal}
 use Rattle.rules.specs.Annotations.{TableAnnotation, SpelledAnnotation}
-use Rattle.rules.specs.Fields.{filled, Says}
+use Rattle.rules.specs.Fields.{filled, Says, filledCut}
 use Rattle.rules.specs.Preferred.{lossLe, itemLe}
 
 -- an annotation as a table has it
@@ -21,7 +21,7 @@ tableOf a ls xs =
     record {
       marked = a .marked;
       analyte = a .analyte;
-      ion = ionMap filled (a .ion);
+      ion = ionMap filled filledCut (a .ion);
       losses = ls;
       isotopes = isotopesMap filled (a .isotopes);
       adduct = xs;

@@ -14,7 +14,7 @@ use Rattle.rules.specs.Texts.{Text, isText}
 use Rattle.rules.specs.Formulas.{Written}
 use Rattle.rules.specs.Sequences.{residues}
 use Rattle.rules.specs.Editions.{ed2}
-use Rattle.rules.specs.Ions.{Ion, series, internal, immonium, precursor, reference, named, composed, smiles, unknown, ionText}
+use Rattle.rules.specs.Ions.{series, internal, immonium, precursor, reference, named, composed, smiles, unknown, ionText, SpelledIon}
 use Rattle.rules.specs.House.{formed, longEnough}
 use Rattle.rules.specs.Limits.{maxPosition, numberPart, ionParts}
 use Rattle.rules.specs.Stored.{residueCount}
@@ -49,17 +49,17 @@ text-some t = by (t .bytes) (t .good)
     by (b ∷ w) h = le-leb 1 (length (b ∷ w)) (omega arith)
 
 -- a sequence as it is read
-abbrev pub sequenceRead : Ion Written → SequenceRead
+abbrev pub sequenceRead : SpelledIon → SequenceRead
 sequenceRead x = record { formed = formed ed2 x; residues = residueCount x }
 
-pub sequence-read : (x : Ion Written) (k : List ℕ) (g : Fault) → sequenceRead x ≡ sequenceOfIon (ionText x ++ k) (ionRead x g)
+pub sequence-read : (x : SpelledIon) (k : List ℕ) (g : Fault) → sequenceRead x ≡ sequenceOfIon (ionText x ++ k) (ionRead x g)
 unfolding hasSequence
 sequence-read (series s n silent) k g = sequence-none (ionText (series s n silent) ++ k) (ionRead (series s n silent) g) refl
 sequence-read (series s n (written t)) k g =
     let x = series s n (written t) in sequence-there (ionText x ++ k) (ionRead x g) (text-some t) refl (sym (ion-spelled-text x k g))
-sequence-read (internal m n silent) k g = sequence-none (ionText (internal m n silent) ++ k) (ionRead (internal m n silent) g) refl
-sequence-read (internal m n (written t)) k g =
-    let x = internal m n (written t) in sequence-there (ionText x ++ k) (ionRead x g) (text-some t) refl (sym (ion-spelled-text x k g))
+sequence-read (internal c m n silent) k g = sequence-none (ionText (internal c m n silent) ++ k) (ionRead (internal c m n silent) g) refl
+sequence-read (internal c m n (written t)) k g =
+    let x = internal c m n (written t) in sequence-there (ionText x ++ k) (ionRead x g) (text-some t) refl (sym (ion-spelled-text x k g))
 sequence-read (immonium a m) k g = sequence-none (ionText (immonium a m) ++ k) (ionRead (immonium a m) g) refl
 sequence-read precursor k g = sequence-none (ionText precursor ++ k) (ionRead precursor g) refl
 sequence-read (reference n) k g = sequence-none (ionText (reference n) ++ k) (ionRead (reference n) g) refl
@@ -69,17 +69,17 @@ sequence-read (smiles t) k g = sequence-none (ionText (smiles t) ++ k) (ionRead 
 sequence-read (unknown n) k g = sequence-none (ionText (unknown n) ++ k) (ionRead (unknown n) g) refl
 
 -- within the limits positions are read as they are, so that the rule is that of the rules
-pub sequence-rule : (x : Ion Written) (g : Fault) (at : ℕ) → Kept (marksOf at (ionParts x)) → longEnoughOf (ionRead x g) (residueCount x) ≡ longEnough ed2 x
+pub sequence-rule : (x : SpelledIon) (g : Fault) (at : ℕ) → Kept (marksOf at (ionParts x)) → longEnoughOf (ionRead x g) (residueCount x) ≡ longEnough ed2 x
 unfolding longEnoughOf hasSequence coveredOf
 sequence-rule (series s n silent) g at k = refl
 sequence-rule (series s n (written t)) g at k =
     let p = kept-part at (ionParts (series s n (written t))) k (numberPart maxPosition n) (later here) in
     ap₂ (λ (b : Bool) (a : ℕ). not b || leb a (residues (t .bytes))) (text-some t) (told-within n (p .0) (p .1))
-sequence-rule (internal m n silent) g at k = refl
-sequence-rule (internal m n (written t)) g at k =
-    let x = internal m n (written t) in
-    let p = kept-part at (ionParts x) k (numberPart maxPosition m) (later here) in
-    let q = kept-part at (ionParts x) k (numberPart maxPosition n) (later (later (later here))) in
+sequence-rule (internal c m n silent) g at k = refl
+sequence-rule (internal c m n (written t)) g at k =
+    let x = internal c m n (written t) in
+    let p = kept-part at (ionParts x) k (numberPart maxPosition m) (later (later here)) in
+    let q = kept-part at (ionParts x) k (numberPart maxPosition n) (later (later (later (later here)))) in
     ap₂ (λ (b : Bool) (a : ℕ). not b || leb a (residues (t .bytes))) (text-some t)
     (ap₂ (λ (a b : ℕ). b + 1 - a) (told-within m (p .0) (p .1)) (told-within n (q .0) (q .1)))
 sequence-rule (immonium a m) g at k = refl

@@ -11,9 +11,9 @@ use Rattle.rules.specs.Bytes.{bytes}
 use Rattle.rules.specs.Texts.{bracedText, bracketText}
 use Rattle.rules.specs.Numbers.{numberText}
 use Rattle.rules.specs.Formulas.{Written, FormulaUnit, unitText, unitMap, Formula, formulaText, formulaMap}
-use Rattle.rules.specs.Ions.{Ion, series, internal, immonium, precursor, reference, named, composed, smiles, unknown, ionText, ionMap}
+use Rattle.rules.specs.Ions.{series, internal, immonium, precursor, reference, named, composed, smiles, unknown, ionText, ionMap, SpelledIon}
 use Rattle.rules.specs.Losses.{Loss, lossText, lossMap}
-use Rattle.rules.specs.Fields.{filled}
+use Rattle.rules.specs.Fields.{filled, filledCut}
 use Rattle.rules.specs.Limits.{maxLosses}
 use Rattle.rules.specs.Stored.{bytesOf, ionFields, lostUnits, lostName}
 use Rattle.faults.specs.Faults.{fault}
@@ -52,17 +52,17 @@ bracket-long silent = omega arith
 bracket-long (written t) = omega (arith, length-append (t .bytes) (bytes "]"))
 
 -- units, and text: one of the two is empty
-pub record IonLong (x : Ion Written) : Type 0 where
-  pub units : length (ionFields (ionMap filled x) .units) ≤ length (ionText x)
-  pub text : length (ionFields (ionMap filled x) .text) ≤ length (ionText x)
+pub record IonLong (x : SpelledIon) : Type 0 where
+  pub units : length (ionFields (ionMap filled filledCut x) .units) ≤ length (ionText x)
+  pub text : length (ionFields (ionMap filled filledCut x) .text) ≤ length (ionText x)
 
-pub ion-long : (x : Ion Written) → IonLong x
+pub ion-long : (x : SpelledIon) → IonLong x
 ion-long (series s n t) =
     let w = numberText n ++ optText bracedText t in
     record { units = omega arith; text = omega (arith, length-append (wordOf s) w, length-append (numberText n) (optText bracedText t), braced-long t) }
-ion-long (internal m n t) =
+ion-long (internal c m n t) =
     let w = numberText n ++ optText bracedText t in
-    record { units = omega arith; text = omega (arith, length-append (numberText m) (bytes ":" ++ w), length-append (numberText n) (optText bracedText t), braced-long t) }
+    record { units = omega arith; text = omega (arith, length-append (optText wordOf c) (numberText m ++ (bytes ":" ++ w)), length-append (numberText m) (bytes ":" ++ w), length-append (numberText n) (optText bracedText t), braced-long t) }
 ion-long (immonium a m) = record { units = omega arith; text = omega (arith, bracket-long m) }
 ion-long precursor = record { units = omega arith; text = omega arith }
 ion-long (reference n) = record { units = omega arith; text = omega (arith, length-append (n .bytes) (bytes "]")) }

@@ -1,7 +1,7 @@
 -- What is measured of an annotation that is spelled. Assumes nothing.
 use Prim.Native.Nat.{ℕ, _+_, _-_, _≤_, min}
 use mathlib.Core.Path.{_≡_, refl, sym, ap, ap₂, _∙_, subst}
-use mathlib.Core.Bool.{Bool, _&&_}
+use mathlib.Core.Bool.{Bool, _&&_, _||_}
 use mathlib.Core.List.{List, _++_, map}
 use native.Mathlib.Omega.{arith}
 use lib.Dec.{leb}
@@ -10,13 +10,13 @@ use Rattle.lang.specs.Parts.{optText, flat}
 use Rattle.lang.specs.Mark.{Kept, here, later, marksOf}
 use Rattle.rules.specs.Bytes.{bytes}
 use Rattle.rules.specs.Formulas.{Written}
-use Rattle.rules.specs.Ions.{Ion, ionText, ionMap}
+use Rattle.rules.specs.Ions.{ionText, ionMap, SpelledIon}
 use Rattle.rules.specs.Losses.{lossText, lossMap}
 use Rattle.rules.specs.Isotopes.{isotopesText, isotopesMap}
 use Rattle.rules.specs.Adducts.{adductText, itemMap}
 use Rattle.rules.specs.Confidences.{confidenceText}
 use Rattle.rules.specs.Annotations.{SpelledAnnotation, flagText, analyteText, chargeText, deviationText, annotationText}
-use Rattle.rules.specs.Fields.{filledAnnotation, filled}
+use Rattle.rules.specs.Fields.{filledAnnotation, filled, filledCut}
 use Rattle.rules.specs.Editions.{Edition, ed1, ed2}
 use Rattle.rules.specs.House.{share, one, formed, longEnough, annotationRules}
 use Rattle.rules.proofs.Confidences.{zeroLeftOut}
@@ -31,12 +31,14 @@ use Rattle.faults.specs.Faults.{after}
 use Rattle.read_tail.proofs.SpelledTail.{deviationRead, confidenceRead}
 use Rattle.read_ion.specs.declared.IonRead.{IonRead}
 use Rattle.read_ion.proofs.SpelledIon.{ionRead}
+use Rattle.read_ion.proofs.SpelledYb.{ybWritten, yb-read}
 use Rattle.read_annotation.specs.declared.Measured.{Measured}
 use Rattle.read_annotation.specs.House.{ifAsked, rulesOf, shareOf}
-use Rattle.read_annotation.specs.Measured.{ownCounts, measuredOf, measureOf}
+use Rattle.read_annotation.specs.Measured.{ownCounts, isFree, measuredOf, measureOf}
 use Rattle.read_annotation.proofs.Groups.{measure-is}
 use Rattle.read_annotation.proofs.Chains.{drop-three}
 use Rattle.read_annotation.proofs.Ends.{EndsAnnotation}
+use Rattle.read_annotation.proofs.Fronts.{behind-prefix}
 use Rattle.read_annotation.proofs.Ions.{ion-told, ion-rule}
 use Rattle.read_annotation.proofs.Sequences.{sequence-rule}
 use Rattle.read_annotation.proofs.Tails.{deviationFault, confidence-fault, confidence-bare}
@@ -44,21 +46,25 @@ use Rattle.read_annotation.proofs.Rules.{deviation-rule, share-told, sh
 use Rattle.read_annotation.proofs.Wholes.{third, second, first, text-is, fault1, fault2, fault3, marks-are}
 use Rattle.read_annotation.proofs.Readings.{fault0, partsRead, parts-read}
 
+-- a free spelling that no count tells of
+abbrev pub freelySpelled : SpelledAnnotation → Bool
+freelySpelled a = zeroLeftOut (a .confidence) || ybWritten (a .ion)
+
 -- annotation number i of a line, at a place: what is measured of it by the rules of an edition
 pub record Measures (edition : Edition) (i : ℕ) (a : SpelledAnnotation) (at : ℕ) (f : Fault) (m : Measured) : Type 0 where
   pub fault : m .fault ≡ after f (annotationMarks i a at)
   pub len : m .len ≡ length (annotationText a)
   pub counts : m .counts ≡ plus noCounts (annotationCounts (filledAnnotation a))
-  pub free : m .free ≡ zeroLeftOut (a .confidence)
+  pub free : m .free ≡ freelySpelled a
   pub formed : m .formed ≡ formed edition (a .ion)
   pub kept : Kept (annotationMarks i a at) → m .kept ≡ annotationRules edition a
   pub share : Kept (annotationMarks i a at) → m .share ≡ min (share a) largest
 
-form-asked : (e : Edition) (x : Ion Written) → ifAsked e (formed ed2 x) ≡ formed e x
+form-asked : (e : Edition) (x : SpelledIon) → ifAsked e (formed ed2 x) ≡ formed e x
 form-asked ed1 x = refl
 form-asked ed2 x = refl
 
-length-asked : (e : Edition) (x : Ion Written) {kept : Bool} → kept ≡ longEnough ed2 x → ifAsked e kept ≡ longEnough e x
+length-asked : (e : Edition) (x : SpelledIon) {kept : Bool} → kept ≡ longEnough ed2 x → ifAsked e kept ≡ longEnough e x
 length-asked ed1 x h = refl
 length-asked ed2 x h = h
 
@@ -73,7 +79,7 @@ module _ (edition : Edition) (a : SpelledAnnotation) (k : List ℕ) (i end : ℕ
   measured =
       record {
         counts = plus (ownCounts measuredIon) (partsRead a k i end f .middle .counts);
-        free = confidenceRead (a .confidence) (fault3 a k end (fault0 a k i end f)) .bare;
+        free = isFree (confidenceRead (a .confidence) (fault3 a k end (fault0 a k i end f)) .bare) (ionText (a .ion) ++ second a k);
         share = shareRead;
         formed = formed edition (a .ion);
         kept = rulesOf edition measuredIon (residueCount (a .ion)) (length (a .adduct)) (deviationRead (a .deviation) (deviationFault (a .charge) (a .deviation) (a .confidence) k end (fault2 a k end (fault0 a k i end f)))) shareRead;
@@ -90,6 +96,7 @@ module _ (edition : Edition) (a : SpelledAnnotation) (k : List ℕ) (i end : ℕ
     measured-is : measured ≡ measureOf edition i end (first a k) f
     measured-is =
         measure-is edition (first a k) (partsRead a k i end f) refl
+        (ap (isFree (confidenceRead (a .confidence) (fault3 a k end (fault0 a k i end f)) .bare)) (sym (behind-prefix (a .marked) (a .analyte) (a .ion) (second a k))))
         (sym (drop-three (flagText (bytes "&") (a .marked)) (optText analyteText (a .analyte)) (ionText (a .ion)) (second a k)))
         (sym (drop-three (flat lossText (a .losses)) (isotopesText (a .isotopes)) (adductText (a .adduct)) (third a k)))
         refl refl (sym (form-asked edition (a .ion))) refl
@@ -101,7 +108,7 @@ module _ (edition : Edition) (a : SpelledAnnotation) (k : List ℕ) (i end : ℕ
     counts-are : measured .counts ≡ plus noCounts (annotationCounts (filledAnnotation a))
     counts-are =
         let x = ion-told (a .ion) (fault1 a k end (fault0 a k i end f)) in
-        let us = ionFields (ionMap filled (a .ion)) .units in
+        let us = ionFields (ionMap filled filledCut (a .ion)) .units in
         let ls = flat (λ l. lostUnits (l .what)) (map (lossMap filled) (a .losses)) in
         let xs = flat (λ x. addedUnits (x .what)) (map (itemMap filled) (a .adduct)) in
         let names = flat (λ l. lostName (l .what)) (map (lossMap filled) (a .losses)) in
@@ -109,8 +116,8 @@ module _ (edition : Edition) (a : SpelledAnnotation) (k : List ℕ) (i end : ℕ
         let items = sym (length-map (a .adduct) (itemMap filled)) in
         let units : sum (measuredIon .units) (sum (length ls) (length xs)) ≡ sum 0 (length (us ++ (ls ++ xs))) =
         omega (arith, x .units, length-append us (ls ++ xs), length-append ls xs) in
-        let text : sum (measuredIon .text) (length names) ≡ sum 0 (length (ionFields (ionMap filled (a .ion)) .text ++ names)) =
-        omega (arith, x .text, length-append (ionFields (ionMap filled (a .ion)) .text) names) in
+        let text : sum (measuredIon .text) (length names) ≡ sum 0 (length (ionFields (ionMap filled filledCut (a .ion)) .text ++ names)) =
+        omega (arith, x .text, length-append (ionFields (ionMap filled filledCut (a .ion)) .text) names) in
         λ j. record {
           annotations = 1;
           losses = sum 0 (losses j);
@@ -148,7 +155,7 @@ module _ (edition : Edition) (a : SpelledAnnotation) (k : List ℕ) (i end : ℕ
           fault = confidence-fault (a .confidence) (fault3 a k end (fault0 a k i end f)) ∙ sym (marks-are a k end (fault0 a k i end f) h);
           len = refl;
           counts = counts-are;
-          free = confidence-bare (a .confidence) (fault3 a k end (fault0 a k i end f));
+          free = ap₂ (λ (x y : Bool). x || y) (confidence-bare (a .confidence) (fault3 a k end (fault0 a k i end f))) (yb-read (a .ion) (second a k));
           formed = refl;
           kept = rules-are;
           share = share-is;

@@ -10,4 +10,4 @@ pub use Rattle.read_annotation.proofs.Follows.{ends-middle, ends-ion}
 pub use Rattle.read_annotation.proofs.Wholes.{first, second, third, isotopesOn, adductOn, text-is, fault1, fault2}
 pub use Rattle.read_annotation.proofs.Readings.{fault0, partsRead, parts-read}
 pub use Rattle.read_annotation.proofs.Sized.{behind-ion, size-read, annotation-size}
-pub use Rattle.read_annotation.proofs.Spelled.{Measures, measure-read, measure-within}
+pub use Rattle.read_annotation.proofs.Spelled.{freelySpelled, Measures, measure-read, measure-within}

@@ -1,7 +1,10 @@
 -- The annotation that bytes begin with, read and measured. Assumes nothing.
 use Prim.Native.Nat.{ℕ, _-_}
+use mathlib.Core.Bool.{Bool, _||_}
 use mathlib.Core.List.{List}
 use lib.ListN.{length, drop}
+use Rattle.rules.specs.Bytes.{bytes}
+use Rattle.rules.specs.Texts.{startsWith}
 use Rattle.rules.specs.Editions.{Edition}
 use Rattle.rules.specs.Limits.{maxAnnotations, manyMark}
 use Rattle.counts.specs.declared.Counts.{Counts}
@@ -35,12 +38,16 @@ partsOf i end s f = partsIn end s (frontOf end s (join f (manyMark maxAnnotation
 abbrev pub ownCounts : IonRead → Counts
 ownCounts x = record { annotations = 1; losses = 0; isotopes = 0; items = 0; units = x .units; text = x .text }
 
+-- a free spelling that no count tells of: a confidence without its 0, or letters that say yb at an ion that s begins with
+abbrev pub isFree : Bool → List ℕ → Bool
+isFree bare s = bare || startsWith (bytes "myb") s
+
 -- u is left behind the adduct
 abbrev pub measuredWith : Edition → List ℕ → List ℕ → Front → Middle → Tail → Measured
 measuredWith e s u a m b =
     record {
       counts = plus (ownCounts (a .ion)) (m .counts);
-      free = b .confidence .bare;
+      free = isFree (b .confidence .bare) (drop (a .at) s);
       share = shareOf (b .confidence);
       formed = ifAsked e (a .formed);
       kept = rulesOf e (a .ion) (a .residues) (m .counts .items) (b .deviation) (shareOf (b .confidence));

@@ -7,7 +7,7 @@ ghost use Rattle.read_annotation.specs.Groups.{frontOf, beginsMiddle, mi
 ghost use Rattle.read_annotation.specs.Sequences.{hasSequence, sequenceOfIon};
 ghost use Rattle.layout.specs.Editions.{editionOf};
 ghost use Rattle.read_annotation.specs.House.{ionRuleOf, deviationRuleOf, coveredOf, longEnoughOf, ifAsked, rulesOf, shareOf};
-ghost use Rattle.read_annotation.specs.Measured.{ownCounts, partsOf, measuredOf};
+ghost use Rattle.read_annotation.specs.Measured.{ownCounts, partsOf, isFree, measuredOf};
 use counts::Counts;
 use counts::plus;
 use counts::sum;
@@ -26,6 +26,7 @@ use read_changes::Row;
 use read_changes::read_changes;
 use read_ion::IonRead;
 use read_ion::ion;
+use read_ion::spells_yb;
 use read_isotopes::isotopes;
 use read_opening::begins_sign;
 use read_tail::DecimalPart;
@@ -84,9 +85,8 @@ pub struct Parts {
     pub tail: Tail,
 }
 
-// One annotation: what it has of each kind; whether it has a free spelling that no count tells of, a confidence without its 0; that confidence
-// in billionths; whether its sequence is of the form that the edition asks for; whether the rules for one annotation are kept; how many bytes; and the first
-// broken limit.
+// One annotation: what it has of each kind; whether it has a free spelling that no count tells of; its confidence in billionths; whether its
+// sequence is of the form that the edition asks for; whether the rules for one annotation are kept; how many bytes; and the first broken limit.
 pub struct Measured {
     pub counts: Counts,
     pub free: bool,
@@ -411,6 +411,16 @@ fn own_counts(x: IonRead) -> Counts
     }
 }
 
+// A free spelling that no count tells of: a confidence without its 0, or letters that say yb, which an internal ion means without them.
+pub fn is_free(bare: bool, s: &[u8]) -> bool
+    ensures { λ r. ⌜ r ≡ isFree bare (now (s .entry)) ⌝ }
+{
+    if bare {
+        return true;
+    }
+    spells_yb(s)
+}
+
 // What was read of the annotation that a part begins with, measured by the rules of an edition.
 pub fn measure(edition: Edition, s: &[u8], p: Parts) -> Measured
     ensures { λ r. ⌜ r ≡ measuredOf (editionOf edition) (now (s .entry)) p ⌝ }
@@ -424,10 +434,11 @@ pub fn measure(edition: Edition, s: &[u8], p: Parts) -> Measured
     let c = b.confidence;
     let fault = c.fault;
     let share = share_of(c);
+    let free = is_free(c.bare, rest(s, a.at));
     let u = rest(rest(s, a.len), m.len);
     Measured {
         counts: plus(own_counts(x), n),
-        free: c.bare,
+        free,
         share,
         formed: if_asked(edition, a.formed),
         kept: keeps_rules(edition, x, a.residues, n.items, d, share),

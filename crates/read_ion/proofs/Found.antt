@@ -17,6 +17,8 @@ use Rattle.faults.specs.Faults.{after}
 use Rattle.read_opening.specs.declared.Enclosed.{Enclosed}
 use Rattle.read_opening.specs.Enclosed.{textOf}
 use Rattle.read_ion.specs.declared.IonRead.{IonRead}
+use Rattle.read_ion.specs.declared.CutRead.{CutRead}
+use Rattle.read_ion.specs.Cuts.{cutOf}
 use Rattle.read_ion.specs.Kinds.{withText, opensModification, seriesOf, internalOf}
 use Rattle.read_ion.specs.Ions.{ionBy, ionOf}
 
@@ -88,14 +90,15 @@ module _ (s : List ℕ) where
 
 -- ---- an internal ion, call by call
 
-module _ (s : List ℕ) (end : ℕ) (f : Fault) {r q t : List ℕ} {a b : Number} {g h : Fault} {l m l₂ m₂ colon p at : ℕ} {x : Enclosed} {i : IonRead}
-    (pr : r ≡ drop 1 s) (pa : a ≡ numberOf r) (pl : l ≡ length s - 1) (pm : m ≡ end - l) (pg : g ≡ after f (numberMark maxPosition (a .value) m))
-    (pc : colon ≡ min (1 + a .len) (length s)) (pp : p ≡ min (colon + 1) (length s)) (pq : q ≡ drop p s) (pb : b ≡ numberOf q)
+module _ (s : List ℕ) (end : ℕ) (f : Fault) {u r q t : List ℕ} {c : CutRead} {a b : Number} {g h : Fault} {from l m l₂ m₂ colon p at : ℕ} {x : Enclosed} {i : IonRead}
+    (pu : u ≡ drop 1 s) (pk : c ≡ cutOf u) (po : from ≡ min (1 + c .len) (length s))
+    (pr : r ≡ drop from s) (pa : a ≡ numberOf r) (pl : l ≡ length s - from) (pm : m ≡ end - l) (pg : g ≡ after f (numberMark maxPosition (a .value) m))
+    (pc : colon ≡ min (from + a .len) (length s)) (pp : p ≡ min (colon + 1) (length s)) (pq : q ≡ drop p s) (pb : b ≡ numberOf q)
     (pl₂ : l₂ ≡ length s - p) (pm₂ : m₂ ≡ end - l₂) (ph : h ≡ after g (numberMark maxPosition (b .value) m₂))
     (pat : at ≡ min (p + b .len) (length s)) (pt : t ≡ drop at s) (px : x ≡ textOf end t h) where
-  pub internal-is : i ≡ withText 2 0 (a .value) (b .value) at x (length s) → i ≡ internalOf end s f
+  pub internal-is : i ≡ withText 2 (c .held) (a .value) (b .value) at x (length s) → i ≡ internalOf end s f
   unfolding internalOf
-  internal-is pi = pi ∙ rw (← pr, ← pa, ← pl, ← pm, ← pg, ← pc, ← pp, ← pq, ← pb, ← pl₂, ← pm₂, ← ph, ← pat, ← pt, ← px)
+  internal-is pi = pi ∙ rw (← pu, ← pk, ← po, ← pr, ← pa, ← pl, ← pm, ← pg, ← pc, ← pp, ← pq, ← pb, ← pl₂, ← pm₂, ← ph, ← pat, ← pt, ← px)
 
 -- ---- ions, by the first byte
 

@@ -1,8 +1,10 @@
 pub mod Found
 pub mod Words
+pub mod Cuts
 pub mod Bounds
 pub mod Ends
 pub mod OneIon
 pub mod Positions
 pub mod Others
 pub mod SpelledIon
+pub mod SpelledYb

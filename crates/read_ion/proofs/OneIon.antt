@@ -3,12 +3,13 @@ use Prim.Native.Nat.{ℕ, _+_}
 use mathlib.Core.Path.{_≡_, sym, ap}
 use mathlib.Core.List.{List, [], _++_, append-nil}
 use lib.ListN.{length}
-use Rattle.lang.specs.Parts.{Opt, silent, written, items, wordOf}
+use Rattle.lang.specs.Parts.{Opt, silent, written, optText, items, wordOf}
 use Rattle.lang.specs.Mark.{Mark}
 use Rattle.rules.specs.Numbers.{Number, numberText}
 use Rattle.rules.specs.Formulas.{Written}
-use Rattle.rules.specs.Ions.{Ion, series, internal, immonium, precursor, reference, named, composed, smiles, unknown, ionText}
-use Rattle.rules.specs.Stored.{bytesOf}
+use Rattle.rules.specs.Ions.{SpelledIon, series, internal, immonium, precursor, reference, named, composed, smiles, unknown, ionText}
+use Rattle.rules.specs.Fields.{filledCut}
+use Rattle.rules.specs.Stored.{bytesOf, heldCut}
 use Rattle.faults.specs.declared.Fault.{Fault}
 use Rattle.faults.specs.Faults.{after}
 use Rattle.read_formula.proofs.Spelled.{capped}
@@ -20,11 +21,11 @@ labelRead silent = 0
 labelRead (written n) = capped (n .value)
 
 -- an ion as it is read, with the first broken limit
-abbrev pub ionRead : Ion Written → Fault → IonRead
+abbrev pub ionRead : SpelledIon → Fault → IonRead
 ionRead (series s n t) g =
     record { kind = 1; letter = s .which + 1; position = capped (n .value); last = 0; start = length (wordOf s) + length (numberText n); units = 0; text = length (bytesOf t); len = length (ionText (series s n t)); fault = g }
-ionRead (internal m n t) g =
-    record { kind = 2; letter = 0; position = capped (m .value); last = capped (n .value); start = 1 + length (numberText m) + 1 + length (numberText n); units = 0; text = length (bytesOf t); len = length (ionText (internal m n t)); fault = g }
+ionRead (internal c m n t) g =
+    record { kind = 2; letter = heldCut (filledCut c); position = capped (m .value); last = capped (n .value); start = 1 + length (optText wordOf c) + length (numberText m) + 1 + length (numberText n); units = 0; text = length (bytesOf t); len = length (ionText (internal c m n t)); fault = g }
 ionRead (immonium a m) g =
     record { kind = 3; letter = a .val; position = 0; last = 0; start = 2; units = 0; text = length (bytesOf m); len = length (ionText (immonium a m)); fault = g }
 ionRead precursor g = record { kind = 4; letter = 0; position = 0; last = 0; start = 1; units = 0; text = 0; len = length (ionText precursor); fault = g }

@@ -9,8 +9,9 @@ use Rattle.lang.specs.Parts.{Opt, optText, wordOf}
 use Rattle.lang.specs.Mark.{marksOf}
 use Rattle.rules.specs.Numbers.{Number, numberText}
 use Rattle.rules.specs.Texts.{Text, bracedText}
-use Rattle.rules.specs.Ions.{Series, series, internal, ionText}
-use Rattle.rules.specs.Stored.{bytesOf}
+use Rattle.rules.specs.Ions.{Series, Letters, series, internal, ionText}
+use Rattle.rules.specs.Fields.{filledCut}
+use Rattle.rules.specs.Stored.{bytesOf, heldCut}
 use Rattle.rules.specs.Limits.{maxPosition, numberMark, optPart, closedPart, ionParts}
 use Rattle.numbers.proofs.SpelledNumbers.{number-begins, number-read}
 use Rattle.faults.specs.declared.Fault.{Fault}
@@ -21,6 +22,7 @@ use Rattle.read_opening.proofs.SpelledOpenings.{text-read}
 use Rattle.read_ion.specs.Kinds.{seriesOf, internalOf}
 use Rattle.read_ion.specs.Ions.{ionBy, ionOf}
 use Rattle.read_ion.proofs.OneIon.{ionRead, ended}
+use Rattle.read_ion.proofs.Cuts.{cut-read}
 use Rattle.read_ion.proofs.Words.{letters-read, series-first}
 use Rattle.read_ion.proofs.Ends.{EndsIon, text-no-digit}
 
@@ -83,28 +85,37 @@ module _ (s : Series) (n : Number) (t : Opt Text) (k : List ℕ) where
 
 -- ---- internal ions
 
-module _ (m n : Number) (t : Opt Text) (k : List ℕ) where
-  -- the text behind the second number, from that number on, and from the first letter on
+module _ (c : Letters) (m n : Number) (t : Opt Text) (k : List ℕ) where
+  -- the text behind the second number, from that number on, from the first on, and from the first letter on
   abbrev tailOn : List ℕ
   tailOn = optText bracedText t ++ k
 
   abbrev secondOn : List ℕ
   secondOn = numberText n ++ tailOn
 
+  abbrev firstOn : List ℕ
+  firstOn = numberText m ++ (58 ∷ secondOn)
+
+  abbrev letters : List ℕ
+  letters = optText wordOf c
+
   abbrev pub internalOn : List ℕ
-  internalOn = 109 ∷ (numberText m ++ (58 ∷ secondOn))
+  internalOn = 109 ∷ (letters ++ firstOn)
 
-  internal-long : length internalOn ≡ 2 + length (numberText m) + (length (numberText n) + length tailOn)
-  internal-long = omega (arith, length-append (numberText m) (58 ∷ secondOn), length-append (numberText n) tailOn)
+  internal-long : length internalOn ≡ 2 + length letters + length (numberText m) + (length (numberText n) + length tailOn)
+  internal-long = omega (arith, length-append letters firstOn, length-append (numberText m) (58 ∷ secondOn), length-append (numberText n) tailOn)
 
-  second-start : drop (1 + length (numberText m) + 1) internalOn ≡ secondOn
+  first-start : drop (1 + length letters) internalOn ≡ firstOn
+  first-start = drop-append-add (109 ∷ []) (letters ++ firstOn) (length letters) ∙ drop-append-seam letters firstOn
+
+  second-start : drop (1 + length letters + length (numberText m) + 1) internalOn ≡ secondOn
   second-start =
-      sym (drop-drop 1 (1 + length (numberText m)) internalOn)
-      ∙ ap (drop 1) (drop-append-add (109 ∷ []) (numberText m ++ (58 ∷ secondOn)) (length (numberText m)) ∙ drop-append-seam (numberText m) (58 ∷ secondOn))
+      sym (drop-drop 1 (1 + length letters + length (numberText m)) internalOn)
+      ∙ ap (drop 1) (sym (drop-drop (length (numberText m)) (1 + length letters) internalOn) ∙ ap (drop (length (numberText m))) first-start ∙ drop-append-seam (numberText m) (58 ∷ secondOn))
 
-  pub internal-start : drop (1 + length (numberText m) + 1 + length (numberText n)) internalOn ≡ tailOn
+  pub internal-start : drop (1 + length letters + length (numberText m) + 1 + length (numberText n)) internalOn ≡ tailOn
   internal-start =
-      sym (drop-drop (length (numberText n)) (1 + length (numberText m) + 1) internalOn) ∙ ap (drop (length (numberText n))) second-start ∙ drop-append-seam (numberText n) tailOn
+      sym (drop-drop (length (numberText n)) (1 + length letters + length (numberText m) + 1) internalOn) ∙ ap (drop (length (numberText n))) second-start ∙ drop-append-seam (numberText n) tailOn
 
   module _ (end : ℕ) (f : Fault) where
     -- the fault behind each number
@@ -115,17 +126,17 @@ module _ (m n : Number) (t : Opt Text) (k : List ℕ) where
     bothTold v at w at₂ = after (firstTold v at) (numberMark maxPosition w at₂)
 
     abbrev firstPlace : ℕ
-    firstPlace = end - (length internalOn - 1)
+    firstPlace = end - (length internalOn - (1 + length letters))
 
     abbrev secondPlace : ℕ
-    secondPlace = end - (length internalOn - (1 + length (numberText m) + 1))
+    secondPlace = end - (length internalOn - (1 + length letters + length (numberText m) + 1))
 
     internal-fault : length internalOn ≤ end
         → after (bothTold (capped (m .value)) firstPlace (capped (n .value)) secondPlace) (optPart (closedPart bracedText) t .marks (end - length tailOn))
-        ≡ after f (marksOf (end - length internalOn) (ionParts (internal m n t)))
+        ≡ after f (marksOf (end - length internalOn) (ionParts (internal c m n t)))
     internal-fault h =
         let l = internal-long in
-        let p = end - length internalOn + 1 in
+        let p = end - length internalOn + 1 + length letters in
         let q = p + length (numberText m) + 1 in
         let a : end - length tailOn ≡ q + length (numberText n) = omega arith in
         let b : secondPlace ≡ q = omega arith in
@@ -135,16 +146,26 @@ module _ (m n : Number) (t : Opt Text) (k : List ℕ) where
         a
         ∙ ended (bothTold (m .value) p (n .value) q) (optPart (closedPart bracedText) t .marks (q + length (numberText n)))
 
-    internal-of : EndsIon k → length internalOn ≤ end → internalOf end internalOn f ≡ ionRead (internal m n t) (after f (marksOf (end - length internalOn) (ionParts (internal m n t))))
+    internal-of : EndsIon k → length internalOn ≤ end → internalOf end internalOn f ≡ ionRead (internal c m n t) (after f (marksOf (end - length internalOn) (ionParts (internal c m n t))))
     unfolding internalOf
     internal-of e h =
         let l = internal-long in
-        let p : min (min (1 + length (numberText m)) (length internalOn) + 1) (length internalOn) ≡ 1 + length (numberText m) + 1 = omega arith in
-        let q : min (1 + length (numberText m) + 1 + length (numberText n)) (length internalOn) ≡ 1 + length (numberText m) + 1 + length (numberText n) = omega arith in
+        let u : min (1 + length letters) (length internalOn) ≡ 1 + length letters = omega arith in
+        let p : min (min (1 + length letters + length (numberText m)) (length internalOn) + 1) (length internalOn) ≡ 1 + length letters + length (numberText m) + 1 = omega arith in
+        let q : min (1 + length letters + length (numberText m) + 1 + length (numberText n)) (length internalOn) ≡ 1 + length letters + length (numberText m) + 1 + length (numberText n) = omega arith in
         let o : length tailOn ≤ end = omega arith in
-        let z : min (1 + length (numberText m) + 1 + length (numberText n) + length (optText bracedText t)) (length internalOn) ≡ length (ionText (internal m n t)) =
-        omega (arith, length-append (optText bracedText t) k, length-append (numberText m) (58 ∷ (numberText n ++ optText bracedText t)), length-append (numberText n) (optText bracedText t)) in
+        let z : min (1 + length letters + length (numberText m) + 1 + length (numberText n) + length (optText bracedText t)) (length internalOn) ≡ length (ionText (internal c m n t)) =
+        omega (
+          arith,
+          length-append (optText bracedText t) k,
+          length-append letters (numberText m ++ (58 ∷ (numberText n ++ optText bracedText t))),
+          length-append (numberText m) (58 ∷ (numberText n ++ optText bracedText t)),
+          length-append (numberText n) (optText bracedText t),
+        ) in
         rw (
+          cut-read c firstOn (number-begins (m .value) (58 ∷ secondOn)),
+          u,
+          first-start,
           number-read (m .value) (58 ∷ secondOn) refl,
           p,
           second-start,
@@ -154,9 +175,9 @@ module _ (m n : Number) (t : Opt Text) (k : List ℕ) where
           text-read t k end (bothTold (capped (m .value)) firstPlace (capped (n .value)) secondPlace) (e .no-brace) o,
         )
         (ap₂ (λ (l : ℕ) (g : Fault).
-        record { kind = 2; letter = 0; position = capped (m .value); last = capped (n .value); start = 1 + length (numberText m) + 1 + length (numberText n); units = 0; text = length (bytesOf t); len = l; fault = g })
+        record { kind = 2; letter = heldCut (filledCut c); position = capped (m .value); last = capped (n .value); start = 1 + length letters + length (numberText m) + 1 + length (numberText n); units = 0; text = length (bytesOf t); len = l; fault = g })
         z (internal-fault h))
 
-    pub internal-read : EndsIon k → length internalOn ≤ end → ionOf end internalOn f ≡ ionRead (internal m n t) (after f (marksOf (end - length internalOn) (ionParts (internal m n t))))
+    pub internal-read : EndsIon k → length internalOn ≤ end → ionOf end internalOn f ≡ ionRead (internal c m n t) (after f (marksOf (end - length internalOn) (ionParts (internal c m n t))))
     unfolding ionOf ionBy
     internal-read e h = internal-of e h

@@ -14,6 +14,7 @@ use Rattle.read_opening.specs.declared.Enclosed.{Enclosed}
 use Rattle.read_opening.specs.Enclosed.{textOf, nameOf}
 use Rattle.read_ion.specs.declared.IonRead.{IonRead}
 use Rattle.read_ion.specs.Letters.{lettersOf}
+use Rattle.read_ion.specs.Cuts.{cutOf}
 
 abbrev pub withText : ℕ → ℕ → ℕ → ℕ → ℕ → Enclosed → ℕ → IonRead
 withText kind letter position last at x all =
@@ -32,16 +33,18 @@ seriesOf end s f =
     let at = min (l .len + n .len) (length s) in
     withText 1 (l .letter) (n .value) 0 at (textOf end (drop at s) g) (length s)
 
--- `m`, number, `:`, number, optional text
+-- `m`, letters, number, `:`, number, optional text
 unfoldable pub internalOf : ℕ → List ℕ → Fault → IonRead
 internalOf end s f =
-    let a = numberOf (drop 1 s) in
-    let g = after f (numberMark maxPosition (a .value) (end - (length s - 1))) in
-    let p = min (min (1 + a .len) (length s) + 1) (length s) in
+    let c = cutOf (drop 1 s) in
+    let from = min (1 + c .len) (length s) in
+    let a = numberOf (drop from s) in
+    let g = after f (numberMark maxPosition (a .value) (end - (length s - from))) in
+    let p = min (min (from + a .len) (length s) + 1) (length s) in
     let b = numberOf (drop p s) in
     let h = after g (numberMark maxPosition (b .value) (end - (length s - p))) in
     let at = min (p + b .len) (length s) in
-    withText 2 0 (a .value) (b .value) at (textOf end (drop at s) h) (length s)
+    withText 2 (c .held) (a .value) (b .value) at (textOf end (drop at s) h) (length s)
 
 -- a name in brackets that cannot be taken for an adduct
 unfoldable pub opensModification : List ℕ → Bool

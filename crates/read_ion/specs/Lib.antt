@@ -1,3 +1,4 @@
 pub mod Letters
+pub mod Cuts
 pub mod Kinds
 pub mod Ions

@@ -1,7 +1,10 @@
 // The ion that the rest of a line begins with, of nine kinds, measured. Document 01, "Shape of a line".
 ghost use mathlib.Core.Path.{_≡_};
 ghost use lib.ListN.{getD};
+ghost use Rattle.rules.specs.Bytes.{bytes};
+ghost use Rattle.rules.specs.Texts.{startsWith};
 ghost use Rattle.read_ion.specs.Letters.{oneLetter, twoLetters, lettersOf};
+ghost use Rattle.read_ion.specs.Cuts.{placeIn, heldOf, cutOf};
 ghost use Rattle.read_ion.specs.Kinds.{withText, seriesOf, internalOf, opensModification, immoniumOf, bracedOf, referenceOf, composedOf, unknownOf, precursorOf};
 ghost use Rattle.read_ion.specs.Ions.{ionOf};
 use faults::Fault;
@@ -18,8 +21,8 @@ use slices::byte_of;
 use slices::minus_or_zero;
 use slices::rest;
 
-// An ion. Letter: series 1 to 13, or the letter of an immonium ion. Position: position, start or label; last: the end of an internal
-// ion. It has so many units, or bytes of text: the formula, or the brace or bracket before the text, begins at `start`.
+// An ion. Letter: series 1 to 13, the cleavage of an internal ion as a table holds it, or the letter of an immonium ion. Position: position,
+// start or label; last: the end of an internal ion. It has so many units, or bytes of text: the formula, or the brace or bracket before the text, begins at `start`.
 pub struct IonRead {
     pub kind: u8,
     pub letter: u8,
@@ -35,6 +38,12 @@ pub struct IonRead {
 // A series: 1 to 13 in the listed order, 0 where there is none, and how many bytes.
 pub struct SeriesRead {
     pub letter: u8,
+    pub len: usize,
+}
+
+// The letters of an internal ion: its cleavage as a table holds it, and how many bytes. Without letters it is that of yb, 0.
+pub struct CutRead {
+    pub held: u8,
     pub len: usize,
 }
 
@@ -146,18 +155,58 @@ fn series(s: &[u8], end: usize, f: Fault) -> IonRead
     with_text(1, l.letter, n.value, 0, at, x, s.len())
 }
 
-// 2: `m`, number, `:`, number, optional text.
+// Where a byte stands among the three from another on, counted from 1; 0 where it does not.
+fn place_in(b: u8, first: u8) -> u8
+    ensures { λ r. ⌜ r ≡ placeIn b first ⌝ }
+{
+    if b < first {
+        return 0;
+    }
+    if b - first < 3 {
+        return b - first + 1;
+    }
+    0
+}
+
+// The number of a cleavage as a table holds it: yb, the fifth, is 0.
+fn held_of(n: u8) -> u8
+    ensures { λ r. ⌜ r ≡ heldOf n ⌝ }
+{
+    if n == 5 {
+        return 0;
+    }
+    n
+}
+
+// The letters that a part begins with: one of x y z and one of a b c, or none.
+fn read_cut(s: &[u8]) -> CutRead
+    ensures { λ r. ⌜ r ≡ cutOf (now (s .entry)) ⌝ }
+{
+    let a = place_in(byte_of(s, 0), b'x');
+    let b = place_in(byte_of(s, 1), b'a');
+    if a == 0 {
+        return CutRead { held: 0, len: 0 };
+    }
+    CutRead {
+        held: held_of(3 * (a - 1) + b),
+        len: 2,
+    }
+}
+
+// 2: `m`, letters, number, `:`, number, optional text.
 fn internal(s: &[u8], end: usize, f: Fault) -> IonRead
     ensures { λ r. ⌜ r ≡ internalOf end (now (s .entry)) f ⌝ }
 {
-    let a = read_number(rest(s, 1));
+    let c = read_cut(rest(s, 1));
+    let from = advance(1, c.len, s.len());
+    let a = read_number(rest(s, from));
     let g = check_number(
         f,
         MAX_POSITION,
         a.value,
-        minus_or_zero(end, minus_or_zero(s.len(), 1)),
+        minus_or_zero(end, minus_or_zero(s.len(), from)),
     );
-    let colon = advance(1, a.len, s.len());
+    let colon = advance(from, a.len, s.len());
     let p = advance(colon, 1, s.len());
     let b = read_number(rest(s, p));
     let h = check_number(
@@ -168,7 +217,7 @@ fn internal(s: &[u8], end: usize, f: Fault) -> IonRead
     );
     let at = advance(p, b.len, s.len());
     let x = text_in_braces(rest(s, at), end, h);
-    with_text(2, 0, a.value, b.value, at, x, s.len())
+    with_text(2, c.held, a.value, b.value, at, x, s.len())
 }
 
 // Whether a part begins with a name in brackets that cannot be taken for an adduct: `[M+` and `[M-` can.
@@ -285,6 +334,19 @@ fn precursor(all: usize, f: Fault) -> IonRead
         len: advance(1, 0, all),
         fault: f,
     }
+}
+
+// Whether a part begins with an internal ion whose letters say what it means without them.
+pub fn spells_yb(s: &[u8]) -> bool
+    ensures { λ r. ⌜ r ≡ startsWith (bytes "myb") (now (s .entry)) ⌝ }
+{
+    if !begins_with(s, b'm') {
+        return false;
+    }
+    if !begins_with(rest(s, 1), b'y') {
+        return false;
+    }
+    begins_with(rest(s, 2), b'b')
 }
 
 // The ion that a part begins with, told by its first byte.

@@ -7,13 +7,13 @@ use lib.ListN.{length, length-append}
 use Rattle.lang.specs.Parts.{flat}
 use Rattle.lang.specs.Order.{Each, none, next}
 use Rattle.rules.specs.Numbers.{Number}
-use Rattle.rules.specs.Ions.{Ion}
+use Rattle.rules.specs.Ions.{TableIon}
 use Rattle.rules.specs.Annotations.{TableAnnotation, SpelledAnnotation}
 use Rattle.rules.specs.Lines.{Spelling}
 use Rattle.rules.specs.Fields.{filledAnnotation, Table, Says}
 use Rattle.rules.specs.Stored.{ionFields, lostUnits, lostName, addedUnits, isotopeRecords, annotationUnits, annotationTexts, stored}
-use Rattle.rules.specs.Answers.{Sound}
-use Rattle.rules.specs.Editions.{Edition, ed1, ed2, current}
+use Rattle.rules.specs.Answers.{SoundIn}
+use Rattle.rules.specs.Editions.{Edition, ed1, ed2, current, LineEdition}
 use Rattle.rules.proofs.Totals.{perm-length, perm-flat}
 use Rattle.rules.proofs.Lengths.{added-is, stored-length}
 use Rattle.rules.proofs.Sizes.{sizes-fit}
@@ -40,7 +40,7 @@ module _ {a : SpelledAnnotation} {b : TableAnnotation} (s : Says a b) where
         arith,
         units-split (filledAnnotation a),
         units-split b,
-        ap (λ (x : Ion Number). length (ionFields x .units)) (s .fields .ion),
+        ap (λ (x : TableIon). length (ionFields x .units)) (s .fields .ion),
         perm-flat (λ l. lostUnits (l .what)) (s .fields .losses),
         perm-flat (λ x. addedUnits (x .what)) (s .fields .adduct),
       )
@@ -54,7 +54,7 @@ module _ {a : SpelledAnnotation} {b : TableAnnotation} (s : Says a b) where
         arith,
         text-split (filledAnnotation a),
         text-split b,
-        ap (λ (x : Ion Number). length (ionFields x .text)) (s .fields .ion),
+        ap (λ (x : TableIon). length (ionFields x .text)) (s .fields .ion),
         perm-flat (λ l. lostName (l .what)) (s .fields .losses),
       )
 
@@ -93,16 +93,16 @@ all-same (next {b = b} {m = t} x e) = ap₂ plus (counts-same x) (all-same e) �
 -- ---- for callers
 
 -- a sound table has no more of anything than fits
-counts-fit : {e : Edition} (t : Table) → Sound e t → Fits (countsOf t)
+counts-fit : {l : LineEdition} {e : Edition} (t : Table) → SoundIn l e t → Fits (countsOf t)
 counts-fit t w =
     let l = stored-length current t in
     let m = sizes-fit current t w in
     record { annotations = omega arith; losses = omega arith; isotopes = omega arith; items = omega arith; units = omega arith; text = omega arith }
 
-pub counts-are : {s : Spelling} {t : Table} {n : Counts} → {e : Edition} → Each Says s t → Sound e t → n ≡ plus noCounts (spelledCounts s) → n ≡ countsOf t
+pub counts-are : {s : Spelling} {t : Table} {n : Counts} → {l : LineEdition} {e : Edition} → Each Says s t → SoundIn l e t → n ≡ plus noCounts (spelledCounts s) → n ≡ countsOf t
 counts-are {t = t} e w c = c ∙ ap (plus noCounts) (all-same e) ∙ plus-capped noCounts (countsOf t) ∙ fits-exact (counts-fit t w)
 
 -- the size that is told is that of the table
-pub end-is : (edition : Edition) (t : Table) {e : Edition} → Sound e t → endAt edition (countsOf t) ≡ length (stored edition t)
+pub end-is : (edition : Edition) (t : Table) {l : LineEdition} {e : Edition} → SoundIn l e t → endAt edition (countsOf t) ≡ length (stored edition t)
 end-is ed1 t w = omega (arith, stored-length ed1 t, sizes-fit ed1 t w, added-is ed1 t)
 end-is ed2 t w = omega (arith, stored-length ed2 t, sizes-fit ed2 t w, added-is ed2 t)

@@ -18,8 +18,8 @@ use Rattle.rules.specs.Limits.{maxLine, lineMarks}
 use Rattle.rules.specs.House.{firstForeign, firstBreach, firstExcess}
 use Rattle.rules.specs.Stored.{stored}
 use Rattle.rules.specs.Answers as rules
-use Rattle.rules.specs.Answers.{refuses, Delivers, no-room, done, Sound, ReadsSum, ReadsRules, ReadsForm, ReadsSpelling, Reads}
-use Rattle.rules.specs.Editions.{Edition, current}
+use Rattle.rules.specs.Answers.{refuses, Delivers, no-room, done, SoundIn, ReadsSum, ReadsRules, ReadsForm, ReadsSpelling, Reads}
+use Rattle.rules.specs.Editions.{Edition, current, LineEdition, second-lines}
 use Rattle.rules.proofs.FirstBroken.{first-wins, first-keeps, wins-number}
 use Rattle.rules.proofs.OneAnswer.{written-not-silent}
 use Rattle.rules.proofs.OneShape.{judged-shape, judged-misshapen}
@@ -49,7 +49,7 @@ use Rattle.measure_line.proofs.Firsts.{first-limit, first-form, first-breach, f
 
 -- ---- the table, over a cleared output
 
-module _ (edition : Edition) (room : ℕ) (small : room ≤ maxPlace) (line : List ℕ) (s : Spelling) (t : Table) (says : Each Says s t) (sound : Sound edition t)
+module _ (edition : Edition) (room : ℕ) (small : room ≤ maxPlace) (line : List ℕ) (s : Spelling) (t : Table) (says : Each Says s t) (sound : SoundIn second-lines edition t)
     (fills : Fills edition t (lineEvents edition line)) where
   abbrev zeros : List ℕ
   zeros = replicate room 0
@@ -182,7 +182,7 @@ module _ (edition : Edition) (room : ℕ) (small : room ≤ maxPlace) (s : Spell
   spelling-read f e (nothing a) =
       let y = line-filled edition s fits (a .limits) in
       let t = y .table in
-      let w : Sound edition t = record { spelling = s; says = y .says; limits = a .limits; form = a .form; rules = a .rules; sum = a .sum } in
+      let w : SoundIn second-lines edition t = record { spelling = s; edition = tt; says = y .says; limits = a .limits; form = a .form; rules = a .rules; sum = a .sum } in
       let c = counts-are (y .says) w (r .counts) in
       let fills = subst (Fills edition t) (sym (y .are)) (y .fills) in
       subst (ReadsSpelling edition s room) (granted edition room line u e)
@@ -225,22 +225,24 @@ module _ (edition : Edition) (s : Spelling) (fits : length (lineText s) ≤ maxP
   unfolding keepsAll
   keeps-all a = eq-eqb (firstOf (totalsOf edition (lineText s)) .number) 0 (kept-told first-found a)
 
--- ---- any line
+-- ---- any line, in an edition of lines
 
-verdict-right : (line : List ℕ) (room : ℕ) → room ≤ maxPlace → length line ≤ maxLine → (v : Verdict) → JudgedBy line v → Reads line room (anyOver current (replicate room 0) v line)
-verdict-right line room small h Fine j =
+verdict-right : (l : LineEdition) (line : List ℕ) (room : ℕ) → room ≤ maxPlace → length line ≤ maxLine → (v : Verdict) → JudgedBy l line v
+    → Reads l line room (anyOver current (replicate room 0) v line)
+verdict-right l line room small h Fine j =
     let x = judged-shape j refl in
     let s = x .0 in
-    let l : length (lineText s) ≤ maxPlace = omega (arith, ap length (x .1)) in
-    subst (λ (w : List ℕ). Reads w room (spelledOver current (replicate room 0) w)) (x .1)
-    (Reads.spelled (omega (arith, ap length (x .1))) s refl (spelled-right current room small s l))
-verdict-right line room small h Short j = Reads.misshapen h (judged-misshapen j (λ e. omega arith))
-verdict-right line room small h (Stray p) j = Reads.misshapen h (judged-misshapen j (λ e. omega arith))
+    let q : lineText s ≡ line = x .1 .1 in
+    let n : length (lineText s) ≤ maxPlace = omega (arith, ap length q) in
+    subst (λ (w : List ℕ). Reads l w room (spelledOver current (replicate room 0) w)) q
+    (Reads.spelled (omega (arith, ap length q)) s (x .1 .0) refl (spelled-right current room small s n))
+verdict-right l line room small h Short j = Reads.misshapen h (judged-misshapen j (λ e. omega arith))
+verdict-right l line room small h (Stray p) j = Reads.misshapen h (judged-misshapen j (λ e. omega arith))
 
-pub read-right : (line : List ℕ) (room : ℕ) → room ≤ maxPlace → (v : Verdict) → JudgedBy line v → Reads line room (readOf v line room)
+pub read-right : (l : LineEdition) (line : List ℕ) (room : ℕ) → room ≤ maxPlace → (v : Verdict) → JudgedBy l line v → Reads l line room (readOf v line room)
 unfolding readOf
-read-right line room small v j = by (ltb maxLine (length line)) refl
+read-right l line room small v j = by (ltb maxLine (length line)) refl
   where
-    by : (b : Bool) → ltb maxLine (length line) ≡ b → Reads line room (cond b (refuses room 1 maxLine) (anyOver current (replicate room 0) v line))
+    by : (b : Bool) → ltb maxLine (length line) ≡ b → Reads l line room (cond b (refuses room 1 maxLine) (anyOver current (replicate room 0) v line))
     by true e = Reads.long (ltb-true maxLine (length line) e)
-    by false e = verdict-right line room small (ltb-false maxLine (length line) e) v j
+    by false e = verdict-right l line room small (ltb-false maxLine (length line) e) v j

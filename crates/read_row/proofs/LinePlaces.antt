@@ -16,7 +16,7 @@ use Rattle.rules.specs.Largest.{maxAnyTable}
 use Rattle.rules.specs.House.{formed, annotationRules, share, one, firstFailing, firstForeign, firstBreach, firstExcess}
 use Rattle.rules.specs.Stored.{stored, header, stores, body}
 use Rattle.rules.specs.Answers.{Answer, Delivers, no-room, done, Sound, ReadsSum, excess, ReadsRules, breach, ReadsForm, foreign, ReadsSpelling, limit, Reads, long, misshapen, spelled}
-use Rattle.rules.specs.Editions.{current}
+use Rattle.rules.specs.Editions.{LineEdition, current}
 use Rattle.rules.proofs.OneAnswer.{written-not-silent}
 use Rattle.rules.proofs.Rises.{line-rises}
 use Rattle.rules.proofs.Sizes.{sizes-fit}
@@ -64,7 +64,7 @@ module _ (s : Spelling) (room : ℕ) where
   sum-place : Kept (lineMarks s) → firstForeign current 0 s ≡ silent → firstBreach current 0 s ≡ silent → {a : Answer} → ReadsSum current s room a → a .place ≤ length (lineText s) + maxAnyTable
   sum-place k f b (excess p z) = omega (arith, excess-within 0 0 s p z, line-length s)
   sum-place k f b (ReadsSum.kept z t y d) =
-      let w : Sound current t = record { spelling = s; says = y; limits = k; form = f; rules = b; sum = z } in
+      let w : Sound current t = record { spelling = s; edition = tt; says = y; limits = k; form = f; rules = b; sum = z } in
       omega (arith, delivered-place w d)
 
   rules-place : Kept (lineMarks s) → firstForeign current 0 s ≡ silent → {a : Answer} → ReadsRules current s room a → a .place ≤ length (lineText s) + maxAnyTable
@@ -79,11 +79,11 @@ module _ (s : Spelling) (room : ℕ) where
   spelling-place (limit m w) = omega (arith, line-rises s .within m (w .is-in) (w .broken) .below)
   spelling-place (ReadsSpelling.kept k r) = form-place k r
 
-pub reads-place : {line : List ℕ} {room : ℕ} {a : Answer} → Reads line room a → a .place ≤ length line + maxAnyTable
+pub reads-place : {l : LineEdition} {line : List ℕ} {room : ℕ} {a : Answer} → Reads l line room a → a .place ≤ length line + maxAnyTable
 reads-place (long h) = omega arith
 reads-place (misshapen h (stray k s)) = omega (arith, s .inside)
 reads-place (misshapen h (short b n)) = omega arith
-reads-place {room = room} (spelled h s e r) = omega (arith, spelling-place s room r, ap length e)
+reads-place {room = room} (spelled h s w e r) = omega (arith, spelling-place s room r, ap length e)
 
 -- ---- what was read is in the output, and is not nothing
 
@@ -115,8 +115,8 @@ spelling-fills : (s : Spelling) {room : ℕ} {a : Answer} → ReadsSpelling curr
 spelling-fills s (limit m w) e = absurd (omega (arith, line-rises s .within m (w .is-in) (w .broken) .least))
 spelling-fills s (ReadsSpelling.kept k r) e = form-fills r e
 
-pub reads-fill : {line : List ℕ} {room : ℕ} {a : Answer} → Reads line room a → a .number ≡ 0 → Filled room a
+pub reads-fill : {l : LineEdition} {line : List ℕ} {room : ℕ} {a : Answer} → Reads l line room a → a .number ≡ 0 → Filled room a
 reads-fill (long h) e = absurd (omega arith)
 reads-fill (misshapen h (stray k s)) e = absurd (omega arith)
 reads-fill (misshapen h (short b n)) e = absurd (omega arith)
-reads-fill (spelled h s q r) e = spelling-fills s r e
+reads-fill (spelled h s w q r) e = spelling-fills s r e

@@ -1,5 +1,6 @@
 // Each line of standard input, read into an output that is as long as any line needs.
 use run_program::Input;
+use run_program::asked_lines;
 use run_program::was_asked;
 
 fn main() {
@@ -11,10 +12,12 @@ Standard input has one line of annotations a line. Lines end at line feeds, and 
 
 Standard output has one answer a line: the number of refusal, the place, how many bytes the table has, and the
 table in hexadecimal digits, `-` where there is none.
+
+With --second, lines are those of the second edition, in which an internal ion may have letters: mxa3:6.
 ",
         true,
     ) {
         return;
     }
-    run_reads::answer_lines(b"reads", Input::Lines, false);
+    run_reads::answer_lines(b"reads", asked_lines(), Input::Lines, false);
 }

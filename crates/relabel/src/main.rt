@@ -1,5 +1,6 @@
 // The relabel program of document 01.
 use run_program::Input;
+use run_program::asked_lines;
 use run_program::was_asked;
 
 fn main() {
@@ -12,10 +13,12 @@ and the last may lack its own.
 
 Standard output has one answer a line: the preferred spelling, as y5-H2O-NH3/0.20ppm; or `!`, the number of
 refusal, a space and the place, as !3 4. The number is never 0, 8 or 9.
+
+With --second, lines are those of the second edition, in which an internal ion may have letters: mxa3:6.
 ",
         true,
     ) {
         return;
     }
-    run_relabel::relabel_lines(b"relabel", Input::Lines);
+    run_relabel::relabel_lines(b"relabel", asked_lines(), Input::Lines);
 }

@@ -14,16 +14,17 @@ use Rattle.lang.proofs.Tests.{is-t, not-t}
 use Rattle.rules.specs.Bytes.{bytes}
 use Rattle.rules.specs.Numbers.{digits, numberText}
 use Rattle.rules.specs.Formulas.{Written, writtenText, FormulaUnit, plain, labelled, unitText, unitMap, Formula, formulaText, formulaMap}
-use Rattle.rules.specs.Ions.{Ion, series, internal, immonium, precursor, reference, named, composed, smiles, unknown, ionMap}
+use Rattle.rules.specs.Ions.{series, internal, immonium, precursor, reference, named, composed, smiles, unknown, ionMap, SpelledIon}
 use Rattle.rules.specs.Losses.{signText, Lost, lost-formula, lost-name, lostText, lostMap, Loss, lossText, lossMap}
 use Rattle.rules.specs.Isotopes.{Shift, shiftText, shiftMap, Specific, specificText, specificMap, Isotopes, no-isotope, plain-isotope, average-isotope, specific-isotopes, isotopesText, isotopesMap}
 use Rattle.rules.specs.Adducts.{Added, added-formula, electron, addedText, addedMap, Item, itemText, itemMap, adductText}
 use Rattle.rules.specs.Annotations.{SpelledAnnotation, annotationText}
-use Rattle.rules.specs.Preferred.{shortened, lossLe, itemLe}
-use Rattle.rules.specs.Fields.{filled}
+use Rattle.rules.specs.Preferred.{shortened, lossLe, itemLe, shortenedCut}
+use Rattle.rules.specs.Fields.{filled, filledCut}
 use Rattle.rules.specs.Stored.{ionFields}
 use Rattle.rules.proofs.Digits.{digits-small}
 use Rattle.rules.proofs.Confidences.{zeroLeftOut, in-full-kept}
+pub use Rattle.read_ion.proofs.SpelledYb.{ybWritten}
 use Rattle.read_annotation.proofs.SaysWhat.{tableOf, says-so}
 use Rattle.read_annotation.proofs.Respelling.{firstPreferred, Respelling}
 use Rattle.respell_annotation.specs.Kept.{hasOne}
@@ -39,11 +40,11 @@ one-append (b ∷ x) y = ap (λ (t : Bool). eqb b 49 || t) (one-append x y) ∙ 
     either-of true b c = refl
     either-of false b c = refl
 
-none-0 : (a b : Bool) → (a || b) ≡ false → a ≡ false
+pub none-0 : (a b : Bool) → (a || b) ≡ false → a ≡ false
 none-0 true b e = e
 none-0 false b e = refl
 
-none-1 : (a b : Bool) → (a || b) ≡ false → b ≡ false
+pub none-1 : (a b : Bool) → (a || b) ≡ false → b ≡ false
 none-1 true b e = absurd (not-t e tt)
 none-1 false b e = e
 
@@ -137,16 +138,17 @@ adduct-kept (x ∷ xs) h =
     all-kept itemText (itemMap filled) (itemMap shortened) item-kept (x ∷ xs) (front w (bytes "]") (back (bytes "[M") (w ++ bytes "]") h))
 
 -- an ion that is no formula has no free count
-pub ion-filled : (x : Ion Written) → length (ionFields (ionMap filled x) .units) ≡ 0 → x ≡ ionMap shortened (ionMap filled x)
-ion-filled (series s n t) e = refl
-ion-filled (internal m n t) e = refl
-ion-filled (immonium a m) e = refl
-ion-filled precursor e = refl
-ion-filled (reference n) e = refl
-ion-filled (named t) e = refl
-ion-filled (composed f) e = absurd (omega arith)
-ion-filled (smiles t) e = refl
-ion-filled (unknown n) e = refl
+pub ion-filled : (x : SpelledIon) → length (ionFields (ionMap filled filledCut x) .units) ≡ 0 → ybWritten x ≡ false → x ≡ ionMap shortened shortenedCut (ionMap filled filledCut x)
+ion-filled (series s n t) e y = refl
+ion-filled (internal silent m n t) e y = refl
+ion-filled (internal (written c) m n t) e y = rw (shortenedCut, y) refl
+ion-filled (immonium a m) e y = refl
+ion-filled precursor e y = refl
+ion-filled (reference n) e y = refl
+ion-filled (named t) e y = refl
+ion-filled (composed f) e y = absurd (omega arith)
+ion-filled (smiles t) e y = refl
+ion-filled (unknown n) e y = refl
 
 -- ---- one at most is in order
 
@@ -157,10 +159,10 @@ one-rises before (x ∷ y ∷ l) h = absurd (omega arith)
 
 -- ---- the annotation
 
-pub kept-respelled : (a : SpelledAnnotation) → length (ionFields (ionMap filled (a .ion)) .units) ≡ 0 → length (a .losses) ≤ 1 → length (a .adduct) ≤ 1
-    → zeroLeftOut (a .confidence) ≡ false → hasOne (flat lossText (a .losses) ++ (isotopesText (a .isotopes) ++ adductText (a .adduct))) ≡ false
+pub kept-respelled : (a : SpelledAnnotation) → length (ionFields (ionMap filled filledCut (a .ion)) .units) ≡ 0 → length (a .losses) ≤ 1 → length (a .adduct) ≤ 1
+    → zeroLeftOut (a .confidence) ≡ false → ybWritten (a .ion) ≡ false → hasOne (flat lossText (a .losses) ++ (isotopesText (a .isotopes) ++ adductText (a .adduct))) ≡ false
     → Respelling firstPreferred a (annotationText a)
-kept-respelled a u l d z h =
+kept-respelled a u l d z w h =
     let ls = flat lossText (a .losses) in
     let y = isotopesText (a .isotopes) in
     let x = adductText (a .adduct) in
@@ -168,7 +170,7 @@ kept-respelled a u l d z h =
     let adduct = map (itemMap filled) (a .adduct) in
     let n : length losses ≤ 1 = omega (arith, length-map (a .losses) (lossMap filled)) in
     let m : length adduct ≤ 1 = omega (arith, length-map (a .adduct) (itemMap filled)) in
-    let ion-is = ion-filled (a .ion) u in
+    let ion-is = ion-filled (a .ion) u w in
     let losses-are = all-kept lossText (lossMap filled) (lossMap shortened) loss-kept (a .losses) (front ls (y ++ x) h) in
     let isotopes-are = isotopes-kept (a .isotopes) (front y x (back ls (y ++ x) h)) in
     let confidence-is = in-full-kept (a .confidence) z in

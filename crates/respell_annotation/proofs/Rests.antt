@@ -16,8 +16,8 @@ use Rattle.rules.specs.Adducts.{adductText}
 use Rattle.rules.specs.Decimals.{pointText}
 use Rattle.rules.specs.Confidences.{Confidence, in-full, from-point, confidenceText, meantDecimal}
 use Rattle.rules.specs.Annotations.{SpelledAnnotation, flagText, analyteText, chargeText, deviationText}
-use Rattle.rules.specs.Fields.{filled}
-use Rattle.rules.specs.Preferred.{shortened, lossLe}
+use Rattle.rules.specs.Fields.{filled, filledCut}
+use Rattle.rules.specs.Preferred.{shortened, lossLe, shortenedCut}
 use Rattle.rules.specs.Limits.{part, rowPart, ionParts, lossMarks, isotopesMarks, adductMarks, annotationParts, annotationMarks}
 use Rattle.rules.proofs.Confidences.{zero-before}
 use Rattle.rules.proofs.Keeps.{kept-tail, kept-part}
@@ -97,7 +97,7 @@ module _ (a : SpelledAnnotation) (k : List ℕ) where
         ∙ tail-spelled (optText chargeText (a .charge)) (optText deviationText (a .deviation)) (a .confidence) _
 
     pub ion-is : (i at : ℕ) → Kept (annotationMarks i a at)
-        → ionSpelled (drop (read .front .at) (first a k)) (read .front .ion) ≡ ionText (ionMap shortened (ionMap filled (a .ion)))
+        → ionSpelled (drop (read .front .at) (first a k)) (read .front .ion) ≡ ionText (ionMap shortened shortenedCut (ionMap filled filledCut (a .ion)))
     ion-is i at kept =
         let p = kept-part at (annotationParts a) (kept-tail kept) (part (ionText (a .ion)) (λ at. marksOf at (ionParts (a .ion)))) (later (later here)) in
         let g = fault1 a k end (fault0 a k nth end f) in

@@ -1,6 +1,6 @@
 -- The steps of telling whether an annotation stays as it is, and of spelling it anew. Assumes nothing.
 use Prim.Native.Nat.{ℕ, _+_, _-_, _≤_, _<_}
-use mathlib.Core.Path.{_≡_, sym, ap, _∙_}
+use mathlib.Core.Path.{_≡_, sym, ap, ap₂, _∙_}
 use mathlib.Core.Bool.{Bool, true, false, not, _||_}
 use mathlib.Core.List.{List, [], _∷_, _++_}
 use lib.ListN.{length, take, drop, getD, drop-of-length-le}
@@ -20,7 +20,7 @@ use Rattle.sort_changes.specs.Gathered.{gathered}
 use Rattle.sort_changes.specs.Events.{noKeys, behindChanges}
 use Rattle.sort_changes.specs.Spelled.{changesSpelled, SpellsChanges}
 use Rattle.read_annotation.specs.declared.Parts.{Parts}
-use Rattle.read_annotation.specs.Measured.{behindIon, annotationSize}
+use Rattle.read_annotation.specs.Measured.{isFree, behindIon, annotationSize}
 use Rattle.respell_annotation.specs.Kept.{hasOne, isKept}
 use Rattle.respell_annotation.specs.Annotations.{ionSpelled, adductSpelled, tailSpelled, partsSpelled, annotationSpelled, SpellsAnnotation}
 
@@ -41,41 +41,46 @@ module _ (s : List ℕ) (i : ℕ) (w : hasOne s ≡ hasOne (drop i s)) where
 
 -- ---- what is kept
 
-module _ (x : IonRead) (n : Counts) (bare : Bool) (s : List ℕ) where
-  pub with-formula : (x .units ≡ 0 → ⊥) → false ≡ isKept x n bare s
+module _ (x : IonRead) (n : Counts) (free : Bool) (s : List ℕ) where
+  pub with-formula : (x .units ≡ 0 → ⊥) → false ≡ isKept x n free s
   unfolding isKept
   with-formula u = rw (ne-eqb (x .units) 0 u)
 
   module _ (u : x .units ≡ 0) where
-    pub with-losses : 1 < n .losses → false ≡ isKept x n bare s
+    pub with-losses : 1 < n .losses → false ≡ isKept x n free s
     unfolding isKept
     with-losses l = rw (eq-eqb (x .units) 0 u, lt-leb (n .losses) 1 l)
 
     module _ (l : n .losses ≤ 1) where
-      pub with-items : 1 < n .items → false ≡ isKept x n bare s
+      pub with-items : 1 < n .items → false ≡ isKept x n free s
       unfolding isKept
       with-items d = rw (eq-eqb (x .units) 0 u, le-leb (n .losses) 1 l, lt-leb (n .items) 1 d)
 
-      pub with-point : n .items ≤ 1 → bare ≡ true → false ≡ isKept x n bare s
+      pub with-free : n .items ≤ 1 → free ≡ true → false ≡ isKept x n free s
       unfolding isKept
-      with-point d b = rw (eq-eqb (x .units) 0 u, le-leb (n .losses) 1 l, le-leb (n .items) 1 d, b)
+      with-free d b = rw (eq-eqb (x .units) 0 u, le-leb (n .losses) 1 l, le-leb (n .items) 1 d, b)
 
-      pub by-bytes : {t : Bool} → n .items ≤ 1 → bare ≡ false → t ≡ hasOne s → not t ≡ isKept x n bare s
+      pub by-bytes : {t : Bool} → n .items ≤ 1 → free ≡ false → t ≡ hasOne s → not t ≡ isKept x n free s
       unfolding isKept
       by-bytes d b e = rw (eq-eqb (x .units) 0 u, le-leb (n .losses) 1 l, le-leb (n .items) 1 d, b) (ap not e)
 
 -- ---- the ion
 
 module _ (s : List ℕ) (x : IonRead) {d : List ℕ} {to : ℕ} where
-  pub ion-alone : {t e : List ℕ} {r : ℕ} → x .units ≡ 0 → t ≡ take (x .len) s → Put d to t e r → Put d to (ionSpelled s x) e r
+  pub ion-without : {t w d1 e : List ℕ} {a r : ℕ} → startsWith (bytes "myb") s ≡ true → Put d to (109 ∷ []) d1 a → t ≡ take (x .len) s → w ≡ drop 3 t
+      → Put d1 a w e r → Put d to (ionSpelled s x) e r
   unfolding ionSpelled
-  ion-alone u q p = rw (eq-eqb (x .units) 0 u) (put-as p q)
+  ion-without y m q v p = rw y (put-as (put-then m p) (ap (λ (l : List ℕ). 109 ∷ l) (v ∙ ap (drop 3) q)))
 
-  pub ion-formula : {t w d1 d2 e : List ℕ} {a b r : ℕ} → (x .units ≡ 0 → ⊥) → t ≡ take (x .start) s → Put d to t d1 a → w ≡ drop (x .start) s
+  pub ion-alone : {t e : List ℕ} {r : ℕ} → startsWith (bytes "myb") s ≡ false → x .units ≡ 0 → t ≡ take (x .len) s → Put d to t e r → Put d to (ionSpelled s x) e r
+  unfolding ionSpelled
+  ion-alone y u q p = rw (y, eq-eqb (x .units) 0 u) (put-as p q)
+
+  pub ion-formula : {t w d1 d2 e : List ℕ} {a b r : ℕ} → startsWith (bytes "myb") s ≡ false → (x .units ≡ 0 → ⊥) → t ≡ take (x .start) s → Put d to t d1 a → w ≡ drop (x .start) s
       → Put d1 a (preferredUnits (x .units) w) d2 b → Put d2 b (125 ∷ []) e r → Put d to (ionSpelled s x) e r
   unfolding ionSpelled
-  ion-formula u q p v units end =
-      rw (ne-eqb (x .units) 0 u) (put-as (put-then p (put-then units end)) (λ i. q i ++ (preferredUnits (x .units) (v i) ++ (125 ∷ []))))
+  ion-formula y u q p v units end =
+      rw (y, ne-eqb (x .units) 0 u) (put-as (put-then p (put-then units end)) (λ i. q i ++ (preferredUnits (x .units) (v i) ++ (125 ∷ []))))
 
 -- ---- the adduct
 
@@ -121,14 +126,15 @@ module _ (s : List ℕ) (p : Parts) where
       put-as (put-then prefix (put-then ion (put-then (losses .put) (put-then (isotopes .put) (put-then adduct tail)))))
       (λ j. q0 j ++ (ionSpelled (qa j) (p .front .ion) ++ (changesSpelled (q1 j) ++ (spelledIsotopes (q2 j) .known ++ (adductSpelled (q3 j) ++ tailSpelled (qv j) (p .tail .confidence))))))
 
-  module _ {t1 u v w : List ℕ} {b : Bool} {len : ℕ} (q1 : t1 ≡ drop (p .front .len) s) (qu : u ≡ drop (p .middle .len) t1) (qv : v ≡ drop (p .tail .len) u)
-      (ql : len ≡ length s - length v) (qw : w ≡ take (p .middle .len) t1) (qb : b ≡ isKept (p .front .ion) (p .middle .counts) (p .tail .confidence .bare) w) where
+  module _ {t1 u v x w : List ℕ} {free b : Bool} {len : ℕ} (q1 : t1 ≡ drop (p .front .len) s) (qu : u ≡ drop (p .middle .len) t1) (qv : v ≡ drop (p .tail .len) u)
+      (ql : len ≡ length s - length v) (qx : x ≡ drop (p .front .at) s) (qf : free ≡ isFree (p .tail .confidence .bare) x)
+      (qw : w ≡ take (p .middle .len) t1) (qb : b ≡ isKept (p .front .ion) (p .middle .counts) free w) where
     size-is : len ≡ annotationSize s p
     unfolding annotationSize
     size-is = ql ∙ ap (λ (r : List ℕ). length s - length r) (qv ∙ ap (drop (p .tail .len)) (qu ∙ ap (drop (p .middle .len)) q1))
 
-    kept-is : isKept (p .front .ion) (p .middle .counts) (p .tail .confidence .bare) (take (p .middle .len) (behindIon s p)) ≡ b
-    kept-is = sym (qb ∙ ap (isKept (p .front .ion) (p .middle .counts) (p .tail .confidence .bare)) (qw ∙ ap (take (p .middle .len)) q1))
+    kept-is : isKept (p .front .ion) (p .middle .counts) (isFree (p .tail .confidence .bare) (drop (p .front .at) s)) (take (p .middle .len) (behindIon s p)) ≡ b
+    kept-is = sym (qb ∙ ap₂ (isKept (p .front .ion) (p .middle .counts)) (qf ∙ ap (isFree (p .tail .confidence .bare)) qx) (qw ∙ ap (take (p .middle .len)) q1))
 
     pub put-kept : {d t e : List ℕ} {to r : ℕ} → b ≡ true → t ≡ take len s → Put d to t e r → SpellsAnnotation s p d to e (record { to = r; len = len })
     unfolding annotationSpelled

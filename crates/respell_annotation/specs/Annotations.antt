@@ -16,13 +16,14 @@ use Rattle.read_tail.specs.declared.DecimalPart.{DecimalPart}
 use Rattle.sort_changes.specs.Events.{behindChanges}
 use Rattle.sort_changes.specs.Spelled.{changesSpelled}
 use Rattle.read_annotation.specs.declared.Parts.{Parts}
-use Rattle.read_annotation.specs.Measured.{behindIon, annotationSize}
+use Rattle.read_annotation.specs.Measured.{isFree, behindIon, annotationSize}
 use Rattle.respell_annotation.specs.Kept.{isKept}
 
--- only a formula, between `f{` and `}`, may be spelled in two ways
+-- letters that say yb are left out; a formula, between `f{` and `}`, may be spelled in two ways
 unfoldable pub ionSpelled : List ℕ → IonRead → List ℕ
 ionSpelled s x =
-    cond (eqb (x .units) 0) (take (x .len) s) (take (x .start) s ++ (preferredUnits (x .units) (drop (x .start) s) ++ bytes "}"))
+    cond (startsWith (bytes "myb") s) (bytes "m" ++ drop 3 (take (x .len) s))
+    (cond (eqb (x .units) 0) (take (x .len) s) (take (x .start) s ++ (preferredUnits (x .units) (drop (x .start) s) ++ bytes "}")))
 
 unfoldable pub adductSpelled : List ℕ → List ℕ
 adductSpelled s = cond (startsWith (bytes "[M") s) (take 2 s ++ (changesSpelled (drop 2 s) ++ bytes "]")) []
@@ -49,7 +50,7 @@ partsSpelled s p = spelledWith s (behindIon s p) (behindChanges (behindIon s p))
 -- as it stands, or part by part
 unfoldable pub annotationSpelled : List ℕ → Parts → List ℕ
 annotationSpelled s p =
-    cond (isKept (p .front .ion) (p .middle .counts) (p .tail .confidence .bare) (take (p .middle .len) (behindIon s p)))
+    cond (isKept (p .front .ion) (p .middle .counts) (isFree (p .tail .confidence .bare) (drop (p .front .at) s)) (take (p .middle .len) (behindIon s p)))
     (take (annotationSize s p) s) (partsSpelled s p)
 
 pub record SpellsAnnotation (s : List ℕ) (p : Parts) (d : List ℕ) (to : ℕ) (e : List ℕ) (r : Respelled) : Type 0 where

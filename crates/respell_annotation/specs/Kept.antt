@@ -11,6 +11,6 @@ unfoldable pub hasOne : List ℕ → Bool
 hasOne [] = false
 hasOne (b ∷ s) = eqb b 49 || hasOne s
 
--- no formula, one loss and one adduct item at most, no confidence without its 0, and no `1` in the bytes s of losses, isotopes and adduct
+-- no formula, one loss and one adduct item at most, no other free spelling, and no `1` in the bytes s of losses, isotopes and adduct
 unfoldable pub isKept : IonRead → Counts → Bool → List ℕ → Bool
-isKept x n bare s = eqb (x .units) 0 && (leb (n .losses) 1 && (leb (n .items) 1 && (not bare && not (hasOne s))))
+isKept x n free s = eqb (x .units) 0 && (leb (n .losses) 1 && (leb (n .items) 1 && (not free && not (hasOne s))))

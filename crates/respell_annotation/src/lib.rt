@@ -1,5 +1,5 @@
 // An annotation in preferred spelling, from the bytes of a line and what was read of them: losses and adduct items are put in order, a 1
-// that may be left out is, a confidence gets the 0 before its point, and all else stays as it is. Document 01, "One table, several spellings".
+// and a yb that may be left out are, a confidence gets the 0 before its point, and all else stays as it is. Document 01, "One table, several spellings".
 ghost use mathlib.Core.Path.{_≡_};
 ghost use Rattle.put_bytes.specs.Puts.{Put};
 ghost use Rattle.respell_annotation.specs.Kept.{hasOne, isKept};
@@ -11,7 +11,9 @@ use put_bytes::put8;
 use put_formula::put_preferred;
 use read_annotation::Parts;
 use read_annotation::begins_adduct;
+use read_annotation::is_free;
 use read_ion::IonRead;
+use read_ion::spells_yb;
 use read_isotopes::spell_isotopes;
 use read_tail::DecimalPart;
 use slices::first_of;
@@ -36,9 +38,9 @@ fn has_one(s: &[u8]) -> bool
 }
 
 // Whether an annotation is spelled as it is preferred, as can be told at a glance: it has no formula, one loss and one adduct item at most,
-// its confidence has the 0 before its point, and no `1` stands between ion and charge. Most annotations are such.
-fn is_kept(x: IonRead, n: Counts, bare: bool, s: &[u8]) -> bool
-    ensures { λ r. ⌜ r ≡ isKept x n bare (now (s .entry)) ⌝ }
+// no other free spelling, and no `1` stands between ion and charge. Most annotations are such.
+fn is_kept(x: IonRead, n: Counts, free: bool, s: &[u8]) -> bool
+    ensures { λ r. ⌜ r ≡ isKept x n free (now (s .entry)) ⌝ }
 {
     if x.units != 0 {
         return false;
@@ -49,7 +51,7 @@ fn is_kept(x: IonRead, n: Counts, bare: bool, s: &[u8]) -> bool
     if 1 < n.items {
         return false;
     }
-    if bare {
+    if free {
         return false;
     }
     !has_one(s)
@@ -57,10 +59,14 @@ fn is_kept(x: IonRead, n: Counts, bare: bool, s: &[u8]) -> bool
 
 // ---- what is spelled anew
 
-// The ion that a part begins with: only a formula may be spelled in two ways.
+// The ion that a part begins with: letters that say yb are left out, and a formula may be spelled in two ways.
 fn spell_ion(out: &mut [u8], to: usize, s: &[u8], x: IonRead) -> usize
     ensures { λ r. ⌜ Put (now (out .entry)) to (ionSpelled (now (s .entry)) x) (now (out .exit)) r ⌝ }
 {
+    if spells_yb(s) {
+        let m = put8(out, to, b'm');
+        return put_run(out, m, rest(first_of(s, x.len), 3));
+    }
     if x.units == 0 {
         return put_run(out, to, first_of(s, x.len));
     }
@@ -124,7 +130,8 @@ pub fn spell_annotation(out: &mut [u8], to: usize, s: &[u8], p: Parts) -> Respel
     let c = b.confidence;
     let s1 = rest(s, f.len);
     let len = minus_or_zero(s.len(), rest(rest(s1, m.len), b.len).len());
-    if is_kept(x, n, c.bare, first_of(s1, m.len)) {
+    let free = is_free(c.bare, rest(s, f.at));
+    if is_kept(x, n, free, first_of(s1, m.len)) {
         let end = put_run(out, to, first_of(s, len));
         return Respelled { to: end, len };
     }

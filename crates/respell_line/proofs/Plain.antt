@@ -1,4 +1,4 @@
--- A line without losses, isotopes, adduct items and units, in which no confidence lacks its 0, is the preferred one of what it spells.
+-- A line without losses, isotopes, adduct items and units, in which no confidence lacks its 0 and no letters say yb, is the preferred one of what it spells.
 -- Assumes nothing.
 use Prim.Native.Nat.{ℕ, _≤_}
 use mathlib.Core.Path.{_≡_, refl, sym, ap, ap₂, _∙_, subst}
@@ -14,15 +14,15 @@ use Rattle.lang.proofs.Tests.{is-t, t-is, not-t}
 use Rattle.lang.proofs.Deriv.{and-0, and-1}
 use Rattle.rules.specs.Numbers.{Number}
 use Rattle.rules.specs.Formulas.{Written}
-use Rattle.rules.specs.Ions.{Ion, ionMap}
+use Rattle.rules.specs.Ions.{ionMap, SpelledIon, TableIon}
 use Rattle.rules.specs.Losses.{lossMap}
 use Rattle.rules.specs.Isotopes.{Isotopes, no-isotope, plain-isotope, average-isotope, specific-isotopes, isotopesMap}
 use Rattle.rules.specs.Adducts.{itemMap}
 use Rattle.rules.specs.Confidences.{in-full}
 use Rattle.rules.specs.Annotations.{TableAnnotation, SpelledAnnotation}
 use Rattle.rules.specs.Lines.{Spelling, lineText}
-use Rattle.rules.specs.Fields.{filledAnnotation, Table, filled, Says}
-use Rattle.rules.specs.Preferred.{shortenedAnnotation, shortened, preferredSpelling, preferred}
+use Rattle.rules.specs.Fields.{filledAnnotation, Table, filled, Says, filledCut}
+use Rattle.rules.specs.Preferred.{shortenedAnnotation, shortened, preferredSpelling, preferred, shortenedCut}
 use Rattle.rules.specs.Stored.{ionFields, lostUnits, addedUnits, isotopeRecords}
 use Rattle.rules.proofs.Confidences.{zeroLeftOut, in-full-kept}
 use Rattle.rules.specs.Editions.{current}
@@ -30,7 +30,8 @@ use Rattle.rules.proofs.Totals.{perm-length}
 use Rattle.put_bytes.specs.Puts.{maxPlace}
 use Rattle.counts.specs.declared.Counts.{Counts}
 use Rattle.counts.specs.Sums.{sum, noCounts, plus}
-use Rattle.respell_annotation.proofs.Kept.{ion-filled}
+use Rattle.read_annotation.proofs.SpelledAnnotation.{freelySpelled}
+use Rattle.respell_annotation.proofs.Kept.{ybWritten, ion-filled}
 use Rattle.measure_line.specs.Totals.{totalsOf}
 use Rattle.measure_line.proofs.Through.{countsIn, spelledCounts, anyFree, totals-read}
 use Rattle.respell_line.specs.Plain.{isPlain}
@@ -43,8 +44,9 @@ none-said f g [] [] p e = refl
 none-said f g [] (y ∷ m) p e = let q = perm-length p in absurd (omega arith)
 none-said f g (x ∷ l) m p e = absurd (omega arith)
 
-ion-said : (x : Ion Written) (y : Ion Number) → ionMap filled x ≡ y → length (ionFields (ionMap filled x) .units) ≡ 0 → x ≡ ionMap shortened y
-ion-said x y q e = ion-filled x e ∙ ap (ionMap shortened) q
+ion-said : (x : SpelledIon) (y : TableIon) → ionMap filled filledCut x ≡ y → length (ionFields (ionMap filled filledCut x) .units) ≡ 0 → ybWritten x ≡ false
+    → x ≡ ionMap shortened shortenedCut y
+ion-said x y q e free = ion-filled x e free ∙ ap (ionMap shortened shortenedCut) q
 
 isotopes-filled : (x : Isotopes Written) → length (isotopeRecords (isotopesMap filled x)) ≡ 0 → x ≡ isotopesMap shortened (isotopesMap filled x)
 isotopes-filled no-isotope e = refl
@@ -75,20 +77,26 @@ plain-parts n m p =
       record { losses = losses .1; isotopes = isotopes .1; items = items .1; units = units .1 },
     )
 
-ion-plain : (a : SpelledAnnotation) → countsIn a .units ≡ 0 → length (ionFields (ionMap filled (a .ion)) .units) ≡ 0
+ion-plain : (a : SpelledAnnotation) → countsIn a .units ≡ 0 → length (ionFields (ionMap filled filledCut (a .ion)) .units) ≡ 0
 ion-plain a e =
     let b = filledAnnotation a in
     let others = flat (λ l. lostUnits (l .what)) (b .losses) ++ flat (λ x. addedUnits (x .what)) (b .adduct) in
     omega (arith, e, length-append (ionFields (b .ion) .units) others)
 
-first-said : (a : SpelledAnnotation) (b : TableAnnotation) → Says a b → Plain (countsIn a) → zeroLeftOut (a .confidence) ≡ false → a ≡ shortenedAnnotation b
-first-said a b s p z =
+-- none of two
+none-free : (x y : Bool) → (x || y) ≡ false → (x ≡ false) × (y ≡ false)
+none-free true y e = absurd (not-t {x = true} e tt)
+none-free false y e = (refl, e)
+
+first-said : (a : SpelledAnnotation) (b : TableAnnotation) → Says a b → Plain (countsIn a) → freelySpelled a ≡ false → a ≡ shortenedAnnotation b
+first-said a b s p free =
     let e = s .fields in
-    let ion = ion-said (a .ion) (b .ion) (e .ion) (ion-plain a (p .units)) in
+    let z = none-free (zeroLeftOut (a .confidence)) (ybWritten (a .ion)) free in
+    let ion = ion-said (a .ion) (b .ion) (e .ion) (ion-plain a (p .units)) (z .1) in
     let losses = none-said (lossMap filled) (lossMap shortened) (a .losses) (b .losses) (e .losses) (p .losses) in
     let isotopes = isotopes-filled (a .isotopes) (p .isotopes) ∙ ap (isotopesMap shortened) (e .isotopes) in
     let adduct = none-said (itemMap filled) (itemMap shortened) (a .adduct) (b .adduct) (e .adduct) (p .items) in
-    let confidence = in-full-kept (a .confidence) z ∙ ap (optMap in-full) (e .confidence) in
+    let confidence = in-full-kept (a .confidence) (z .0) ∙ ap (optMap in-full) (e .confidence) in
     λ i. record {
       marked = e .marked i;
       analyte = e .analyte i;
@@ -101,17 +109,12 @@ first-said a b s p z =
       confidence = confidence i;
     }
 
--- none of two
-none-free : (x y : Bool) → (x || y) ≡ false → (x ≡ false) × (y ≡ false)
-none-free true y e = absurd (not-t {x = true} e tt)
-none-free false y e = (refl, e)
-
 -- a plain spelling is the preferred one
 plain-one : {s : Spelling} {t : Table} → Each Says s t → Plain (spelledCounts s) → anyFree s ≡ false → s ≡ preferredSpelling t
 plain-one none p f = refl
 plain-one (next {a = a} {b = b} {l = more} x e) p f =
     let q = plain-parts (countsIn a) (spelledCounts more) p in
-    let z = none-free (zeroLeftOut (a .confidence)) (anyFree more) f in
+    let z = none-free (freelySpelled a) (anyFree more) f in
     ap₂ _∷_ (first-said a b x (q .0) (z .0)) (plain-one e (q .1) (z .1))
 
 -- ---- by what was counted

@@ -1,4 +1,5 @@
 // Each line of standard input is a stored row in hexadecimal digits, written into an output that is as long as a row may be.
+use run_program::asked_lines;
 use run_program::was_asked;
 use run_writes::Form;
 use run_writes::Task;
@@ -13,10 +14,19 @@ Standard input has one stored row a line, in hexadecimal digits. Lines end at li
 
 Standard output has one answer a line: the number of refusal, the place, how many bytes the row has, and the
 row in hexadecimal digits, `-` where there is none.
+
+With --second, lines of annotations are those of the second edition, in which an internal ion may have letters:
+mxa3:6.
 ",
         true,
     ) {
         return;
     }
-    answer_tables(b"row_writes", Task::WriteRow, Form::Fields, false);
+    answer_tables(
+        b"row_writes",
+        asked_lines(),
+        Task::WriteRow,
+        Form::Fields,
+        false,
+    );
 }

@@ -4,6 +4,7 @@ use mathlib.Core.Path.{_≡_, refl, sym, ap, ap₂, _∙_, subst}
 use mathlib.Core.Bool.{false}
 use mathlib.Core.List.{List, [], _∷_, _++_, append-nil, tail-eq-of-cons-eq, nil≢cons, cons≢nil}
 use native.Mathlib.Omega.{arith}
+use lib.Dec.{T}
 use lib.ListN.{length}
 use Rattle.lang.specs.Digits.{valueFrom}
 use Rattle.lang.specs.Parts.{Opt, silent, written, optText}
@@ -12,7 +13,7 @@ use Rattle.rules.specs.Bytes.{digit}
 use Rattle.rules.specs.Numbers.{digits}
 use Rattle.rules.specs.Texts.{firstIn}
 use Rattle.rules.specs.Decimals.{Decimal, whole, lastDigits, pointText, decimalText}
-use Rattle.rules.specs.Lines.{Spelling, lineText}
+use Rattle.rules.specs.Lines.{Spelling, lineText, within}
 use Rattle.rules.specs.Limits.{maxLine}
 use Rattle.rules.specs.Fields.{Table, Says, Spells}
 use Rattle.rules.specs.Stored.{stores}
@@ -20,7 +21,7 @@ use Rattle.rules.specs.Preferred.{preferred, preferredSpelling}
 use Rattle.rules.specs.Answers.{Answer, Delivers, Sound, ReadsForm}
 use Rattle.rules.specs.Rows.{thirdText, Row, annotations, SpellsRow, preferredThird, preferredRowSpelling, preferredRow, rowHeadSize, rowHead}
 use Rattle.rules.specs.RowAnswers.{GoodColumn, BadColumn, Moves, done, no-room, refused, ReadsThird, line, ReadsIntensity, ReadsRow, HoldsRow, TakesRow, WritesRow, thirdAt, ConvertsRow}
-use Rattle.rules.specs.Editions.{Edition, ed1, current}
+use Rattle.rules.specs.Editions.{Edition, ed1, current, LineEdition}
 use Rattle.rules.proofs.Cuts as rules
 use Rattle.rules.proofs.Digits.{one-number}
 use Rattle.rules.proofs.Fractions.{value-back, last-length}
@@ -90,8 +91,8 @@ module _ (d e : Decimal) where
   thirds (written s) silent q = absurd (no-cut 9 (decimalText d) (decimalText e) (lineText s) (decimal-lacks e) (q ∙ append-nil (decimalText e)))
   thirds (written s) (written u) q = cut-same 9 (decimalText d) (decimalText e) (lineText s) (lineText u) (decimal-lacks d) (decimal-lacks e) q
 
-pub unambiguous-row : {r u : Row} {bytes : List ℕ} → SpellsRow r bytes → SpellsRow u bytes → r ≡ u
-unambiguous-row {r} {u} x y =
+pub unambiguous-row : {l : LineEdition} {r u : Row} {bytes : List ℕ} → SpellsRow l r bytes → SpellsRow l u bytes → r ≡ u
+unambiguous-row {l} {r} {u} x y =
     let s = x .spelling in
     let z = y .spelling in
     let a = cut-same 9 (decimalText (s .mz)) (decimalText (z .mz)) (decimalText (s .intensity) ++ optText thirdText (s .third))
@@ -99,8 +100,8 @@ unambiguous-row {r} {u} x y =
     let b = thirds (s .intensity) (z .intensity) (s .third) (z .third) (a .1) in
     let mz : r .mz ≡ u .mz = sym (x .says .mz) ∙ one-decimal (s .mz) (z .mz) (a .0) ∙ y .says .mz in
     let intensity : r .intensity ≡ u .intensity = sym (x .says .intensity) ∙ one-decimal (s .intensity) (z .intensity) (b .0) ∙ y .says .intensity in
-    let p : Spells (r .table) (lineText (annotations (z .third))) = record { spelling = annotations (s .third); text = b .1; says = x .says .table } in
-    let q : Spells (u .table) (lineText (annotations (z .third))) = record { spelling = annotations (z .third); text = refl; says = y .says .table } in
+    let p : Spells l (r .table) (lineText (annotations (z .third))) = record { spelling = annotations (s .third); edition = x .edition; text = b .1; says = x .says .table } in
+    let q : Spells l (u .table) (lineText (annotations (z .third))) = record { spelling = annotations (z .third); edition = y .edition; text = refl; says = y .says .table } in
     let table = unambiguous p q in
     λ i. record { mz = mz i; intensity = intensity i; table = table i }
 
@@ -109,9 +110,19 @@ third-says : {e : Edition} {t : Table} → Sound e t → Each Says (annotations 
 third-says {t = []} s = none
 third-says {t = a ∷ t} s = preferred-says (said-in-order (s .says))
 
-pub row-preferred : {e : Edition} (r : Row) → Sound e (r .table) → SpellsRow r (preferredRow r)
-row-preferred r s =
-    record { spelling = preferredRowSpelling r; text = refl; says = record { mz = refl; intensity = refl; table = third-says s } }
+-- and is of the editions of lines that its line is of
+third-within : (l : LineEdition) (t : Table) → T (within l (preferredSpelling t)) → T (within l (annotations (preferredThird t)))
+third-within l [] i = i
+third-within l (a ∷ t) i = i
+
+pub row-preferred : {l : LineEdition} {e : Edition} (r : Row) → Sound e (r .table) → T (within l (preferredSpelling (r .table))) → SpellsRow l r (preferredRow r)
+row-preferred {l} r s i =
+    record {
+      spelling = preferredRowSpelling r;
+      edition = third-within l (r .table) i;
+      text = refl;
+      says = record { mz = refl; intensity = refl; table = third-says s };
+    }
 
 -- ---- reading has one answer
 
@@ -132,24 +143,24 @@ moves-one (refused d e) (done f) = absurd (d f)
 moves-one (refused d e) (no-room f) = absurd (e f)
 moves-one (refused d e) (refused f g) = refl
 
-third-one : {mz intensity : Decimal} {third : List ℕ} {at room : ℕ} {a c : Answer}
-    → ReadsThird mz intensity third at room a → ReadsThird mz intensity third at room c → a ≡ c
+third-one : {l : LineEdition} {mz intensity : Decimal} {third : List ℕ} {at room : ℕ} {a c : Answer}
+    → ReadsThird l mz intensity third at room a → ReadsThird l mz intensity third at room c → a ≡ c
 third-one {mz} {intensity} {at = at} {room = room} {c = c} (line r m) (line s n) =
     moves-one m (subst (λ (b : Answer). Moves (stores (rowHead mz intensity)) at room b c) (reads-one s r) n)
 
-intensity-one : {mz : Decimal} {bytes : List ℕ} {at room : ℕ} {a c : Answer}
-    → ReadsIntensity mz bytes at room a → ReadsIntensity mz bytes at room c → a ≡ c
+intensity-one : {l : LineEdition} {mz : Decimal} {bytes : List ℕ} {at room : ℕ} {a c : Answer}
+    → ReadsIntensity l mz bytes at room a → ReadsIntensity l mz bytes at room c → a ≡ c
 intensity-one (ReadsIntensity.bad x n) (ReadsIntensity.bad y m) = refl
 intensity-one (ReadsIntensity.bad x n) (ReadsIntensity.good y g s) = absurd (not-bad (cut-one y x .column) g n)
 intensity-one (ReadsIntensity.good x f r) (ReadsIntensity.bad y m) = absurd (not-bad (cut-one x y .column) f m)
-intensity-one {mz} {at = at} {room = room} {c = c} (ReadsIntensity.good {third = more} {place = p} x {intensity = d} f r) (ReadsIntensity.good {third = third} {place = o} x2 {intensity = e} g s) =
+intensity-one {l} {mz} {at = at} {room = room} {c = c} (ReadsIntensity.good {third = more} {place = p} x {intensity = d} f r) (ReadsIntensity.good {third = third} {place = o} x2 {intensity = e} g s) =
     let q = cut-one x2 x in
     third-one r
-    (subst (λ (n : ℕ). ReadsThird mz d more (at + n) room c) (q .place)
-    (subst (λ (l : List ℕ). ReadsThird mz d l (at + o) room c) (q .more)
-    (subst (λ (i : Decimal). ReadsThird mz i third (at + o) room c) (column-one (q .column) g f) s)))
+    (subst (λ (n : ℕ). ReadsThird l mz d more (at + n) room c) (q .place)
+    (subst (λ (w : List ℕ). ReadsThird l mz d w (at + o) room c) (q .more)
+    (subst (λ (i : Decimal). ReadsThird l mz i third (at + o) room c) (column-one (q .column) g f) s)))
 
-pub reads-row-one : {row : List ℕ} {room : ℕ} {a c : Answer} → ReadsRow row room a → ReadsRow row room c → a ≡ c
+pub reads-row-one : {l : LineEdition} {row : List ℕ} {room : ℕ} {a c : Answer} → ReadsRow l row room a → ReadsRow l row room c → a ≡ c
 reads-row-one (ReadsRow.long h) (ReadsRow.long g) = refl
 reads-row-one (ReadsRow.long h) (ReadsRow.bad g y m) = absurd (omega arith)
 reads-row-one (ReadsRow.long h) (ReadsRow.good g y f s) = absurd (omega arith)
@@ -158,11 +169,11 @@ reads-row-one (ReadsRow.bad h x n) (ReadsRow.bad g y m) = refl
 reads-row-one (ReadsRow.bad h x n) (ReadsRow.good g y f s) = absurd (not-bad (cut-one y x .column) f n)
 reads-row-one (ReadsRow.good h x f r) (ReadsRow.long g) = absurd (omega arith)
 reads-row-one (ReadsRow.good h x f r) (ReadsRow.bad g y m) = absurd (not-bad (cut-one x y .column) f m)
-reads-row-one {room = room} {c = c} (ReadsRow.good h {more = more} {place = place} x {mz = d} f r) (ReadsRow.good g {more = rest} {place = p} y {mz = e} k s) =
+reads-row-one {l} {room = room} {c = c} (ReadsRow.good h {more = more} {place = place} x {mz = d} f r) (ReadsRow.good g {more = rest} {place = p} y {mz = e} k s) =
     let q = cut-one y x in
     intensity-one r
-    (subst (λ (n : ℕ). ReadsIntensity d more n room c) (q .place)
-    (subst (λ (l : List ℕ). ReadsIntensity d l p room c) (q .more) (subst (λ (m : Decimal). ReadsIntensity m rest p room c) (column-one (q .column) k f) s)))
+    (subst (λ (n : ℕ). ReadsIntensity l d more n room c) (q .place)
+    (subst (λ (w : List ℕ). ReadsIntensity l d w p room c) (q .more) (subst (λ (m : Decimal). ReadsIntensity l m rest p room c) (column-one (q .column) k f) s)))
 
 -- ---- writing has one answer
 
@@ -188,23 +199,36 @@ two-editions-row h g = two-editions (rest-holds h) (rest-holds g)
 one-size : {r u : Row} → r ≡ u → maxLine < length (preferred (r .table)) → length (preferred (u .table)) ≤ maxLine → ⊥
 one-size e h g = let p = ap (λ (x : Row). length (preferred (x .table))) e in omega arith
 
-pub writes-row-one : {bytes : List ℕ} {room : ℕ} {a c : Answer} → WritesRow bytes room a → WritesRow bytes room c → a ≡ c
+-- and has letters of an edition or has not
+one-edition : (l : LineEdition) {r u : Row} → r ≡ u → (T (within l (preferredSpelling (r .table))) → ⊥) → T (within l (preferredSpelling (u .table))) → ⊥
+one-edition l e n i = n (subst (λ (x : Row). T (within l (preferredSpelling (x .table)))) (sym e) i)
+
+pub writes-row-one : {l : LineEdition} {bytes : List ℕ} {room : ℕ} {a c : Answer} → WritesRow l bytes room a → WritesRow l bytes room c → a ≡ c
 writes-row-one (WritesRow.no-row n) (WritesRow.no-row m) = refl
 writes-row-one (WritesRow.no-row n) (WritesRow.old u g o) = absurd (n u (taken g o))
-writes-row-one (WritesRow.no-row n) (WritesRow.long u g k) = absurd (n u (taken-now g))
-writes-row-one (WritesRow.no-row n) (WritesRow.fits u g k y) = absurd (n u (taken-now g))
+writes-row-one (WritesRow.no-row n) (WritesRow.lettered u g j) = absurd (n u (taken-now g))
+writes-row-one (WritesRow.no-row n) (WritesRow.long u g j k) = absurd (n u (taken-now g))
+writes-row-one (WritesRow.no-row n) (WritesRow.fits u g j k y) = absurd (n u (taken-now g))
 writes-row-one (WritesRow.old r h o) (WritesRow.no-row m) = absurd (m r (taken h o))
 writes-row-one (WritesRow.old r h o) (WritesRow.old u g p) = refl
-writes-row-one (WritesRow.old r h o) (WritesRow.long u g k) = absurd (two-editions-row h g)
-writes-row-one (WritesRow.old r h o) (WritesRow.fits u g k y) = absurd (two-editions-row h g)
-writes-row-one (WritesRow.long r h l) (WritesRow.no-row m) = absurd (m r (taken-now h))
-writes-row-one (WritesRow.long r h l) (WritesRow.old u g p) = absurd (two-editions-row g h)
-writes-row-one (WritesRow.long r h l) (WritesRow.long u g k) = refl
-writes-row-one (WritesRow.long r h l) (WritesRow.fits u g k y) = absurd (one-size (holds-row-one h g) l k)
-writes-row-one (WritesRow.fits r h l x) (WritesRow.no-row m) = absurd (m r (taken-now h))
-writes-row-one (WritesRow.fits r h l x) (WritesRow.old u g p) = absurd (two-editions-row g h)
-writes-row-one (WritesRow.fits r h l x) (WritesRow.long u g k) = absurd (one-size (holds-row-one g h) k l)
-writes-row-one {room = room} {c = c} (WritesRow.fits r h l x) (WritesRow.fits u g k y) =
+writes-row-one (WritesRow.old r h o) (WritesRow.lettered u g j) = absurd (two-editions-row h g)
+writes-row-one (WritesRow.old r h o) (WritesRow.long u g j k) = absurd (two-editions-row h g)
+writes-row-one (WritesRow.old r h o) (WritesRow.fits u g j k y) = absurd (two-editions-row h g)
+writes-row-one (WritesRow.lettered r h i) (WritesRow.no-row m) = absurd (m r (taken-now h))
+writes-row-one (WritesRow.lettered r h i) (WritesRow.old u g p) = absurd (two-editions-row g h)
+writes-row-one (WritesRow.lettered r h i) (WritesRow.lettered u g j) = refl
+writes-row-one {l} (WritesRow.lettered r h i) (WritesRow.long u g j k) = absurd (one-edition l (holds-row-one h g) i j)
+writes-row-one {l} (WritesRow.lettered r h i) (WritesRow.fits u g j k y) = absurd (one-edition l (holds-row-one h g) i j)
+writes-row-one (WritesRow.long r h i n) (WritesRow.no-row m) = absurd (m r (taken-now h))
+writes-row-one (WritesRow.long r h i n) (WritesRow.old u g p) = absurd (two-editions-row g h)
+writes-row-one {l} (WritesRow.long r h i n) (WritesRow.lettered u g j) = absurd (one-edition l (holds-row-one g h) j i)
+writes-row-one (WritesRow.long r h i n) (WritesRow.long u g j k) = refl
+writes-row-one (WritesRow.long r h i n) (WritesRow.fits u g j k y) = absurd (one-size (holds-row-one h g) n k)
+writes-row-one (WritesRow.fits r h i n x) (WritesRow.no-row m) = absurd (m r (taken-now h))
+writes-row-one (WritesRow.fits r h i n x) (WritesRow.old u g p) = absurd (two-editions-row g h)
+writes-row-one {l} (WritesRow.fits r h i n x) (WritesRow.lettered u g j) = absurd (one-edition l (holds-row-one g h) j i)
+writes-row-one (WritesRow.fits r h i n x) (WritesRow.long u g j k) = absurd (one-size (holds-row-one g h) k n)
+writes-row-one {room = room} {c = c} (WritesRow.fits r h i n x) (WritesRow.fits u g j k y) =
     delivers-one x (subst (λ (z : Row). Delivers room (preferredRow z) c) (holds-row-one g h) y)
 
 -- ---- and so has converting

@@ -17,9 +17,9 @@ use Rattle.rules.specs.Lines.{Spelling, lineText}
 use Rattle.rules.specs.Answers.{Answer, gives}
 use Rattle.rules.specs.Rows.{tab, RowSpelling, thirdText, rowText, Row, preferredRowSpelling}
 use Rattle.rules.specs.RowAnswers.{lacks, ReadsRow, HoldsRow, WritesRow}
-use Rattle.rules.specs.Editions.{current}
+use Rattle.rules.specs.Editions.{LineEdition, current}
 use Rattle.rules.specs.Lists.{feed, RowsOf, no-rows, last-row, next-row, listText, ReadsList}
-use Rattle.shape.proofs.Grammar.{lineRe, symbolRe, decimalRe}
+use Rattle.shape.proofs.Grammar.{lineRe, lettersRe, symbolRe, decimalRe}
 use Rattle.shape.proofs.MeansNumbers.{means-decimal}
 use Rattle.shape.proofs.MeansLine.{means-line}
 use Rattle.read_row.proofs.Cuts.{lacks-more, lacks-append}
@@ -29,16 +29,16 @@ use Rattle.rows.proofs.Lists.{rows-one, rows-some}
 
 -- ---- answers to rows, one by one
 
-abbrev Answers : ℕ → List (List ℕ) → List Answer → Type 0
-Answers room rows us = Each (λ (row : List ℕ) (a : Answer). ReadsRow row room a) rows us
+abbrev Answers : LineEdition → ℕ → List (List ℕ) → List Answer → Type 0
+Answers l room rows us = Each (λ (row : List ℕ) (a : Answer). ReadsRow l row room a) rows us
 
-answers-one : {room : ℕ} {rows : List (List ℕ)} {us vs : List Answer} → Answers room rows us → Answers room rows vs → us ≡ vs
+answers-one : {l : LineEdition} {room : ℕ} {rows : List (List ℕ)} {us vs : List Answer} → Answers l room rows us → Answers l room rows vs → us ≡ vs
 answers-one none none = refl
 answers-one (next x e) (next y f) = ap₂ _∷_ (reads-row-one x y) (answers-one e f)
 
 -- the answers to a list are one
-pub reads-list-one : {list : List ℕ} {room : ℕ} {us vs : List Answer} → ReadsList list room us → ReadsList list room vs → us ≡ vs
-reads-list-one {room = room} {vs = vs} x y = answers-one (x .each) (subst (λ (l : List (List ℕ)). Answers room l vs) (rows-one (y .are) (x .are)) (y .each))
+pub reads-list-one : {l : LineEdition} {list : List ℕ} {room : ℕ} {us vs : List Answer} → ReadsList l list room us → ReadsList l list room vs → us ≡ vs
+reads-list-one {l} {room = room} {vs = vs} x y = answers-one (x .each) (subst (λ (w : List (List ℕ)). Answers l room w vs) (rows-one (y .are) (x .are)) (y .each))
 
 -- ---- rows without line feeds, and then other rows
 
@@ -58,17 +58,17 @@ rows-around row n t r = rows-then n (next-row row t refl r)
 
 -- ---- one row replaced
 
-record Split (room : ℕ) (before : List (List ℕ)) (row : List ℕ) (rows : List (List ℕ)) (us : List Answer) : Type 0 where
+record Split (l : LineEdition) (room : ℕ) (before : List (List ℕ)) (row : List ℕ) (rows : List (List ℕ)) (us : List Answer) : Type 0 where
   front : List Answer
   one : Answer
   back : List Answer
   is : us ≡ front ++ (one ∷ back)
-  fronts : Answers room before front
-  alone : ReadsRow row room one
-  backs : Answers room rows back
+  fronts : Answers l room before front
+  alone : ReadsRow l row room one
+  backs : Answers l room rows back
 
-split : (room : ℕ) (before : List (List ℕ)) (row : List ℕ) (rows : List (List ℕ)) {us : List Answer} → Answers room (before ++ (row ∷ rows)) us
-    → Split room before row rows us
+split : {l : LineEdition} (room : ℕ) (before : List (List ℕ)) (row : List ℕ) (rows : List (List ℕ)) {us : List Answer} → Answers l room (before ++ (row ∷ rows)) us
+    → Split l room before row rows us
 split room [] row rows (next {b = a} {m = m} x e) = record { front = []; one = a; back = m; is = refl; fronts = none; alone = x; backs = e }
 split room (v ∷ before) row rows (next {b = a} x e) =
     let s = split room before row rows e in
@@ -76,33 +76,33 @@ split room (v ∷ before) row rows (next {b = a} x e) =
       front = a ∷ s .front;
       one = s .one;
       back = s .back;
-      is = ap (λ (l : List Answer). a ∷ l) (s .is);
+      is = ap (λ (w : List Answer). a ∷ w) (s .is);
       fronts = next x (s .fronts);
       alone = s .alone;
       backs = s .backs;
     }
 
 -- the answers to a list and to the list with one row replaced: the same but for that row's, which is what each gets alone
-pub record OneReplaced (row other : List ℕ) (room : ℕ) (before : List (List ℕ)) (us vs : List Answer) : Type 0 where
+pub record OneReplaced (l : LineEdition) (row other : List ℕ) (room : ℕ) (before : List (List ℕ)) (us vs : List Answer) : Type 0 where
   pub front : List Answer
   pub back : List Answer
   pub was : Answer
   pub now : Answer
-  pub many : Each (λ (v : List ℕ) (a : Answer). ReadsRow v room a) before front
+  pub many : Each (λ (v : List ℕ) (a : Answer). ReadsRow l v room a) before front
   pub before-are : us ≡ front ++ (was ∷ back)
   pub after-are : vs ≡ front ++ (now ∷ back)
-  pub row-alone : ReadsRow row room was
-  pub other-alone : ReadsRow other room now
+  pub row-alone : ReadsRow l row room was
+  pub other-alone : ReadsRow l other room now
 
-pub one-replaced : {before : List (List ℕ)} {room : ℕ} {us vs : List Answer} (row other after : List ℕ) → NoFeeds before → T (lacks 10 row)
-    → T (lacks 10 other) → ReadsList (listText before ++ (row ++ (feed ++ after))) room us
-    → ReadsList (listText before ++ (other ++ (feed ++ after))) room vs → OneReplaced row other room before us vs
-one-replaced {before} {room} {us} {vs} row other after n t u x y =
+pub one-replaced : {l : LineEdition} {before : List (List ℕ)} {room : ℕ} {us vs : List Answer} (row other after : List ℕ) → NoFeeds before → T (lacks 10 row)
+    → T (lacks 10 other) → ReadsList l (listText before ++ (row ++ (feed ++ after))) room us
+    → ReadsList l (listText before ++ (other ++ (feed ++ after))) room vs → OneReplaced l row other room before us vs
+one-replaced {l} {before} {room} {us} {vs} row other after n t u x y =
     let r = rows-some after in
     let p = rows-one (x .are) (rows-around row n t (r .are)) in
     let q = rows-one (y .are) (rows-around other n u (r .are)) in
-    let s = split room before row (r .rows) (subst (λ (l : List (List ℕ)). Answers room l us) p (x .each)) in
-    let z = split room before other (r .rows) (subst (λ (l : List (List ℕ)). Answers room l vs) q (y .each)) in
+    let s = split room before row (r .rows) (subst (λ (w : List (List ℕ)). Answers l room w us) p (x .each)) in
+    let z = split room before other (r .rows) (subst (λ (w : List (List ℕ)). Answers l room w vs) q (y .each)) in
     record {
       front = s .front;
       back = s .back;
@@ -132,13 +132,13 @@ byte-other c b n i e = subst (λ (x : Bool). T (not x)) (t-is (inC c 10) (subst 
 text-lacks : (r : Re) → T (eachClass free r) → (t : Tree r) (k : List ℕ) → T (lacks 10 k) → T (lacks 10 (text r t k))
 text-lacks r g t k e = each-text free (λ l. T (lacks 10 l)) (λ c b l n i m. lacks-more 10 b l (byte-other c b n i) m) r g t k e
 
-line-free : T (eachClass free lineRe)
+line-free : T (eachClass free (lineRe lettersRe))
 unfolding symbolRe symbols
 line-free = tt
 
 pub line-lacks : (s : Spelling) → T (lacks 10 (lineText s))
 line-lacks s =
-    subst (λ (w : List ℕ). T (lacks 10 w)) (means-line .enc-text s [] ∙ append-nil (lineText s)) (text-lacks lineRe line-free (means-line .enc s) [] tt)
+    subst (λ (w : List ℕ). T (lacks 10 w)) (means-line .enc-text s [] ∙ append-nil (lineText s)) (text-lacks (lineRe lettersRe) line-free (means-line .enc s) [] tt)
 
 decimal-free : (d : Decimal) → T (lacks 10 (decimalText d))
 decimal-free d =
@@ -157,8 +157,8 @@ row-free r =
 -- ---- a list written row by row
 
 -- a stored row that was written
-pub record Done (room : ℕ) (bytes : List ℕ) (a : Answer) : Type 0 where
-  pub writes : WritesRow bytes room a
+pub record Done (l : LineEdition) (room : ℕ) (bytes : List ℕ) (a : Answer) : Type 0 where
+  pub writes : WritesRow l bytes room a
   pub done : a .number ≡ 0
 
 -- what was written
@@ -170,28 +170,28 @@ pub data AllFit (room : ℕ) : List (List ℕ) → Type 0 where
   no-other : AllFit room []
   fits-too : {bytes : List ℕ} {held : List (List ℕ)} → length bytes ≤ room → AllFit room held → AllFit room (bytes ∷ held)
 
-written-free : {room : ℕ} {held : List (List ℕ)} {us : List Answer} → Each (Done room) held us → NoFeeds (map writtenRow us)
+written-free : {l : LineEdition} {room : ℕ} {held : List (List ℕ)} {us : List Answer} → Each (Done l room) held us → NoFeeds (map writtenRow us)
 written-free none = no-more
 written-free (next x e) =
     let w = wrote (x .writes) (x .done) in
     also (subst (λ (v : List ℕ). T (lacks 10 v)) (sym (w .is)) (row-free (preferredRowSpelling (w .row)))) (written-free e)
 
-written-answers : {room room′ : ℕ} {held : List (List ℕ)} {us : List Answer} → Each (Done room) held us → AllFit room′ held
-    → Answers room′ (map writtenRow us) (map (gives room′) held)
+written-answers : {l : LineEdition} {room room′ : ℕ} {held : List (List ℕ)} {us : List Answer} → Each (Done l room) held us → AllFit room′ held
+    → Answers l room′ (map writtenRow us) (map (gives room′) held)
 written-answers none no-other = none
 written-answers {room′ = room′} (next x e) (fits-too l f) = next (read-back-row (x .writes) (x .done) room′ l) (written-answers e f)
 
 -- a line feed behind each row: the list reads back to the very bytes of the stored rows
-pub list-back : {room room′ : ℕ} {held : List (List ℕ)} {us : List Answer} → Each (Done room) held us → AllFit room′ held
-    → ReadsList (listText (map writtenRow us)) room′ (map (gives room′) held)
+pub list-back : {l : LineEdition} {room room′ : ℕ} {held : List (List ℕ)} {us : List Answer} → Each (Done l room) held us → AllFit room′ held
+    → ReadsList l (listText (map writtenRow us)) room′ (map (gives room′) held)
 list-back {us = us} e f =
     let rows = map writtenRow us in
     let r : RowsOf (listText rows) rows =
-    subst (λ (l : List ℕ). RowsOf l rows) (append-nil (listText rows)) (subst (λ (l : List (List ℕ)). RowsOf (listText rows ++ []) l) (append-nil rows) (rows-then (written-free e) no-rows)) in
+    subst (λ (w : List ℕ). RowsOf w rows) (append-nil (listText rows)) (subst (λ (w : List (List ℕ)). RowsOf (listText rows ++ []) w) (append-nil rows) (rows-then (written-free e) no-rows)) in
     record { rows = rows; are = r; each = written-answers e f }
 
 -- what was written was held, as rows of the current edition
-pub rows-held : {room : ℕ} {held : List (List ℕ)} {us : List Answer} → Each (Done room) held us → (rows : List Row) × Each (HoldsRow current) held rows
+pub rows-held : {l : LineEdition} {room : ℕ} {held : List (List ℕ)} {us : List Answer} → Each (Done l room) held us → (rows : List Row) × Each (HoldsRow current) held rows
 rows-held none = ([], none)
 rows-held (next x e) =
     let w = wrote (x .writes) (x .done) in

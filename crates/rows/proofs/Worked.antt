@@ -14,6 +14,7 @@ use Rattle.rules.specs.Decimals.{whole, lastDigits, pointText}
 use Rattle.rules.specs.Elements.{symbols}
 use Rattle.rules.specs.Lines.{Spelling}
 use Rattle.rules.specs.Stored.{stores}
+use Rattle.rules.specs.Editions.{LineEdition}
 use Rattle.rules.specs.Answers.{refuses}
 use Rattle.rules.specs.Rows.{tab, RowSpelling, rowText, preferredRow, rowHead}
 use Rattle.rules.specs.RowAnswers.{lacks, no-tab, at-tab, GoodColumn, BadColumn, ReadsIntensity, ReadsRow}
@@ -74,10 +75,10 @@ nine-places = record { text = refl; bounds = tt }
 
 -- ---- refused rows
 
-pub empty-row : (room : ℕ) → ReadsRow [] room (refuses room 12 0)
+pub empty-row : {l : LineEdition} (room : ℕ) → ReadsRow l [] room (refuses room 12 0)
 empty-row room = ReadsRow.bad (omega arith) (no-tab tt) empty
 
-pub tab-alone : (room : ℕ) → ReadsRow tab room (refuses room 12 0)
+pub tab-alone : {l : LineEdition} (room : ℕ) → ReadsRow l tab room (refuses room 12 0)
 tab-alone room = ReadsRow.bad (omega arith) (at-tab [] [] tt refl) empty
 
 one : GoodColumn (bytes "1") (decimal 1 0)
@@ -85,10 +86,10 @@ unfolding digits digitsIn whole lastDigits pointText
 one = record { text = refl; bounds = tt }
 
 -- a good m/z without a tab: at the row's length
-pub no-intensity : (room : ℕ) → ReadsRow (bytes "1") room (refuses room 13 1)
+pub no-intensity : {l : LineEdition} (room : ℕ) → ReadsRow l (bytes "1") room (refuses room 13 1)
 no-intensity room = ReadsRow.good (omega arith) (no-tab tt) one (ReadsIntensity.bad (no-tab tt) empty)
 
-pub empty-intensity : (room : ℕ) → ReadsRow (bytes "1" ++ tab) room (refuses room 13 2)
+pub empty-intensity : {l : LineEdition} (room : ℕ) → ReadsRow l (bytes "1" ++ tab) room (refuses room 13 2)
 empty-intensity room = ReadsRow.good (omega arith) (at-tab (bytes "1") [] tt refl) one (ReadsIntensity.bad (no-tab tt) empty)
 
 -- ---- texts and heads

@@ -12,20 +12,20 @@ use Rattle.rules.specs.Bytes.{bytes}
 use Rattle.rules.specs.Numbers.{Number}
 use Rattle.rules.specs.Texts.{bracedText, bracketText}
 use Rattle.rules.specs.Formulas.{Written, FormulaUnit, plain, labelled, unitText, unitMap, Formula, formulaMap}
-use Rattle.rules.specs.Ions.{Ion, series, internal, immonium, precursor, reference, named, composed, smiles, unknown, ionText, ionMap}
+use Rattle.rules.specs.Ions.{SpelledIon, TableIon, series, internal, immonium, precursor, reference, named, composed, smiles, unknown, ionText, ionMap}
 use Rattle.rules.specs.Losses.{Lost, lost-formula, lost-name, lostMap, Loss, lossText, lossMap}
 use Rattle.rules.specs.Isotopes.{specificText, specificMap, Isotopes, no-isotope, plain-isotope, average-isotope, specific-isotopes}
 use Rattle.rules.specs.Isotopes.{isotopesText, isotopesMap}
 use Rattle.rules.specs.Adducts.{Added, added-formula, electron, addedMap, Item, itemText, adductText, itemMap}
 use Rattle.rules.specs.Annotations.{TableAnnotation, SpelledAnnotation, annotationText}
 use Rattle.rules.specs.Lines.{Spelling, nextText}
-use Rattle.rules.specs.Fields.{filledAnnotation, Table, filled, SameFields}
+use Rattle.rules.specs.Fields.{filledAnnotation, Table, filled, filledCut, SameFields}
 use Rattle.rules.specs.Limits.{maxAnnotations, maxLosses, maxIsotopes, maxItems, maxUnits, maxText}
 use Rattle.rules.specs.Limits.{bare, part, optPart, closedPart, rowMarks, rowPart}
 use Rattle.rules.specs.Limits.{unitMarks, formulaPart, ionParts, lostPart, lossParts, lossMarks, specificMarks, isotopesMarks, addedPart, itemParts, itemMarks, adductMarks}
 use Rattle.rules.specs.Limits.{annotationParts, annotationMarks, nextMarks, lineMarks}
-use Rattle.rules.specs.Editions.{Edition}
-use Rattle.rules.specs.Answers.{Sound}
+use Rattle.rules.specs.Editions.{Edition, LineEdition}
+use Rattle.rules.specs.Answers.{SoundIn}
 use Rattle.rules.specs.Stored.{bytesOf, ionFields, lostUnits, lostName, specificRecord, isotopeRecords, addedUnits}
 use Rattle.rules.specs.Layout.{unitWidth}
 use Rattle.rules.proofs.Totals.{in-map, perm-length, perm-in}
@@ -64,13 +64,13 @@ small-text w h = record { few = omega arith; short = h; weight = omega arith }
 small-units : (us : List (FormulaUnit Number)) → length us ≤ maxUnits → Small us []
 small-units us h = record { few = h; short = omega arith; weight = omega arith }
 
-ion-small : (x : Ion Written) (at : ℕ) → Kept (marksOf at (ionParts x))
-    → Small (ionFields (ionMap filled x) .units) (ionFields (ionMap filled x) .text)
+ion-small : (x : SpelledIon) (at : ℕ) → Kept (marksOf at (ionParts x))
+    → Small (ionFields (ionMap filled filledCut x) .units) (ionFields (ionMap filled filledCut x) .text)
 ion-small (series s n t) at k =
     let c = kept-part at (ionParts (series s n t)) k (optPart (closedPart bracedText) t) (later (later here)) in
     small-text (bytesOf t) (opt-short bracedText t (c .0) (c .1))
-ion-small (internal m n t) at k =
-    let c = kept-part at (ionParts (internal m n t)) k (optPart (closedPart bracedText) t) (later (later (later (later here)))) in
+ion-small (internal l m n t) at k =
+    let c = kept-part at (ionParts (internal l m n t)) k (optPart (closedPart bracedText) t) (later (later (later (later (later here))))) in
     small-text (bytesOf t) (opt-short bracedText t (c .0) (c .1))
 ion-small (immonium a m) at k =
     let c = kept-part at (ionParts (immonium a m)) k (optPart (closedPart bracketText) m) (later (later here)) in
@@ -156,7 +156,7 @@ kept-bounded i a at k =
 pub same-bounded : {a b : TableAnnotation} → SameFields a b → Bounded a → Bounded b
 same-bounded {a} {b} e h =
     record {
-      ion = subst (λ (x : Ion Number). Small (ionFields x .units) (ionFields x .text)) (e .ion) (h .ion);
+      ion = subst (λ (x : TableIon). Small (ionFields x .units) (ionFields x .text)) (e .ion) (h .ion);
       losses = subst (λ (n : ℕ). n ≤ maxLosses) (perm-length (e .losses)) (h .losses);
       loss = λ l i. h .loss l (perm-in (e .losses) l i);
       isotopes = subst (λ (x : Isotopes Number). length (isotopeRecords x) ≤ maxIsotopes) (e .isotopes) (h .isotopes);
@@ -197,10 +197,10 @@ line-each (a ∷ more) k b (later i) =
 pub line-bounded : (s : Spelling) → Kept (lineMarks s) → (a : SpelledAnnotation) → In a s → Bounded (filledAnnotation a)
 line-bounded s k a i = let c = line-each s k a i in kept-bounded (c .0) a (c .1) (c .2)
 
-pub table-few : {e : Edition} (t : Table) → Sound e t → length t ≤ maxAnnotations
+pub table-few : {l : LineEdition} {e : Edition} (t : Table) → SoundIn l e t → length t ≤ maxAnnotations
 table-few t s = subst (λ (n : ℕ). n ≤ maxAnnotations) (each-length (s .says)) (line-few (s .spelling) (s .limits))
 
-pub table-bounded : {e : Edition} (t : Table) → Sound e t → (a : TableAnnotation) → In a t → Bounded a
+pub table-bounded : {l : LineEdition} {e : Edition} (t : Table) → SoundIn l e t → (a : TableAnnotation) → In a t → Bounded a
 table-bounded t s a i =
     let c = each-in (s .says) a i in
     same-bounded (c .2 .fields) (line-bounded (s .spelling) (s .limits) (c .0) (c .1))

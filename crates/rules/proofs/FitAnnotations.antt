@@ -11,7 +11,7 @@ use Rattle.lang.specs.Mark.{In, here, later, Kept, marksOf}
 use Rattle.lang.proofs.Deriv.{and-0, and-1}
 use Rattle.rules.specs.Bytes.{bytes}
 use Rattle.rules.specs.Numbers.{From, Number}
-use Rattle.rules.specs.Ions.{ionText, Ion, series, internal, immonium, precursor, reference, named, composed, smiles, unknown}
+use Rattle.rules.specs.Ions.{ionText, TableIon, series, internal, immonium, precursor, reference, named, composed, smiles, unknown}
 use Rattle.rules.specs.Losses.{Loss, lossText, lossMap}
 use Rattle.rules.specs.Isotopes.{Isotopes, isotopesText}
 use Rattle.rules.specs.Adducts.{Item, itemText, adductText, itemMap}
@@ -152,11 +152,11 @@ common-fits a b r =
     )
 
 -- no more residues than bytes of text
-count-few : (x : Ion Number) → residueCount x ≤ length (ionFields x .text)
+count-few : (x : TableIon) → residueCount x ≤ length (ionFields x .text)
 count-few (series s n silent) = omega arith
 count-few (series s n (written t)) = residues-few (t .bytes)
-count-few (internal m n silent) = omega arith
-count-few (internal m n (written t)) = residues-few (t .bytes)
+count-few (internal c m n silent) = omega arith
+count-few (internal c m n (written t)) = residues-few (t .bytes)
 count-few (immonium a m) = omega arith
 count-few precursor = omega arith
 count-few (reference n) = omega arith

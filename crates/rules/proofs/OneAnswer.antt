@@ -10,7 +10,7 @@ use Rattle.rules.specs.Lines.{Spelling, lineText}
 use Rattle.rules.specs.Fields.{Table}
 use Rattle.rules.specs.Stored.{stored}
 use Rattle.rules.specs.Answers.{Answer, refuses, Delivers, no-room, done, ReadsSum, excess, ReadsRules, breach, ReadsForm, foreign, ReadsSpelling, limit, Reads, long, misshapen, spelled}
-use Rattle.rules.specs.Editions.{Edition, current}
+use Rattle.rules.specs.Editions.{Edition, current, LineEdition}
 use Rattle.rules.proofs.OneShape.{misshapen-no-shape, misshapen-one}
 use Rattle.rules.proofs.OneTable.{one-table}
 
@@ -61,14 +61,14 @@ module _ (one-spelling : (s u : Spelling) → lineText s ≡ lineText u → s �
   spelling-one (ReadsSpelling.kept k x) (limit n v) = absurd (wins-not-kept v k)
   spelling-one (ReadsSpelling.kept k x) (ReadsSpelling.kept l y) = form-one x y
 
-  pub reads-one : {line : List ℕ} {room : ℕ} {a b : Answer} → Reads line room a → Reads line room b → a ≡ b
+  pub reads-one : {l : LineEdition} {line : List ℕ} {room : ℕ} {a b : Answer} → Reads l line room a → Reads l line room b → a ≡ b
   reads-one (long h) (long g) = refl
   reads-one (long h) (misshapen g y) = absurd (omega arith)
-  reads-one (long h) (spelled g u f y) = absurd (omega arith)
+  reads-one (long h) (spelled g u v f y) = absurd (omega arith)
   reads-one (misshapen h x) (long g) = absurd (omega arith)
   reads-one {room = room} (misshapen h x) (misshapen g y) = let e = misshapen-one x y in ap₂ (refuses room) (e .0) (e .1)
-  reads-one (misshapen h x) (spelled g u f y) = absurd (misshapen-no-shape x (u, f))
-  reads-one (spelled h s e x) (long g) = absurd (omega arith)
-  reads-one (spelled h s e x) (misshapen g y) = absurd (misshapen-no-shape y (s, e))
-  reads-one {room = room} {b = b} (spelled h s e x) (spelled g u f y) =
+  reads-one (misshapen h x) (spelled g u v f y) = absurd (misshapen-no-shape x (u, (v, f)))
+  reads-one (spelled h s w e x) (long g) = absurd (omega arith)
+  reads-one (spelled h s w e x) (misshapen g y) = absurd (misshapen-no-shape y (s, (w, e)))
+  reads-one {room = room} {b = b} (spelled h s w e x) (spelled g u v f y) =
       spelling-one x (subst (λ (z : Spelling). ReadsSpelling current z room b) (one-spelling u s (f ∙ sym e)) y)

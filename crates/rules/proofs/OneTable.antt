@@ -8,6 +8,7 @@ use Rattle.lang.specs.Order.{rising, Each, none, next}
 use Rattle.lang.proofs.Deriv.{and-0, and-1}
 use Rattle.lang.proofs.Sort.{perm-joined, rising-one}
 use Rattle.rules.specs.Annotations.{TableAnnotation}
+use Rattle.rules.specs.Editions.{LineEdition}
 use Rattle.rules.specs.Lines.{Spelling, lineText}
 use Rattle.rules.specs.Preferred.{lossLe, itemLe}
 use Rattle.rules.specs.Fields.{Table, inOrder, SameFields, Says, Spells}
@@ -42,8 +43,8 @@ module _ (one-spelling : (s u : Spelling) → lineText s ≡ lineText u → s �
   one-table none none = refl
   one-table (next {b = b} x e) (next {b = c} y f) = ap₂ _∷_ (same-fields-one _ b c (x .fields) (y .fields) (x .order) (y .order)) (one-table e f)
 
-  -- a line spells one table
-  pub unambiguous : {t u : Table} {line : List ℕ} → Spells t line → Spells u line → t ≡ u
+  -- a line spells one table, in each edition: the spellings of the first are some of the second's
+  pub unambiguous : {l : LineEdition} {t u : Table} {line : List ℕ} → Spells l t line → Spells l u line → t ≡ u
   unambiguous {u = u} x y =
       let e = one-spelling (y .spelling) (x .spelling) (y .text ∙ sym (x .text)) in
       one-table (x .says) (subst (λ (s : Spelling). Each Says s u) e (y .says))

@@ -5,7 +5,7 @@ use mathlib.Core.List.{List, [], _∷_, _++_}
 use native.Mathlib.Omega.{arith}
 use native.Mathlib.Nat.{le-refl}
 use lib.ListN.{length, length-append}
-use Rattle.lang.specs.Parts.{Opt, items, wordOf}
+use Rattle.lang.specs.Parts.{Opt, optText, items, wordOf}
 use Rattle.lang.specs.Mark.{marksOf}
 use Rattle.lang.proofs.Rising.{room, none, also, rise-none}
 use Rattle.lang.proofs.Words.{word-some}
@@ -14,7 +14,7 @@ use Rattle.rules.specs.Numbers.{From}
 use Rattle.rules.specs.Elements.{symbols, Symbol}
 use Rattle.rules.specs.Texts.{bracedText, bracketText}
 use Rattle.rules.specs.Formulas.{Written, writtenText, FormulaUnit, plain, labelled, unitText, Formula}
-use Rattle.rules.specs.Ions.{Series, Ion, series, internal, immonium, precursor, reference, named, composed, smiles, unknown, ionText}
+use Rattle.rules.specs.Ions.{Series, SpelledIon, series, internal, immonium, precursor, reference, named, composed, smiles, unknown, ionText}
 use Rattle.rules.specs.Losses.{Sign, minus, plus, signText, Lost, lost-formula, lost-name, lostText, Loss, lossText}
 use Rattle.rules.specs.Isotopes.{Shift, shiftText, Specific, specificText}
 use Rattle.rules.specs.Isotopes.{Isotopes, no-isotope, plain-isotope, average-isotope, specific-isotopes, isotopesText}
@@ -57,11 +57,11 @@ series-some s = word-some _ tt s
 position-fits : {m : ℕ} (n : From m) → Fits (numberPart maxPosition n)
 position-fits n = number-fits maxPosition n
 
-ion-parts : (x : Ion Written) → AllFit (ionParts x)
+ion-parts : (x : SpelledIon) → AllFit (ionParts x)
 ion-parts (series s n t) = also (bare-fits (wordOf s)) (also (position-fits n) (also (opt-fits (closedPart bracedText) braced-fits t) none))
-ion-parts (internal m n t) =
-    also (bare-fits (bytes "m")) (also (position-fits m) (also (bare-fits (bytes ":"))
-    (also (position-fits n) (also (opt-fits (closedPart bracedText) braced-fits t) none))))
+ion-parts (internal c m n t) =
+    also (bare-fits (bytes "m")) (also (bare-fits (optText wordOf c)) (also (position-fits m) (also (bare-fits (bytes ":"))
+    (also (position-fits n) (also (opt-fits (closedPart bracedText) braced-fits t) none)))))
 ion-parts (immonium a m) =
     also (bare-fits (bytes "I")) (also (bare-fits (a .val ∷ [])) (also (opt-fits (closedPart bracketText) bracket-fits m) none))
 ion-parts precursor = none
@@ -71,9 +71,9 @@ ion-parts (composed f) = also (bare-fits (bytes "f{")) (also (formula-fits f) no
 ion-parts (smiles t) = also (bare-fits (bytes "s")) (also (braced-fits t) none)
 ion-parts (unknown n) = also (bare-fits (bytes "?")) (also (opt-fits (numberPart maxPosition) position-fits n) none)
 
-ion-room : (x : Ion Written) → room (ionParts x) ≤ length (ionText x)
+ion-room : (x : SpelledIon) → room (ionParts x) ≤ length (ionText x)
 ion-room (series s n t) = simp length-append (omega (arith, opt-length (closedPart bracedText) t))
-ion-room (internal m n t) = simp length-append (omega (arith, opt-length (closedPart bracedText) t))
+ion-room (internal c m n t) = simp length-append (omega (arith, opt-length (closedPart bracedText) t))
 ion-room (immonium a m) = omega (arith, opt-length (closedPart bracketText) m)
 ion-room precursor = omega arith
 ion-room (reference n) = omega arith
@@ -82,12 +82,12 @@ ion-room (composed f) = simp length-append (omega arith)
 ion-room (smiles t) = omega arith
 ion-room (unknown n) = omega (arith, opt-length (numberPart maxPosition) n)
 
-pub ion-rises : (x : Ion Written) (at : ℕ) → Rises at (at + length (ionText x)) (marksOf at (ionParts x))
+pub ion-rises : (x : SpelledIon) (at : ℕ) → Rises at (at + length (ionText x)) (marksOf at (ionParts x))
 ion-rises x at = parts-within (ion-parts x) at (length (ionText x)) (ion-room x)
 
-pub ion-some : (x : Ion Written) → 0 < length (ionText x)
+pub ion-some : (x : SpelledIon) → 0 < length (ionText x)
 ion-some (series s n t) = simp length-append (omega (arith, series-some s))
-ion-some (internal m n t) = omega arith
+ion-some (internal c m n t) = omega arith
 ion-some (immonium a m) = omega arith
 ion-some precursor = omega arith
 ion-some (reference n) = omega arith

@@ -1,25 +1,26 @@
 -- A count left out where it is 1, and filled in again: all that a table has comes back from its preferred spelling.
 -- Assumes nothing.
 use Prim.Native.Nat.{ℕ}
-use mathlib.Core.Path.{_≡_, refl, ap, ap₂}
+use mathlib.Core.Path.{_≡_, refl, sym, ap, ap₂}
 use mathlib.Core.Bool.{Bool, true, false}
 use mathlib.Core.List.{List, [], _∷_, map}
 use mathlib.Core.HLevel.{isProp→PathP}
 use native.Mathlib.Omega.{arith}
-use borrow.Author.Tests.{leb-true}
-use lib.Dec.{T, T-prop, leb, leb→le}
+use borrow.Author.Tests.{leb-true, eqb-true}
+use lib.Dec.{T, T-prop, leb, leb→le, eqb}
 use Rattle.lang.specs.Parts.{Opt, silent, written, optMap, Some, someMap}
+use Rattle.lang.proofs.Means.{listed-path}
 use Rattle.rules.specs.Numbers.{From, Number}
 use Rattle.rules.specs.Formulas.{FormulaUnit, plain, labelled, unitMap, Formula, formulaMap}
-use Rattle.rules.specs.Ions.{Ion, series, internal, immonium, precursor, reference, named, composed, smiles, unknown, ionMap}
+use Rattle.rules.specs.Ions.{Cleavage, Ion, series, internal, immonium, precursor, reference, named, composed, smiles, unknown, ionMap}
 use Rattle.rules.specs.Losses.{Lost, lost-formula, lost-name, lostMap, Loss, lossMap}
 use Rattle.rules.specs.Isotopes.{Shift, shiftMap, Specific, specificMap, Isotopes, no-isotope, plain-isotope, average-isotope, specific-isotopes, isotopesMap}
 use Rattle.rules.specs.Adducts.{Added, added-formula, electron, addedMap, Item, itemMap}
 use Rattle.rules.specs.Decimals.{Decimal}
 use Rattle.rules.specs.Confidences.{in-full, meantDecimal}
 use Rattle.rules.specs.Annotations.{TableAnnotation, Annotation, annotationMap}
-use Rattle.rules.specs.Fields.{filledAnnotation, Table, filled}
-use Rattle.rules.specs.Preferred.{shortenedAnnotation, shortened, preferredSpelling}
+use Rattle.rules.specs.Fields.{filledAnnotation, Table, filled, filledCut}
+use Rattle.rules.specs.Preferred.{shortenedAnnotation, shortened, shortenedCut, preferredSpelling}
 
 -- numbers with a least value are equal where their values are
 pub from-path : {m : ℕ} (x y : From m) → x .value ≡ y .value → x ≡ y
@@ -33,6 +34,14 @@ filled-shortened n = by (leb (n .value) 1) refl
         let h = leb→le 1 (n .value) (n .least) in
         let g = leb-true (n .value) 1 e in
         from-path (record { value = 1; least = tt }) n (omega arith)
+    by false e = refl
+
+-- and so do letters
+pub cut-filled : (c : Cleavage) → filledCut (shortenedCut c) ≡ c
+cut-filled c = by (eqb (c .which) 4) refl
+  where
+    by : (x : Bool) → eqb (c .which) 4 ≡ x → filledCut (elim x [ true ↦ silent | false ↦ written c ]) ≡ c
+    by true e = listed-path (record { which = 4; known = tt }) c (sym (eqb-true (c .which) 4 e))
     by false e = refl
 
 -- ---- what maps back maps back everywhere
@@ -58,16 +67,16 @@ module _ {A B : Type 0} (f : A → B) (g : B → A) (gf : (x : A) → g (f x) �
   pub formula-back : (v : Formula A) → formulaMap g (formulaMap f v) ≡ v
   formula-back v = some-back (unitMap f) (unitMap g) unit-back v
 
-  pub ion-back : (v : Ion A) → ionMap g (ionMap f v) ≡ v
-  ion-back (series s n t) = refl
-  ion-back (internal m n t) = refl
-  ion-back (immonium a m) = refl
-  ion-back precursor = refl
-  ion-back (reference n) = refl
-  ion-back (named t) = refl
-  ion-back (composed x) = ap composed (formula-back x)
-  ion-back (smiles t) = refl
-  ion-back (unknown n) = refl
+  pub ion-back : {C D : Type 0} (h : C → D) (k : D → C) → ((c : C) → k (h c) ≡ c) → (v : Ion A C) → ionMap g k (ionMap f h v) ≡ v
+  ion-back h k kh (series s n t) = refl
+  ion-back h k kh (internal c m n t) = ap (λ c. internal c m n t) (kh c)
+  ion-back h k kh (immonium a m) = refl
+  ion-back h k kh precursor = refl
+  ion-back h k kh (reference n) = refl
+  ion-back h k kh (named t) = refl
+  ion-back h k kh (composed x) = ap composed (formula-back x)
+  ion-back h k kh (smiles t) = refl
+  ion-back h k kh (unknown n) = refl
 
   pub lost-back : (v : Lost A) → lostMap g (lostMap f v) ≡ v
   lost-back (lost-formula x) = ap lost-formula (formula-back x)
@@ -95,12 +104,12 @@ module _ {A B : Type 0} (f : A → B) (g : B → A) (gf : (x : A) → g (f x) �
   pub item-back : (v : Item A) → itemMap g (itemMap f v) ≡ v
   item-back v = λ i. record { sign = v .sign; count = gf (v .count) i; what = added-back (v .what) i }
 
-  pub annotation-back : (v : Annotation A Decimal) → annotationMap g meantDecimal (annotationMap f in-full v) ≡ v
+  pub annotation-back : (v : Annotation A Cleavage Decimal) → annotationMap g filledCut meantDecimal (annotationMap f shortenedCut in-full v) ≡ v
   annotation-back v =
       λ i. record {
         marked = v .marked;
         analyte = v .analyte;
-        ion = ion-back (v .ion) i;
+        ion = ion-back shortenedCut filledCut cut-filled (v .ion) i;
         losses = map-back (lossMap f) (lossMap g) loss-back (v .losses) i;
         isotopes = isotopes-back (v .isotopes) i;
         adduct = map-back (itemMap f) (itemMap g) item-back (v .adduct) i;

@@ -12,9 +12,9 @@ use Rattle.rules.specs.Fields.{Table}
 use Rattle.rules.specs.Limits.{maxUnits, maxText}
 use Rattle.rules.specs.Layout.{addedWidth, unitWidth}
 use Rattle.rules.specs.Largest.{maxAnnotationBytes, maxAnyTable}
-use Rattle.rules.specs.Answers.{Sound}
+use Rattle.rules.specs.Answers.{SoundIn, Sound}
 use Rattle.rules.specs.Stored.{Field, ionFields, lostUnits, lostName, addedUnits, Section, sections, headerSize, counts, header, stored}
-use Rattle.rules.specs.Editions.{Edition, ed1, ed2, current, editionNumber}
+use Rattle.rules.specs.Editions.{Edition, ed1, ed2, current, editionNumber, LineEdition}
 use Rattle.rules.proofs.Totals.{total, length-flat, total-le, total-add, total-times, in-none, in-cons}
 use Rattle.rules.proofs.Bounds.{Small, Bounded, table-few, table-bounded}
 use Rattle.rules.proofs.Lengths.{annotations-length, losses-length, isotopes-length, items-length, units-length, weight, stored-weight}
@@ -58,7 +58,7 @@ weight-fits e a h =
       length-flat (λ l. lostName (l .what)) (a .losses),
     )
 
-pub sizes-fit : (e : Edition) (t : Table) → {d : Edition} → Sound d t → length (stored e t) ≤ maxAnyTable
+pub sizes-fit : (e : Edition) (t : Table) → {l : LineEdition} {d : Edition} → SoundIn l d t → length (stored e t) ≤ maxAnyTable
 sizes-fit e t s =
     omega (arith, stored-weight e t, total-le (weight e) maxAnnotationBytes t (λ a i. weight-fits e a (table-bounded t s a i)), table-few t s)
 

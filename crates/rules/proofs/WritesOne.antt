@@ -5,7 +5,7 @@ use mathlib.Core.List.{List}
 use Rattle.rules.specs.Lines.{Spelling, lineText}
 use Rattle.rules.specs.Fields.{Table}
 use Rattle.rules.specs.Answers.{Answer, Holds, Takes, Writes, Converts}
-use Rattle.rules.specs.Editions.{Edition, ed1, current}
+use Rattle.rules.specs.Editions.{Edition, ed1, current, LineEdition}
 use Rattle.rules.proofs.OneWriting
 use Rattle.rules.proofs.OneStored.{one-stored, editions-apart}
 
@@ -15,7 +15,7 @@ holds-one = OneWriting.holds-one one-stored editions-apart
 pub takes-one : {bytes : List ℕ} {t u : Table} → Takes bytes t → Takes bytes u → t ≡ u
 takes-one = OneWriting.takes-one one-stored editions-apart
 
-pub writes-one : {bytes : List ℕ} {room : ℕ} {a b : Answer} → Writes bytes room a → Writes bytes room b → a ≡ b
+pub writes-one : {l : LineEdition} {bytes : List ℕ} {room : ℕ} {a b : Answer} → Writes l bytes room a → Writes l bytes room b → a ≡ b
 writes-one = OneWriting.writes-one one-stored editions-apart
 
 pub two-editions : {bytes : List ℕ} {t u : Table} → Holds ed1 bytes t → Holds current bytes u → ⊥

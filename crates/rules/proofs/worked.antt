@@ -12,3 +12,4 @@ pub mod Points
 pub mod Nested
 pub mod Sequences
 pub mod Sequenced
+pub mod Letters

@@ -8,7 +8,7 @@ use Rattle.rules.specs.Bytes.{bytes}
 use Rattle.rules.specs.Numbers.{digits, From, Number, numberText}
 use Rattle.rules.specs.Decimals.{Decimal, decimalText}
 use Rattle.rules.specs.Formulas.{Written}
-use Rattle.rules.specs.Ions.{Ion, ionText, ionMap}
+use Rattle.rules.specs.Ions.{Letters, Cleavage, Ion, ionText, ionMap}
 use Rattle.rules.specs.Losses.{Loss, lossText, lossMap}
 use Rattle.rules.specs.Isotopes.{Isotopes, isotopesText, isotopesMap}
 use Rattle.rules.specs.Adducts.{Item, adductText, itemMap}
@@ -20,11 +20,11 @@ pub record Deviation : Type 0 where
   pub size : Decimal
   pub ppm : Bool
 
--- what may be written in several ways has a type of its own in a spelling and in a table: the counts (Free), and the confidence (Sure)
-pub record Annotation (Free Sure : Type 0) : Type 0 where
+-- what may be written in several ways has a type of its own in a spelling and in a table: the counts (Free), the letters (Cut), and the confidence (Sure)
+pub record Annotation (Free Cut Sure : Type 0) : Type 0 where
   pub marked : Bool
   pub analyte : Opt ℕ
-  pub ion : Ion Free
+  pub ion : Ion Free Cut
   pub losses : List (Loss Free)
   pub isotopes : Isotopes Free
   pub adduct : List (Item Free)
@@ -34,10 +34,10 @@ pub record Annotation (Free Sure : Type 0) : Type 0 where
 
 -- an annotation as it is spelled, and as a table has it
 abbrev pub SpelledAnnotation : Type 0
-SpelledAnnotation = Annotation Written Confidence
+SpelledAnnotation = Annotation Written Letters Confidence
 
 abbrev pub TableAnnotation : Type 0
-TableAnnotation = Annotation Number Decimal
+TableAnnotation = Annotation Number Cleavage Decimal
 
 -- there, or not
 abbrev pub flagText : List ℕ → Bool → List ℕ
@@ -60,13 +60,13 @@ annotationText a =
     ++ (flat lossText (a .losses) ++ (isotopesText (a .isotopes) ++ (adductText (a .adduct)
     ++ (optText chargeText (a .charge) ++ (optText deviationText (a .deviation) ++ optText confidenceText (a .confidence))))))))
 
--- with each free count, and the confidence, changed
-abbrev pub annotationMap : {A B S R : Type 0} → (A → B) → (S → R) → Annotation A S → Annotation B R
-annotationMap f g a =
+-- with each free count, the letters and the confidence changed
+abbrev pub annotationMap : {A B C D S R : Type 0} → (A → B) → (C → D) → (S → R) → Annotation A C S → Annotation B D R
+annotationMap f h g a =
     record {
       marked = a .marked;
       analyte = a .analyte;
-      ion = ionMap f (a .ion);
+      ion = ionMap f h (a .ion);
       losses = map (lossMap f) (a .losses);
       isotopes = isotopesMap f (a .isotopes);
       adduct = map (itemMap f) (a .adduct);

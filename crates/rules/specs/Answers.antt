@@ -1,17 +1,18 @@
--- Document 01, "Numbers of refusal", and document 02, M-112: what reading, writing and converting answer, and every byte of the output. Assumes nothing.
+-- Document 01, "Numbers of refusal", and document 02, M-112 and M-113: what reading, writing and converting answer, and every byte of the output. Assumes nothing.
 use Prim.Native.Nat.{ℕ, _-_, _<_, _≤_}
 use mathlib.Core.Path.{_≡_}
 use mathlib.Core.List.{List, _++_}
+use lib.Dec.{T}
 use lib.ListN.{length, replicate}
 use Rattle.lang.specs.Parts.{silent, written}
 use Rattle.lang.specs.Order.{Each}
 use Rattle.lang.specs.Mark.{Mark, Kept, Wins}
-use Rattle.rules.specs.Lines.{Spelling, lineText, Misshapen}
+use Rattle.rules.specs.Lines.{Spelling, lineText, within, Misshapen}
 use Rattle.rules.specs.Fields.{Table, Says}
 use Rattle.rules.specs.Limits.{maxLine, lineMarks}
 use Rattle.rules.specs.House.{firstForeign, firstBreach, firstExcess}
 use Rattle.rules.specs.Preferred.{preferred, preferredSpelling}
-use Rattle.rules.specs.Editions.{Edition, ed1, current}
+use Rattle.rules.specs.Editions.{Edition, ed1, current, LineEdition, linesOf}
 use Rattle.rules.specs.Stored.{stored}
 
 -- an answer, with all bytes of the output
@@ -56,21 +57,27 @@ pub data ReadsSpelling (e : Edition) (s : Spelling) (room : ℕ) : Answer → Ty
   limit : (m : Mark) → Wins (lineMarks s) m → ReadsSpelling e s room (refuses room (m .number) (m .place))
   kept : Kept (lineMarks s) → {a : Answer} → ReadsForm e s room a → ReadsSpelling e s room a
 
-pub data Reads (line : List ℕ) (room : ℕ) : Answer → Type 0 where
-  long : maxLine < length line → Reads line room (refuses room 1 maxLine)
-  misshapen : length line ≤ maxLine → {number place : ℕ} → Misshapen line number place → Reads line room (refuses room number place)
-  spelled : length line ≤ maxLine → (s : Spelling) → lineText s ≡ line → {a : Answer} → ReadsSpelling current s room a → Reads line room a
+-- in an edition of lines
+pub data Reads (l : LineEdition) (line : List ℕ) (room : ℕ) : Answer → Type 0 where
+  long : maxLine < length line → Reads l line room (refuses room 1 maxLine)
+  misshapen : length line ≤ maxLine → {number place : ℕ} → Misshapen l line number place → Reads l line room (refuses room number place)
+  spelled : length line ≤ maxLine → (s : Spelling) → T (within l s) → lineText s ≡ line → {a : Answer} → ReadsSpelling current s room a → Reads l line room a
 
--- ---- writing: 9, 10, 1, 8
+-- ---- writing: 9, 10, 20, 1, 8
 
--- some line, of any length, spells the table within limits and house rules, as the edition has them
-pub record Sound (e : Edition) (t : Table) : Type 0 where
+-- some line of an edition of lines, of any length, spells the table within limits and house rules, as the edition of the table has them
+pub record SoundIn (l : LineEdition) (e : Edition) (t : Table) : Type 0 where
   pub spelling : Spelling
+  pub edition : T (within l spelling)
   pub says : Each Says spelling t
   pub limits : Kept (lineMarks spelling)
   pub form : firstForeign e 0 spelling ≡ silent
   pub rules : firstBreach e 0 spelling ≡ silent
   pub sum : firstExcess 0 0 spelling ≡ silent
+
+-- of the lines that are the edition's own
+abbrev pub Sound : Edition → Table → Type 0
+Sound e t = SoundIn (linesOf e) e t
 
 -- stored bytes are a table of an edition
 pub record Holds (e : Edition) (bytes : List ℕ) (t : Table) : Type 0 where
@@ -83,11 +90,14 @@ pub record Takes (bytes : List ℕ) (t : Table) : Type 0 where
   pub holds : Holds edition bytes t
   pub also : Sound current t
 
-pub data Writes (bytes : List ℕ) (room : ℕ) : Answer → Type 0 where
-  no-table : ((t : Table) → Takes bytes t → ⊥) → Writes bytes room (refuses room 9 0)
-  old : (t : Table) → Holds ed1 bytes t → Sound current t → Writes bytes room (refuses room 10 0)
-  long : (t : Table) → Holds current bytes t → maxLine < length (preferred t) → Writes bytes room (refuses room 1 maxLine)
-  fits : (t : Table) → Holds current bytes t → length (preferred t) ≤ maxLine → {a : Answer} → Delivers room (preferred t) a → Writes bytes room a
+-- in an edition of lines: a table whose line has letters is 20 in the first
+pub data Writes (l : LineEdition) (bytes : List ℕ) (room : ℕ) : Answer → Type 0 where
+  no-table : ((t : Table) → Takes bytes t → ⊥) → Writes l bytes room (refuses room 9 0)
+  old : (t : Table) → Holds ed1 bytes t → Sound current t → Writes l bytes room (refuses room 10 0)
+  lettered : (t : Table) → Holds current bytes t → (T (within l (preferredSpelling t)) → ⊥) → Writes l bytes room (refuses room 20 0)
+  long : (t : Table) → Holds current bytes t → T (within l (preferredSpelling t)) → maxLine < length (preferred t) → Writes l bytes room (refuses room 1 maxLine)
+  fits : (t : Table) → Holds current bytes t → T (within l (preferredSpelling t)) → length (preferred t) ≤ maxLine → {a : Answer} → Delivers room (preferred t) a
+      → Writes l bytes room a
 
 -- ---- converting a table of edition 1: 9; then what reading its line answers behind the limits, however long it is: 11, 6, 8
 

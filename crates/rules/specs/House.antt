@@ -22,9 +22,9 @@ isEmpty [] = true
 isEmpty (x ∷ xs) = false
 
 -- an internal ion doesn't start at 1 and its start isn't past its end; SMILES has an adduct
-abbrev pub ionRule : {Free : Type 0} → Ion Free → Bool → Bool
+abbrev pub ionRule : {Free Cut : Type 0} → Ion Free Cut → Bool → Bool
 ionRule (series s n t) adduct = true
-ionRule (internal m n t) adduct = leb 2 (m .value) && leb (m .value) (n .value)
+ionRule (internal c m n t) adduct = leb 2 (m .value) && leb (m .value) (n .value)
 ionRule (immonium a m) adduct = true
 ionRule precursor adduct = true
 ionRule (reference n) adduct = true
@@ -34,9 +34,9 @@ ionRule (smiles t) adduct = adduct
 ionRule (unknown n) adduct = true
 
 -- the sequence of an ion: the text in the braces of a series or an internal ion
-abbrev pub sequenceIn : {Free : Type 0} → Ion Free → Opt Text
+abbrev pub sequenceIn : {Free Cut : Type 0} → Ion Free Cut → Opt Text
 sequenceIn (series s n t) = t
-sequenceIn (internal m n t) = t
+sequenceIn (internal c m n t) = t
 sequenceIn (immonium a m) = silent
 sequenceIn precursor = silent
 sequenceIn (reference n) = silent
@@ -46,9 +46,9 @@ sequenceIn (smiles t) = silent
 sequenceIn (unknown n) = silent
 
 -- how many residues its position asks for; of an internal ion those from start to end
-abbrev pub covered : {Free : Type 0} → Ion Free → ℕ
+abbrev pub covered : {Free Cut : Type 0} → Ion Free Cut → ℕ
 covered (series s n t) = n .value
-covered (internal m n t) = n .value + 1 - m .value
+covered (internal c m n t) = n .value + 1 - m .value
 covered (immonium a m) = 0
 covered precursor = 0
 covered (reference n) = 0
@@ -62,12 +62,12 @@ ifThere f silent = true
 ifThere f (written t) = f (t .bytes)
 
 -- 11: a sequence is of the plain form; edition 1 does not ask
-abbrev pub formed : {Free : Type 0} → Edition → Ion Free → Bool
+abbrev pub formed : {Free Cut : Type 0} → Edition → Ion Free Cut → Bool
 formed ed1 x = true
 formed ed2 x = ifThere isSequence (sequenceIn x)
 
 -- 6: a sequence has no fewer residues than the position; edition 1 does not ask
-abbrev pub longEnough : {Free : Type 0} → Edition → Ion Free → Bool
+abbrev pub longEnough : {Free Cut : Type 0} → Edition → Ion Free Cut → Bool
 longEnough ed1 x = true
 longEnough ed2 x = ifThere (λ w. leb (covered x) (residues w)) (sequenceIn x)
 

@@ -5,14 +5,14 @@ use mathlib.Core.Bool.{Bool, not, _&&_}
 use mathlib.Core.List.{List, [], _∷_, _++_}
 use lib.Dec.{leb, ltb}
 use lib.ListN.{length}
-use Rattle.lang.specs.Parts.{Opt, silent, written, items, flat, Such, wordOf}
+use Rattle.lang.specs.Parts.{Opt, silent, written, optText, items, flat, Such, wordOf}
 use Rattle.lang.specs.Mark.{Mark, Part, marksOf}
 use Rattle.rules.specs.Bytes.{bytes}
 use Rattle.rules.specs.Numbers.{From, numberText}
 use Rattle.rules.specs.Decimals.{Decimal, decimalText, digitCount}
 use Rattle.rules.specs.Texts.{bracedText, bracketText}
 use Rattle.rules.specs.Formulas.{Written, FormulaUnit, plain, labelled, unitText, Formula, formulaText}
-use Rattle.rules.specs.Ions.{Ion, series, internal, immonium, precursor, reference, named, composed, smiles, unknown, ionText}
+use Rattle.rules.specs.Ions.{SpelledIon, series, internal, immonium, precursor, reference, named, composed, smiles, unknown, ionText}
 use Rattle.rules.specs.Losses.{signText, Lost, lost-formula, lost-name, Loss, lossText}
 use Rattle.rules.specs.Isotopes.{Shift, shiftText, Specific, specificText, Isotopes, no-isotope, plain-isotope, average-isotope, specific-isotopes, isotopesText}
 use Rattle.rules.specs.Adducts.{Added, added-formula, electron, addedText, Item, itemText, adductText}
@@ -120,10 +120,10 @@ unitMarks i (labelled a s c) at =
 abbrev pub formulaPart : Formula Written → Part
 formulaPart f = part (formulaText f) (rowMarks unitText unitMarks 0 (items f))
 
-abbrev pub ionParts : Ion Written → List Part
+abbrev pub ionParts : SpelledIon → List Part
 ionParts (series s n t) = bare (wordOf s) ∷ numberPart maxPosition n ∷ optPart (closedPart bracedText) t ∷ []
-ionParts (internal m n t) =
-    bare (bytes "m") ∷ numberPart maxPosition m ∷ bare (bytes ":") ∷ numberPart maxPosition n ∷ optPart (closedPart bracedText) t ∷ []
+ionParts (internal c m n t) =
+    bare (bytes "m") ∷ bare (optText wordOf c) ∷ numberPart maxPosition m ∷ bare (bytes ":") ∷ numberPart maxPosition n ∷ optPart (closedPart bracedText) t ∷ []
 ionParts (immonium a m) = bare (bytes "I") ∷ bare (a .val ∷ []) ∷ optPart (closedPart bracketText) m ∷ []
 ionParts precursor = []
 ionParts (reference n) = bare (bytes "r") ∷ closedPart bracketText n ∷ []

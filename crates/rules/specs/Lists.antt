@@ -6,6 +6,7 @@ use mathlib.Core.List.{List, [], _∷_, _++_}
 use lib.Dec.{T}
 use Rattle.lang.specs.Parts.{flat}
 use Rattle.lang.specs.Order.{Each}
+use Rattle.rules.specs.Editions.{LineEdition}
 use Rattle.rules.specs.Answers.{Answer}
 use Rattle.rules.specs.RowAnswers.{lacks, ReadsRow}
 
@@ -23,8 +24,8 @@ pub data RowsOf : List ℕ → List (List ℕ) → Type 0 where
 abbrev pub listText : List (List ℕ) → List ℕ
 listText rows = flat (λ row. row ++ feed) rows
 
--- the answers to a list: to each row what it gets alone
-pub record ReadsList (list : List ℕ) (room : ℕ) (answers : List Answer) : Type 0 where
+-- the answers to a list, in an edition of lines: to each row what it gets alone
+pub record ReadsList (l : LineEdition) (list : List ℕ) (room : ℕ) (answers : List Answer) : Type 0 where
   pub rows : List (List ℕ)
   pub are : RowsOf list rows
-  pub each : Each (λ row a. ReadsRow row room a) rows answers
+  pub each : Each (λ row a. ReadsRow l row room a) rows answers

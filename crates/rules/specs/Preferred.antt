@@ -1,5 +1,5 @@
--- Document 01, "One table, several spellings": the preferred spelling. It leaves out each 1 that may be left out, writes the 0 before
--- the point of a confidence (document 02, M-102), and puts losses,
+-- Document 01, "One table, several spellings": the preferred spelling. It leaves out each 1 that may be left out, and the letters yb
+-- (document 02, M-113), writes the 0 before the point of a confidence (M-102), and puts losses,
 -- and adduct items, in order of their text, so shortened, after sign and count. Assumes nothing.
 use Prim.Native.Nat.{ℕ, _+_}
 use mathlib.Core.Bool.{Bool, true, false}
@@ -9,6 +9,7 @@ use Rattle.lang.specs.Parts.{Opt, silent, written}
 use Rattle.lang.specs.Order.{lexLe}
 use Rattle.rules.specs.Numbers.{From, Number}
 use Rattle.rules.specs.Formulas.{Written}
+use Rattle.rules.specs.Ions.{Letters, Cleavage}
 use Rattle.rules.specs.Losses.{Sign, minus, plus, Loss, lostText, lostMap}
 use Rattle.rules.specs.Adducts.{Item, addedText, addedMap}
 use Rattle.rules.specs.Confidences.{in-full}
@@ -18,6 +19,10 @@ use Rattle.rules.specs.Lines.{Spelling, lineText}
 -- a 1 is left out
 abbrev pub shortened : Number → Written
 shortened n = elim (leb (n .value) 1) [ true ↦ silent | false ↦ written n ]
+
+-- yb is left out
+abbrev pub shortenedCut : Cleavage → Letters
+shortenedCut c = elim (eqb (c .which) 4) [ true ↦ silent | false ↦ written c ]
 
 -- ---- the order
 
@@ -57,9 +62,9 @@ itemLe x y = lexLe (itemKey x) (itemKey y)
 
 -- ---- the spelling of a table, whose losses and adduct items stand in order
 
--- an annotation of a table, each 1 left out that may be, and its confidence in full
+-- an annotation of a table, each 1 and each yb left out, and its confidence in full
 abbrev pub shortenedAnnotation : TableAnnotation → SpelledAnnotation
-shortenedAnnotation a = annotationMap shortened in-full a
+shortenedAnnotation a = annotationMap shortened shortenedCut in-full a
 
 abbrev pub preferredSpelling : List TableAnnotation → Spelling
 preferredSpelling t = map shortenedAnnotation t

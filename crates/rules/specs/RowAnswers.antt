@@ -1,4 +1,4 @@
--- Document 02, M-101 and M-112: what reading, writing and converting a row answer, and every byte of the output. Assumes nothing.
+-- Document 02, M-101, M-112 and M-113: what reading, writing and converting a row answer, and every byte of the output. Assumes nothing.
 use Prim.Native.Nat.{ℕ, _+_, _-_, _<_, _≤_}
 use mathlib.Core.Path.{_≡_}
 use mathlib.Core.Bool.{Bool, true, false, not, _&&_}
@@ -6,12 +6,13 @@ use mathlib.Core.List.{List, [], _∷_, _++_}
 use lib.Dec.{T, eqb}
 use lib.ListN.{length}
 use Rattle.rules.specs.Decimals.{Decimal, decimalText}
+use Rattle.rules.specs.Lines.{within}
 use Rattle.rules.specs.Limits as Limits
 use Rattle.rules.specs.Limits.{maxLine}
 use Rattle.rules.specs.Preferred.{preferred, preferredSpelling}
 use Rattle.rules.specs.Stored.{stores}
 use Rattle.rules.specs.Answers.{Answer, refuses, Delivers, Reads, ReadsForm, Sound, Holds}
-use Rattle.rules.specs.Editions.{Edition, ed1, current}
+use Rattle.rules.specs.Editions.{Edition, ed1, current, LineEdition}
 use Rattle.rules.specs.Rows.{tab, Row, preferredRow, rowHeadSize, rowHead, storedRow}
 
 -- a row is at most 4,160 bytes
@@ -48,22 +49,23 @@ pub data Moves (head : List ℕ) (at room : ℕ) (line : Answer) : Answer → Ty
   refused : (line .number ≡ 0 → ⊥) → (line .number ≡ 8 → ⊥) → Moves head at room line (refuses room (line .number) (at + line .place))
 
 -- of a row with both numbers, whose third column, empty where there is none, begins at a place
-pub data ReadsThird (mz intensity : Decimal) (third : List ℕ) (at room : ℕ) : Answer → Type 0 where
-  line : {b a : Answer} → Reads third (room - rowHeadSize) b → Moves (stores (rowHead mz intensity)) at room b a → ReadsThird mz intensity third at room a
+pub data ReadsThird (l : LineEdition) (mz intensity : Decimal) (third : List ℕ) (at room : ℕ) : Answer → Type 0 where
+  line : {b a : Answer} → Reads l third (room - rowHeadSize) b → Moves (stores (rowHead mz intensity)) at room b a → ReadsThird l mz intensity third at room a
 
 -- of a row with a good m/z, behind whose tab these bytes begin at a place
-pub data ReadsIntensity (mz : Decimal) (bytes : List ℕ) (at room : ℕ) : Answer → Type 0 where
-  bad : {column third : List ℕ} {place : ℕ} → Cut bytes column third place → BadColumn column → ReadsIntensity mz bytes at room (refuses room 13 at)
+pub data ReadsIntensity (l : LineEdition) (mz : Decimal) (bytes : List ℕ) (at room : ℕ) : Answer → Type 0 where
+  bad : {column third : List ℕ} {place : ℕ} → Cut bytes column third place → BadColumn column → ReadsIntensity l mz bytes at room (refuses room 13 at)
   good : {column third : List ℕ} {place : ℕ} → Cut bytes column third place → {intensity : Decimal} → GoodColumn column intensity
-      → {a : Answer} → ReadsThird mz intensity third (at + place) room a → ReadsIntensity mz bytes at room a
+      → {a : Answer} → ReadsThird l mz intensity third (at + place) room a → ReadsIntensity l mz bytes at room a
 
-pub data ReadsRow (row : List ℕ) (room : ℕ) : Answer → Type 0 where
-  long : maxRow < length row → ReadsRow row room (refuses room 1 maxRow)
-  bad : length row ≤ maxRow → {column more : List ℕ} {place : ℕ} → Cut row column more place → BadColumn column → ReadsRow row room (refuses room 12 0)
+-- in an edition of lines
+pub data ReadsRow (l : LineEdition) (row : List ℕ) (room : ℕ) : Answer → Type 0 where
+  long : maxRow < length row → ReadsRow l row room (refuses room 1 maxRow)
+  bad : length row ≤ maxRow → {column more : List ℕ} {place : ℕ} → Cut row column more place → BadColumn column → ReadsRow l row room (refuses room 12 0)
   good : length row ≤ maxRow → {column more : List ℕ} {place : ℕ} → Cut row column more place → {mz : Decimal} → GoodColumn column mz
-      → {a : Answer} → ReadsIntensity mz more place room a → ReadsRow row room a
+      → {a : Answer} → ReadsIntensity l mz more place room a → ReadsRow l row room a
 
--- ---- writing: 9, 10, 1, 8
+-- ---- writing: 9, 10, 20, 1, 8
 
 -- stored bytes are a row: its head, and behind it a table of an edition
 pub record HoldsRow (e : Edition) (bytes : List ℕ) (r : Row) : Type 0 where
@@ -79,11 +81,15 @@ pub record TakesRow (bytes : List ℕ) (r : Row) : Type 0 where
   pub holds : HoldsRow edition bytes r
   pub also : Sound current (r .table)
 
-pub data WritesRow (bytes : List ℕ) (room : ℕ) : Answer → Type 0 where
-  no-row : ((r : Row) → TakesRow bytes r → ⊥) → WritesRow bytes room (refuses room 9 0)
-  old : (r : Row) → HoldsRow ed1 bytes r → Sound current (r .table) → WritesRow bytes room (refuses room 10 0)
-  long : (r : Row) → HoldsRow current bytes r → maxLine < length (preferred (r .table)) → WritesRow bytes room (refuses room 1 maxLine)
-  fits : (r : Row) → HoldsRow current bytes r → length (preferred (r .table)) ≤ maxLine → {a : Answer} → Delivers room (preferredRow r) a → WritesRow bytes room a
+-- in an edition of lines
+pub data WritesRow (l : LineEdition) (bytes : List ℕ) (room : ℕ) : Answer → Type 0 where
+  no-row : ((r : Row) → TakesRow bytes r → ⊥) → WritesRow l bytes room (refuses room 9 0)
+  old : (r : Row) → HoldsRow ed1 bytes r → Sound current (r .table) → WritesRow l bytes room (refuses room 10 0)
+  lettered : (r : Row) → HoldsRow current bytes r → (T (within l (preferredSpelling (r .table))) → ⊥) → WritesRow l bytes room (refuses room 20 0)
+  long : (r : Row) → HoldsRow current bytes r → T (within l (preferredSpelling (r .table))) → maxLine < length (preferred (r .table))
+      → WritesRow l bytes room (refuses room 1 maxLine)
+  fits : (r : Row) → HoldsRow current bytes r → T (within l (preferredSpelling (r .table))) → length (preferred (r .table)) ≤ maxLine
+      → {a : Answer} → Delivers room (preferredRow r) a → WritesRow l bytes room a
 
 -- ---- converting a row whose table is of edition 1: 9; then 11, 6, 8
 

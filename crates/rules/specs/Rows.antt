@@ -3,14 +3,15 @@
 use Prim.Native.Nat.{ℕ}
 use mathlib.Core.Path.{_≡_}
 use mathlib.Core.List.{List, [], _∷_, _++_}
+use lib.Dec.{T}
 use Rattle.lang.specs.Parts.{Opt, silent, written, optText}
 use Rattle.lang.specs.Order.{Each}
 use Rattle.rules.specs.Decimals.{Decimal, decimalText}
-use Rattle.rules.specs.Lines.{Spelling, lineText}
+use Rattle.rules.specs.Lines.{Spelling, lineText, within}
 use Rattle.rules.specs.Preferred.{preferredSpelling}
 use Rattle.rules.specs.Fields.{Table, Says}
 use Rattle.rules.specs.Stored.{Field, u8, u16, u64, stores, stored}
-use Rattle.rules.specs.Editions.{current}
+use Rattle.rules.specs.Editions.{LineEdition, current}
 
 abbrev pub tab : List ℕ
 tab = 9 ∷ []
@@ -47,9 +48,10 @@ pub record SaysRow (s : RowSpelling) (r : Row) : Type 0 where
   pub intensity : s .intensity ≡ r .intensity
   pub table : Each Says (annotations (s .third)) (r .table)
 
--- some spelling of the bytes means the row
-pub record SpellsRow (r : Row) (bytes : List ℕ) : Type 0 where
+-- some spelling of the bytes, in an edition of lines, means the row
+pub record SpellsRow (l : LineEdition) (r : Row) (bytes : List ℕ) : Type 0 where
   pub spelling : RowSpelling
+  pub edition : T (within l (annotations (spelling .third)))
   pub text : rowText spelling ≡ bytes
   pub says : SaysRow spelling r
 

@@ -1,13 +1,14 @@
 -- Document 01, "The stored table": every byte. Little-endian; unused fields zero. Assumes nothing.
 use Prim.Native.Nat.{ℕ, zero, suc, _+_, _-_, _/_, _%_, _^_}
 use mathlib.Core.Bool.{Bool, true, false}
+use lib.Dec.{eqb}
 use mathlib.Core.List.{List, [], _∷_, _++_, map}
 use lib.ListN.{length}
 use Rattle.lang.specs.Parts.{Opt, silent, written, items, flat, Such}
 use Rattle.rules.specs.Numbers.{From, Number}
 use Rattle.rules.specs.Elements.{atomicNumber}
 use Rattle.rules.specs.Formulas.{FormulaUnit, plain, labelled}
-use Rattle.rules.specs.Ions.{Ion, series, internal, immonium, precursor, reference, named, composed, smiles, unknown}
+use Rattle.rules.specs.Ions.{Cleavage, Ion, TableIon, series, internal, immonium, precursor, reference, named, composed, smiles, unknown}
 use Rattle.rules.specs.Losses.{Lost, lost-formula, lost-name, Loss}
 use Rattle.rules.specs.Isotopes.{Shift, Specific, Isotopes, no-isotope, plain-isotope, average-isotope, specific-isotopes}
 use Rattle.rules.specs.Adducts.{Added, added-formula, electron, Item}
@@ -65,9 +66,9 @@ bytesOf (written t) = t .bytes
 
 -- ---- ions
 
-abbrev pub kind : Ion Number → ℕ
+abbrev pub kind : TableIon → ℕ
 kind (series s n t) = 1
-kind (internal m n t) = 2
+kind (internal c m n t) = 2
 kind (immonium a m) = 3
 kind precursor = 4
 kind (reference n) = 5
@@ -76,7 +77,11 @@ kind (composed f) = 7
 kind (smiles t) = 8
 kind (unknown n) = 9
 
--- series 1 to 13 in the listed order, or immonium letter; position, start or label; end; text; units
+-- yb is held as 0, the others as 1 to 9 in the listed order (document 02, M-113)
+abbrev pub heldCut : Cleavage → ℕ
+heldCut c = elim (eqb (c .which) 4) [ true ↦ 0 | false ↦ c .which + 1 ]
+
+-- series 1 to 13 in the listed order, cleavage, or immonium letter; position, start or label; end; text; units
 pub record IonFields : Type 0 where
   pub letter : ℕ
   pub position : ℕ
@@ -84,9 +89,9 @@ pub record IonFields : Type 0 where
   pub text : List ℕ
   pub units : List (FormulaUnit Number)
 
-abbrev pub ionFields : Ion Number → IonFields
+abbrev pub ionFields : TableIon → IonFields
 ionFields (series s n t) = record { letter = s .which + 1; position = n .value; end = 0; text = bytesOf t; units = [] }
-ionFields (internal m n t) = record { letter = 0; position = m .value; end = n .value; text = bytesOf t; units = [] }
+ionFields (internal c m n t) = record { letter = heldCut c; position = m .value; end = n .value; text = bytesOf t; units = [] }
 ionFields (immonium a m) = record { letter = a .val; position = 0; end = 0; text = bytesOf m; units = [] }
 ionFields precursor = record { letter = 0; position = 0; end = 0; text = []; units = [] }
 ionFields (reference n) = record { letter = 0; position = 0; end = 0; text = n .bytes; units = [] }
@@ -167,7 +172,7 @@ commonFields a =
     ∷ u8 (length (a .losses)) ∷ u8 (length (isotopeRecords (a .isotopes))) ∷ u8 (length (a .adduct)) ∷ u8 0 ∷ []
 
 -- how many residues its sequence has, 0 without one (document 02, M-105)
-abbrev pub residueCount : {Free : Type 0} → Ion Free → ℕ
+abbrev pub residueCount : {Free Cut : Type 0} → Ion Free Cut → ℕ
 residueCount x = valueOr0 (λ t. residues (t .bytes)) (sequenceIn x)
 
 -- those that an edition adds behind them

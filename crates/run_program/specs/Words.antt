@@ -9,6 +9,10 @@ use Rattle.rules.specs.Bytes.{bytes}
 abbrev pub helpWord : List ℕ
 helpWord = bytes "--help"
 
+-- the argument that asks for lines of the second edition
+abbrev pub secondWord : List ℕ
+secondWord = bytes "--second"
+
 -- r tells whether two words are the same
 pub record Tells (r : Bool) (a b : List ℕ) : Type 0 where
   pub same : r ≡ true → a ≡ b

@@ -1,15 +1,21 @@
 // How each program begins and ends: what it says of its arguments, and of what the system refused. What the system hands over and
-// takes cannot be stated: `was_asked`, `show`, `explain`, `refuse`, `finish` and `fail` are proved safe and ending, and the others state their answers.
+// takes cannot be stated: `was_asked`, `asked_lines`, `show`, `explain`, `refuse`, `finish` and `fail` are proved safe and ending, `only_word` states no more
+// than that it counts bytes of its buffer, and the others state their answers.
 ghost use mathlib.Core.List.{_++_};
+ghost use Rattle.io.specs.Counts.{Counts};
 ghost use Rattle.put_bytes.specs.Puts.{Put};
-ghost use Rattle.run_program.specs.Words.{Tells, helpWord};
+ghost use Rattle.run_program.specs.Words.{Tells, helpWord, secondWord};
 use io_lines::Failed;
 use io_lines::Stream;
 use io_lines::flush;
 use libc::STDERR_FILENO;
 use libc::STDOUT_FILENO;
 use put_bytes::put_run;
+use scan_line::Lines;
 use slices::first_of;
+
+// Longer than each word that a program takes.
+const WORD: usize = 16;
 
 // What a program reads or writes: lines of annotations, or rows of a peak list.
 pub enum Input {
@@ -17,16 +23,18 @@ pub enum Input {
     Rows,
 }
 
-// Whether the program was given arguments, which are answered then: `--help` alone by what the program does and, where its answers have
-// such numbers, what the numbers of refusal mean; all others by a line on standard error.
+// Whether the program was given arguments that are answered: `--help` alone by what the program does and, where its answers have
+// such numbers, what the numbers of refusal mean; all others by a line on standard error. `--second` alone is not answered: see `asked_lines`.
 pub fn was_asked(name: &[u8], help: &[u8], numbered: bool) -> bool {
-    let words = os::arg_count();
-    if words < 2 {
+    if os::arg_count() < 2 {
         return false;
     }
-    let mut word = [0u8; 8];
-    let n = os::arg(1, &mut word);
-    if words < 3 && is_help(&word[..n]) {
+    let mut word = [0u8; WORD];
+    let n = only_word(&mut word);
+    if is_second(&word[..n]) {
+        return false;
+    }
+    if is_help(&word[..n]) {
         show(name, help, numbered);
     } else {
         refuse(name);
@@ -34,10 +42,37 @@ pub fn was_asked(name: &[u8], help: &[u8], numbered: bool) -> bool {
     true
 }
 
+// The edition of the lines that the program reads or writes: the second where the one argument is `--second`, and else the first.
+pub fn asked_lines() -> Lines {
+    let mut word = [0u8; WORD];
+    let n = only_word(&mut word);
+    if is_second(&word[..n]) {
+        return Lines::Second;
+    }
+    Lines::First
+}
+
+// The program's argument where it has one alone, at the start of a buffer, and its length; 0, which is no word, where it has none or more
+// than one, and where the argument is longer than the buffer.
+fn only_word(word: &mut [u8]) -> usize
+    ensures { λ r. ⌜ Counts r (now (word .exit)) ⌝ }
+{
+    if os::arg_count() != 2 {
+        return 0;
+    }
+    os::arg(1, word)
+}
+
 fn is_help(word: &[u8]) -> bool
     ensures { λ r. ⌜ Tells r (now (word .entry)) helpWord ⌝ }
 {
     check::same(word, b"--help")
+}
+
+fn is_second(word: &[u8]) -> bool
+    ensures { λ r. ⌜ Tells r (now (word .entry)) secondWord ⌝ }
+{
+    check::same(word, b"--second")
 }
 
 fn show(name: &[u8], help: &[u8], numbered: bool) {
@@ -73,6 +108,8 @@ number  when                                                    place, in bytes 
 11      a sequence is outside the plain form                    first byte of that annotation
 12      the m/z of a row is no decimal within its bounds        0
 13      the intensity of a row is none                          its first byte
+20      a stored table with letters, to be written as a line    0
+        of the first edition
 
 In a row that is read, places are counted from the row's start.
 ",
@@ -84,7 +121,7 @@ fn refuse(name: &[u8]) {
     let n = join(
         &mut text,
         name,
-        b": takes no arguments but --help, which explains it\n",
+        b": takes no arguments but --second, for lines of the second edition, or --help, which explains it\n",
     );
     io::write_all(STDERR_FILENO, first_of(&text, n));
 }

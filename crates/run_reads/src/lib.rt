@@ -21,6 +21,7 @@ use read_line::read_by;
 use read_row::read_row_by;
 use run_program::Input;
 use run_program::finish;
+use scan_line::Lines;
 use slices::part;
 
 // The bytes of the stored row of a row that is read.
@@ -30,10 +31,10 @@ const MAX_STORED_ROW: usize = ROW_HEAD_SIZE + MAX_TABLE;
 // any table that is read; a line feed.
 const ANSWER: usize = 64 + 2 * MAX_STORED_ROW;
 
-// All lines, for the program of this name. Where they are sized, each begins with the length of its output, a number of at most 21,392, and a blank; else the output
+// All lines, of an edition, for the program of this name. Where they are sized, each begins with the length of its output, a number of at most 21,392, and a blank; else the output
 // is as long as any stored row needs.
-pub fn answer_lines(name: &[u8], input: Input, sized: bool) {
-    let machine = scan_line::machine();
+pub fn answer_lines(name: &[u8], lines: Lines, input: Input, sized: bool) {
+    let machine = scan_line::machine(lines);
     let mut buf = io::large_buffer();
     let mut out = io::large_buffer();
     let mut table = [0u8; MAX_STORED_ROW];

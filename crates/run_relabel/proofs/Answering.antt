@@ -8,6 +8,7 @@ use lib.Dec.{eqb}
 use lib.ListN.{length, take, drop, length-take, length-drop, length-append}
 use lib.Seq.{length-take-le, take-at, take-add, sets-eq}
 use borrow.Author.Tests.{eqb-true, eqb-false}
+use Rattle.rules.specs.Editions.{LineEdition}
 use Rattle.rules.specs.RowAnswers.{maxRow}
 use Rattle.put_bytes.specs.Puts.{Put}
 use Rattle.put_bytes.proofs.Putting.{put-length, put-place}
@@ -51,7 +52,7 @@ stands-then {d} {e} {f} {l} {m} {at} x y =
       same = y .same ∙ x .same;
     }
 
-module _ {input : Input} {line d e : List ℕ} {at : ℕ} {a : Answer} (s : Spelled input line d at e a) (room : at + (maxRow + 1) ≤ length d) (same : length e ≡ length d) where
+module _ {l : LineEdition} {input : Input} {line d e : List ℕ} {at : ℕ} {a : Answer} (s : Spelled l input line d at e a) (room : at + (maxRow + 1) ≤ length d) (same : length e ≡ length d) where
   short : a .len ≤ maxRow
   short = omega (arith, s .len, relabels-roomy (s .answers .relabels) .result)
 
@@ -105,19 +106,19 @@ module _ {input : Input} {line d e : List ℕ} {at : ℕ} {a : Answer} (s : Spel
       let y = told-stands h g t in
       stands-then y (put-stands p (omega (arith, y .behind, y .same, text-short h g)))
 
-pub answered-by : {input : Input} {w line d e f x : List ℕ} {end n : ℕ} {a : Answer} {s t r : Stream} → Roomed (length d) (maxRow + 1) s t → maxRow + 1 ≤ length d
+pub answered-by : {l : LineEdition} {input : Input} {w line d e f x : List ℕ} {end n : ℕ} {a : Answer} {s t r : Stream} → Roomed (length d) (maxRow + 1) s t → maxRow + 1 ≤ length d
     → w ≡ line → length e ≡ length d → a .number < 2 ^ 64 → a .place < 2 ^ 64
-    → Spelled input w d (t .waiting) e a → AnswerPut e (t .waiting) a f end → Put f end (10 ∷ []) x n → r ≡ waitingOf t n → Answered input line s d x r
-answered-by {input} {d = d} {x = x} {s = s} {t = v} roomed room i same h g y t q e =
+    → Spelled l input w d (t .waiting) e a → AnswerPut e (t .waiting) a f end → Put f end (10 ∷ []) x n → r ≡ waitingOf t n → Answered l input line s d x r
+answered-by {l} {input} {d = d} {x = x} {s = s} {t = v} roomed room i same h g y t q e =
     let p = room-at roomed in
     let fits = room-fits (length d) (s .waiting) (maxRow + 1) room in
     let z = line-stands y (omega (arith, p)) same h g t q in
-    let l = answerLine (y .answer) in
+    let text = answerLine (y .answer) in
     record {
       answer = y .answer;
-      answers = subst (λ (w : List ℕ). Answers input w (y .answer)) i (y .answers);
+      answers = subst (λ (w : List ℕ). Answers l input w (y .answer)) i (y .answers);
       room = v;
       roomed = roomed;
-      waits = e ∙ ap (waitingOf v) (z .behind ∙ ap (λ (k : ℕ). k + length l) p);
-      stands = ap (λ (w : Stream). take (w .waiting) x) e ∙ z .is ∙ ap (λ (k : ℕ). take k d ++ l) p;
+      waits = e ∙ ap (waitingOf v) (z .behind ∙ ap (λ (k : ℕ). k + length text) p);
+      stands = ap (λ (w : Stream). take (w .waiting) x) e ∙ z .is ∙ ap (λ (k : ℕ). take k d ++ text) p;
     }

@@ -6,6 +6,7 @@ use native.Mathlib.Omega.{arith}
 use lib.ListN.{length, take, replicate, length-append, length-replicate}
 use lib.Seq.{take-append-seam}
 use Rattle.rules.specs.Limits.{maxLine, maxAnnotations}
+use Rattle.rules.specs.Editions.{LineEdition}
 use Rattle.rules.specs.Answers.{Answer, refuses, gives, Delivers, no-room, done, Writes}
 use Rattle.rules.specs.RowAnswers.{maxRow, WritesRow}
 use Rattle.lines.specs.Relabels.{Relabels, refused, relabelled}
@@ -50,17 +51,19 @@ module _ {room room′ : ℕ} (larger : room ≤ room′) where
   delivers-also (no-room h) n = absurd (n refl)
   delivers-also {w} (done h) n = gives-also room room′ w (done (omega arith))
 
-  writes-also : {bytes : List ℕ} {a : Answer} → Writes bytes room a → (a .number ≡ 8 → ⊥) → Also (Writes bytes room′) a
+  writes-also : {l : LineEdition} {bytes : List ℕ} {a : Answer} → Writes l bytes room a → (a .number ≡ 8 → ⊥) → Also (Writes l bytes room′) a
   writes-also (Writes.no-table h) n = refuses-also room room′ (Writes.no-table h)
   writes-also (Writes.old t h o) n = refuses-also room room′ (Writes.old t h o)
-  writes-also (Writes.long t h l) n = refuses-also room room′ (Writes.long t h l)
-  writes-also (Writes.fits t h l d) n = also-as (λ b y. Writes.fits t h l y) (delivers-also d n)
+  writes-also (Writes.lettered t h i) n = refuses-also room room′ (Writes.lettered t h i)
+  writes-also (Writes.long t h i s) n = refuses-also room room′ (Writes.long t h i s)
+  writes-also (Writes.fits t h i s d) n = also-as (λ b y. Writes.fits t h i s y) (delivers-also d n)
 
-  writes-row-also : {bytes : List ℕ} {a : Answer} → WritesRow bytes room a → (a .number ≡ 8 → ⊥) → Also (WritesRow bytes room′) a
+  writes-row-also : {l : LineEdition} {bytes : List ℕ} {a : Answer} → WritesRow l bytes room a → (a .number ≡ 8 → ⊥) → Also (WritesRow l bytes room′) a
   writes-row-also (WritesRow.no-row h) n = refuses-also room room′ (WritesRow.no-row h)
   writes-row-also (WritesRow.old r h o) n = refuses-also room room′ (WritesRow.old r h o)
-  writes-row-also (WritesRow.long r h l) n = refuses-also room room′ (WritesRow.long r h l)
-  writes-row-also (WritesRow.fits r h l d) n = also-as (λ b y. WritesRow.fits r h l y) (delivers-also d n)
+  writes-row-also (WritesRow.lettered r h i) n = refuses-also room room′ (WritesRow.lettered r h i)
+  writes-row-also (WritesRow.long r h i s) n = refuses-also room room′ (WritesRow.long r h i s)
+  writes-row-also (WritesRow.fits r h i s d) n = also-as (λ b y. WritesRow.fits r h i s y) (delivers-also d n)
 
 -- ---- within its room
 
@@ -78,19 +81,21 @@ delivers-roomy {room} {w} (done h) =
     let z = length-append w (replicate (room - length w) 0) in
     record { all = omega (arith, z, length-replicate {A = ℕ} (room - length w) 0); result = h }
 
-writes-roomy : {bytes : List ℕ} {room : ℕ} {a : Answer} → Writes bytes room a → Roomy room a
+writes-roomy : {l : LineEdition} {bytes : List ℕ} {room : ℕ} {a : Answer} → Writes l bytes room a → Roomy room a
 writes-roomy {room = room} (Writes.no-table h) = refuses-roomy room 9 0
 writes-roomy {room = room} (Writes.old t h o) = refuses-roomy room 10 0
-writes-roomy {room = room} (Writes.long t h l) = refuses-roomy room 1 maxLine
-writes-roomy (Writes.fits t h l d) = delivers-roomy d
+writes-roomy {room = room} (Writes.lettered t h i) = refuses-roomy room 20 0
+writes-roomy {room = room} (Writes.long t h i s) = refuses-roomy room 1 maxLine
+writes-roomy (Writes.fits t h i s d) = delivers-roomy d
 
-writes-row-roomy : {bytes : List ℕ} {room : ℕ} {a : Answer} → WritesRow bytes room a → Roomy room a
+writes-row-roomy : {l : LineEdition} {bytes : List ℕ} {room : ℕ} {a : Answer} → WritesRow l bytes room a → Roomy room a
 writes-row-roomy {room = room} (WritesRow.no-row h) = refuses-roomy room 9 0
 writes-row-roomy {room = room} (WritesRow.old r h o) = refuses-roomy room 10 0
-writes-row-roomy {room = room} (WritesRow.long r h l) = refuses-roomy room 1 maxLine
-writes-row-roomy (WritesRow.fits r h l d) = delivers-roomy d
+writes-row-roomy {room = room} (WritesRow.lettered r h i) = refuses-roomy room 20 0
+writes-row-roomy {room = room} (WritesRow.long r h i s) = refuses-roomy room 1 maxLine
+writes-row-roomy (WritesRow.fits r h i s d) = delivers-roomy d
 
-pub relabels-roomy : {input : Input} {line : List ℕ} {room : ℕ} {a : Answer} → RelabelsAs input line room a → Roomy room a
+pub relabels-roomy : {l : LineEdition} {input : Input} {line : List ℕ} {room : ℕ} {a : Answer} → RelabelsAs l input line room a → Roomy room a
 relabels-roomy {room = room} (a-line (refused {a} r n)) = refuses-roomy room (a .number) (a .place)
 relabels-roomy (a-line (relabelled r n w)) = writes-roomy w
 relabels-roomy {room = room} (a-row (RelabelsRow.refused {a} r n)) = refuses-roomy room (a .number) (a .place)
@@ -99,16 +104,16 @@ relabels-roomy (a-row (RelabelsRow.relabelled r n w)) = writes-row-roomy w
 -- ---- read and written
 
 -- a byte more for each annotation is enough, and so is what a row may have
-pub relabels-enough : {input : Input} (line : List ℕ) {room : ℕ} {a : Answer} → RelabelsAs input line room a
+pub relabels-enough : {l : LineEdition} {input : Input} (line : List ℕ) {room : ℕ} {a : Answer} → RelabelsAs l input line room a
     → min (length line + maxAnnotations) maxRow ≤ room → a .number ≡ 8 → ⊥
 relabels-enough line (a-line r) large = relabel-enough line r (λ h. omega arith)
 relabels-enough line (a-row r) large = relabel-row-enough r large
 
-answers-by : {input : Input} {line : List ℕ} {a : Answer} → RelabelsAs input line maxRow a → Answers input line a
+answers-by : {l : LineEdition} {input : Input} {line : List ℕ} {a : Answer} → RelabelsAs l input line maxRow a → Answers l input line a
 answers-by {line = line} r = record { relabels = r; enough = relabels-enough line r (omega arith) }
 
-pub relabels-also : {input : Input} {line : List ℕ} {room : ℕ} {a : Answer} → room ≤ maxRow → RelabelsAs input line room a → (a .number ≡ 8 → ⊥)
-    → Also (Answers input line) a
+pub relabels-also : {l : LineEdition} {input : Input} {line : List ℕ} {room : ℕ} {a : Answer} → room ≤ maxRow → RelabelsAs l input line room a → (a .number ≡ 8 → ⊥)
+    → Also (Answers l input line) a
 relabels-also {room = room} large (a-line (refused r n)) h = refuses-also room maxRow (answers-by (a-line (refused r n)))
 relabels-also large (a-line (relabelled r n w)) h = also-as (λ b y. answers-by (a-line (relabelled r n y))) (writes-also large w h)
 relabels-also {room = room} large (a-row (RelabelsRow.refused r n)) h = refuses-also room maxRow (answers-by (a-row (RelabelsRow.refused r n)))

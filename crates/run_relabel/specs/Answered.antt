@@ -7,6 +7,7 @@ use lib.Dec.{eqb}
 use lib.ListN.{length, take}
 use Rattle.rules.specs.RowAnswers.{maxRow}
 use Rattle.rules.specs.Answers.{Answer}
+use Rattle.rules.specs.Editions.{LineEdition}
 use Rattle.answers.specs.Delivered.{refusedOf}
 use Rattle.io_lines.specs.declared.Stream.{Stream}
 use Rattle.io_lines.specs.Streams.{waitingOf, roomOf, Roomed}
@@ -26,11 +27,11 @@ answerLine a = answerText a ++ (10 ∷ [])
 abbrev pub placeIn : List ℕ → Stream → ℕ
 placeIn d s = roomOf (length d) (s .waiting) (maxRow + 1)
 
--- output d is e, and s is r: the answer to a line waits behind what waited, or alone where that was written; where it could not be
+-- output d is e, and s is r: the answer to a line, in an edition of lines, waits behind what waited, or alone where that was written; where it could not be
 -- written the stream is stopped
-pub record Answered (input : Input) (line : List ℕ) (s : Stream) (d e : List ℕ) (r : Stream) : Type 0 where
+pub record Answered (l : LineEdition) (input : Input) (line : List ℕ) (s : Stream) (d e : List ℕ) (r : Stream) : Type 0 where
   pub answer : Answer
-  pub answers : Answers input line answer
+  pub answers : Answers l input line answer
   pub room : Stream
   pub roomed : Roomed (length d) (maxRow + 1) s room
   pub waits : r ≡ waitingOf room (placeIn d s + length (answerLine answer))

@@ -24,7 +24,7 @@ use Rattle.read_line.specs.Readings.{tableOver, spelledOver}
 use Rattle.read_line.specs.Back.{readsTo, few, zeros}
 use Rattle.write_table.specs.declared.Wanted.{Wanted}
 use Rattle.write_table.specs.declared.Wanted.the-variants.{Line, Table}
-use Rattle.write_table.specs.Writings.{editionFor, firstNumber, handedOf, foundOf, foundIn, longestPrinted, answerOf}
+use Rattle.write_table.specs.Writings.{editionFor, firstNumber, handedOf, unheldNumber, judgedFor, foundOf, foundIn, longestPrinted, answerOf}
 use Rattle.answers.specs.Behind.{capped}
 use Rattle.write_row.specs.Writings.{behindOf, headOf, writeRowOf}
 use Rattle.run_writes.specs.declared.Task.{Task}
@@ -72,7 +72,7 @@ unfolding foundIn foundOf
 found-fits wanted machine most scratch w table room =
     let e = editionOf (editionFor wanted table) in
     either (ltb most (length w)) (refused room 9 0)
-    (either (readsTo e (scannedBy machine w) scratch w table) (handed-fits wanted e w room) (refused room 9 0))
+    (either (readsTo e (scannedBy machine w) scratch w table) (handed-fits wanted e w room) (refused room (unheldNumber e machine w table) 0))
 
 answer-fits : (wanted : Wanted) (machine table : List ℕ) (room : ℕ) → Fits room (answerOf wanted machine table room)
 unfolding answerOf
@@ -97,9 +97,9 @@ row-fits machine stored room = either (headOf stored .good) (behind-fits _ _ roo
 
 as-fits : (task : Task) (machine table : List ℕ) (room : ℕ) → Fits room (answerAs task machine table room)
 unfolding answerAs
-as-fits WriteTable machine table room = answer-fits Line machine table room
+as-fits WriteTable machine table room = answer-fits Line (judgedFor (editionOf (editionFor Line table)) machine) table room
 as-fits WriteRow machine table room = row-fits machine table room
-as-fits ConvertTable machine table room = answer-fits Table machine table room
+as-fits ConvertTable machine table room = answer-fits Table (judgedFor (editionOf (editionFor Table table)) machine) table room
 
 pub hex-fits : (task : Task) (machine digits : List ℕ) (tableRoom room : ℕ) → Fits room (hexOf task machine digits tableRoom room)
 unfolding hexOf

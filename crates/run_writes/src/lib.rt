@@ -26,6 +26,7 @@ use limits::MAX_ANY_TABLE;
 use limits::MAX_ROW;
 use put_bytes::clear;
 use run_program::finish;
+use scan_line::Lines;
 use slices::first_of;
 use slices::part;
 use write_row::write_row_by;
@@ -58,10 +59,10 @@ pub enum Form {
     Digits,
 }
 
-// All tables, for the program of this name. The output has as many bytes as are answered at most; or, where tables are sized, as many as a number says that
+// All tables, by lines of an edition, for the program of this name. The output has as many bytes as are answered at most; or, where tables are sized, as many as a number says that
 // stands before each, with a blank behind it, if these are fewer.
-pub fn answer_tables(name: &[u8], task: Task, form: Form, sized: bool) {
-    let machine = scan_line::machine();
+pub fn answer_tables(name: &[u8], lines: Lines, task: Task, form: Form, sized: bool) {
+    let machine = scan_line::machine(lines);
     let mut buf = [0u8; BUFFER];
     let mut out = [0u8; WAITING];
     let mut table = [0u8; TABLE];

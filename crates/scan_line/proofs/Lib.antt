@@ -1,4 +1,6 @@
 pub mod Cells
+pub mod Letters
+pub mod Editions
 pub mod Walks
 pub mod Moves
 pub mod Scans

@@ -4,7 +4,6 @@ use mathlib.Core.Path.{_≡_, sym, ap, ap₂, _∙_}
 use mathlib.Core.List.{List, _∷_}
 use native.Mathlib.Omega.{arith}
 use native.Mathlib.Numerals.{add-one}
-use lib.Dec.{leb}
 use lib.ListN.{length, getD, drop, drop-of-length-le}
 use lib.Seq.{drop-cons}
 use borrow.Author.Tests.{lt-ltb, le-ltb, le-leb, lt-leb}
@@ -12,10 +11,10 @@ use Rattle.lang.specs.Re.{inC}
 use Rattle.lang.specs.Scan.{moved}
 use Rattle.lang.proofs.Moved.{moved-le}
 use Rattle.rules.specs.Texts.{nameBrackets}
-use Rattle.shape.specs.Tables.{states, deeps, size}
+use Rattle.shape.specs.Tables.{states, size}
 use Rattle.scan_line.specs.declared.Progress.{Progress}
 use Rattle.scan_line.specs.declared.Stand.{Stand}
-use Rattle.scan_line.specs.Steps.{stepBy, moveBy, standOf, standing, runBy, takenBy}
+use Rattle.scan_line.specs.Steps.{deepAt, stepBy, moveBy, standOf, standing, runBy, takenBy}
 
 -- a list from its byte i on
 pub from-byte : (l : List ℕ) (i : ℕ) → i < length l → drop i l ≡ getD l i 0 ∷ drop (i + 1) l
@@ -25,12 +24,12 @@ module _ (m : List ℕ) where
   -- one byte goes one deeper at most
   pub move-le : (q d b : ℕ) → moveBy m q d b .1 ≤ d + 1
   unfolding moveBy
-  move-le q d b = moved-le (leb deeps q) (inC (nameBrackets .opens) b) (inC (nameBrackets .closes) b) q d (stepBy m q b)
+  move-le q d b = moved-le (deepAt q) (inC (nameBrackets .opens) b) (inC (nameBrackets .closes) b) q d (stepBy m q b)
 
   -- machines that step alike move alike
   pub moves-alike : (n : List ℕ) (q d b : ℕ) → stepBy m q b ≡ stepBy n q b → moveBy m q d b ≡ moveBy n q d b
   unfolding moveBy
-  moves-alike n q d b e = ap (moved (leb deeps q) (inC (nameBrackets .opens) b) (inC (nameBrackets .closes) b) q d) e
+  moves-alike n q d b e = ap (moved (deepAt q) (inC (nameBrackets .opens) b) (inC (nameBrackets .closes) b) q d) e
 
   -- one byte more: it goes on, or stops
   pub run-on : (q d at b : ℕ) (w : List ℕ) → moveBy m q d b .0 < states → runBy m q d at (b ∷ w) ≡ runBy m (moveBy m q d b .0) (moveBy m q d b .1) (at + 1) w

@@ -4,29 +4,43 @@ use Prim.Native.Nat.{ℕ, _+_, _*_, _^_}
 use mathlib.Core.Bool.{Bool, cond, _&&_}
 use mathlib.Core.List.{List, [], _∷_}
 use lib.Dec.{ltb, leb, eqb}
-use lib.ListN.{length, getD}
+use lib.ListN.{length, getD, set}
 use Rattle.lang.specs.Re.{inC}
 use Rattle.lang.specs.Parts.{flat}
 use Rattle.lang.specs.Scan.{moved}
+use Rattle.rules.specs.Editions.{LineEdition, first-lines, second-lines}
 use Rattle.rules.specs.Stored.{little}
 use Rattle.rules.specs.Texts.{nameBrackets}
-use Rattle.shape.specs.Tables.{states, deeps, kinds, rowsAt, endsAt, size, packed}
+use Rattle.shape.specs.Tables.{states, deeps, flats, kinds, rowsAt, endsAt, size, xAt, yAt, zAt, packed}
 use Rattle.scan_line.specs.declared.Progress.{Progress}
 use Rattle.scan_line.specs.declared.Stand.{Stand}
 use Rattle.scan_line.specs.declared.Verdict.{Verdict}
 use Rattle.scan_line.specs.declared.Verdict.the-variants.{Fine, Short, Stray}
 
--- the bytes of the machine that decides shapes
-unfoldable pub machineBytes : List ℕ
-machineBytes = flat (little 8) packed
+-- the bytes of the machine that decides shapes of the second edition of lines
+unfoldable pub secondBytes : List ℕ
+secondBytes = flat (little 8) packed
+
+-- those of each edition: in the first no letter goes on behind the `m` of an internal ion
+unfoldable pub machineBytes : LineEdition → List ℕ
+machineBytes first-lines = set (set (set secondBytes xAt states) yAt states) zAt states
+machineBytes second-lines = secondBytes
+
+-- a letter goes on behind the `m` of an internal ion
+unfoldable pub takesLetters : List ℕ → Bool
+takesLetters m = ltb xAt (length m) && ltb (getD m xAt 0) states
 
 -- from state q by the byte b, as the table has it
 unfoldable pub stepBy : List ℕ → ℕ → ℕ → ℕ
 stepBy m q b = getD m (rowsAt + q * kinds + getD m b 0) 0
 
--- with d brackets more open inside a name than state q says: from `deeps` on those that open and close are counted, and no row is needed for each depth
+-- a bracket is open inside a name
+abbrev pub deepAt : ℕ → Bool
+deepAt q = leb deeps q && ltb q flats
+
+-- with d brackets more open inside a name than state q says: in a deep state those that open and close are counted, and no row is needed for each depth
 unfoldable pub moveBy : List ℕ → ℕ → ℕ → ℕ → ℕ × ℕ
-moveBy m q d b = moved (leb deeps q) (inC (nameBrackets .opens) b) (inC (nameBrackets .closes) b) q d (stepBy m q b)
+moveBy m q d b = moved (deepAt q) (inC (nameBrackets .opens) b) (inC (nameBrackets .closes) b) q d (stepBy m q b)
 
 abbrev pub standOf : ℕ × ℕ → Stand
 standOf p = record { state = p .0; depth = p .1 }

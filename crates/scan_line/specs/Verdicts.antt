@@ -2,6 +2,7 @@
 use Prim.Native.Nat.{ℕ}
 use mathlib.Core.List.{List}
 use lib.ListN.{length}
+use Rattle.rules.specs.Editions.{LineEdition}
 use Rattle.rules.specs.Lines.{Judged}
 use Rattle.scan_line.specs.declared.Verdict.{Verdict}
 use Rattle.scan_line.specs.declared.Verdict.the-variants.{Fine, Short, Stray}
@@ -16,6 +17,6 @@ placeOf line Fine = 0
 placeOf line Short = length line
 placeOf line (Stray k) = k
 
--- the verdict is what the rules say of the line
-abbrev pub JudgedBy : List ℕ → Verdict → Type 0
-JudgedBy line v = Judged line (numberOf v) (placeOf line v)
+-- the verdict is what the rules say of the line, in an edition of lines
+abbrev pub JudgedBy : LineEdition → List ℕ → Verdict → Type 0
+JudgedBy l line v = Judged l line (numberOf v) (placeOf line v)

@@ -3,20 +3,31 @@
 ghost use mathlib.Core.Path.{_≡_};
 ghost use Prim.Native.Nat.{_+_, _<_, _≤_, _^_};
 ghost use lib.ListN.{length};
-ghost use Rattle.shape.specs.Tables.{states, deeps, size};
-ghost use Rattle.scan_line.specs.Steps.{machineBytes, stepBy, moveBy, standOf, endsBy, standing, takenBy, verdictBy, scannedBy};
+ghost use Rattle.shape.specs.Tables.{states, deeps, flats, size};
+ghost use Rattle.scan_line.specs.Lines.{linesIn};
+ghost use Rattle.scan_line.specs.Steps.{secondBytes, machineBytes, takesLetters, stepBy, moveBy, standOf, endsBy, standing, takenBy, verdictBy, scannedBy};
 ghost use Rattle.scan_line.specs.Verdicts.{JudgedBy};
 
 mod tables;
 
 use crate::tables::DEEPS;
 use crate::tables::ENDS_AT;
+use crate::tables::FLATS;
 use crate::tables::KINDS;
 use crate::tables::PACKED;
 use crate::tables::ROWS_AT;
 use crate::tables::SIZE;
 use crate::tables::STATES;
+use crate::tables::X_AT;
+use crate::tables::Y_AT;
+use crate::tables::Z_AT;
 use put_bytes::put_words;
+
+// The editions of lines: document 01's, and that of document 02 (M-113), in which an internal ion may have letters behind its `m`.
+pub enum Lines {
+    First,
+    Second,
+}
 
 // What the shape of a line is.
 pub enum Verdict {
@@ -28,14 +39,40 @@ pub enum Verdict {
     Stray(usize),
 }
 
-// The bytes of the machine: the class of each byte, a row for each state, a mark for each state in which a line may end.
-pub fn machine() -> [u8; SIZE]
-    ensures { λ r. ⌜ r ≡ machineBytes ⌝ }
+// The bytes of the machine of the second edition: the class of each byte, a row for each state, a mark for each state in which a line may end.
+fn second_machine() -> [u8; SIZE]
+    ensures { λ r. ⌜ r ≡ secondBytes ⌝ }
 {
     let words = PACKED;
     let mut bytes = [0u8; SIZE];
     put_words(&mut bytes, 0, &words);
     bytes
+}
+
+// The bytes of the machine of an edition. That of the first is the second's where no letter goes on behind the `m` of an internal ion.
+pub fn machine(lines: Lines) -> [u8; SIZE]
+    ensures { λ r. ⌜ r ≡ machineBytes (linesIn lines) ⌝ }
+{
+    let mut bytes = second_machine();
+    match lines {
+        Lines::First => {
+            bytes[X_AT] = STATES as u8;
+            bytes[Y_AT] = STATES as u8;
+            bytes[Z_AT] = STATES as u8;
+            bytes
+        }
+        Lines::Second => bytes,
+    }
+}
+
+// Whether a machine is that of the second edition: a letter goes on behind the `m` of an internal ion.
+pub fn takes_letters(machine: &[u8]) -> bool
+    ensures { λ r. ⌜ r ≡ takesLetters (now (machine .entry)) ⌝ }
+{
+    if machine.len() <= X_AT {
+        return false;
+    }
+    machine[X_AT] < STATES as u8
 }
 
 // The state after a byte, as the table has it; at least `STATES` where no shape goes on with it.
@@ -55,7 +92,7 @@ struct Stand {
 
 // Where it stands after a byte inside a bracket of a name. Brackets that open and close in there are counted: a state for each depth would not be few.
 fn step_inside(machine: &[u8], q: usize, d: usize, b: u8) -> Stand
-    requires { ⌜ (size ≤ length (now machine)) × ((deeps ≤ q) × ((q < states) × (d + 1 < 2 ^ 64))) ⌝ }
+    requires { ⌜ (size ≤ length (now machine)) × ((deeps ≤ q) × ((q < flats) × (d + 1 < 2 ^ 64))) ⌝ }
     ensures { λ r. ⌜ r ≡ standOf (moveBy (now (machine .entry)) q d b) ⌝ }
 {
     if b == b'[' {
@@ -93,7 +130,13 @@ fn step(machine: &[u8], q: usize, d: usize, b: u8) -> Stand
             depth: d,
         };
     }
-    step_inside(machine, q, d, b)
+    if q < FLATS {
+        return step_inside(machine, q, d, b);
+    }
+    Stand {
+        state: next(machine, q, b),
+        depth: d,
+    }
 }
 
 // Whether a line may end in a state.
@@ -195,9 +238,9 @@ pub fn scan_by(machine: &[u8], line: &[u8]) -> Verdict
 }
 
 // The shape of a line of any bytes and any length. Whoever has many lines makes the machine once, and calls `scan_by`.
-pub fn scan(line: &[u8]) -> Verdict
-    ensures { λ r. ⌜ JudgedBy (now (line .entry)) r ⌝ }
+pub fn scan(lines: Lines, line: &[u8]) -> Verdict
+    ensures { λ r. ⌜ JudgedBy (linesIn lines) (now (line .entry)) r ⌝ }
 {
-    let made = machine();
+    let made = machine(lines);
     scan_by(&made, line)
 }

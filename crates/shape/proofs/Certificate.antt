@@ -1,4 +1,4 @@
--- The machine's certificate, computed: each row of its tables leads where the grammar's derivatives do, each class has bytes that
+-- The certificate of the machine of the second edition of lines, computed: each row of its tables leads where the grammar's derivatives do, each class has bytes that
 -- the grammar does not tell apart, each state goes on to some line and has a line's end where the tables say so, in the deep states
 -- and in no other one bracket of a name is open and nothing else goes on, and no line has two trees. Assumes nothing.
 use mathlib.Core.Path.{refl}

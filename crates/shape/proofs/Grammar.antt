@@ -9,7 +9,7 @@ use Rattle.lang.proofs.Names.{headRe}
 use Rattle.lang.proofs.NestedNames.{pairedRe, nestedRe}
 use Rattle.rules.specs.Bytes.{bytes, _to_, digit, capital, letter, textByte, nameByte}
 use Rattle.rules.specs.Elements.{symbols}
-use Rattle.rules.specs.Ions.{seriesNames}
+use Rattle.rules.specs.Ions.{seriesNames, cleavageNames}
 use Rattle.rules.specs.Texts.{nameBrackets}
 
 abbrev pub word : List ℕ → Re
@@ -81,10 +81,14 @@ formulaRe = someRe unitRe
 
 -- ---- the parts of an annotation
 
-abbrev pub ionRe : Re
-ionRe =
+-- the letters of an internal ion, which may be left out; the first edition of lines has `eps` in their place
+abbrev pub lettersRe : Re
+lettersRe = optRe (litsRe (map bytes cleavageNames))
+
+abbrev pub ionRe : Re → Re
+ionRe letters =
     alt (seq (litsRe (map bytes seriesNames)) (seq numberRe (optRe (bracesRe textRe))))
-    (alt (seq (word (bytes "m")) (seq numberRe (seq (word (bytes ":")) (seq numberRe (optRe (bracesRe textRe))))))
+    (alt (seq (word (bytes "m")) (seq letters (seq numberRe (seq (word (bytes ":")) (seq numberRe (optRe (bracesRe textRe)))))))
     (alt (seq (word (bytes "I")) (seq (cls capital) (optRe (bracketsRe modificationRe))))
     (alt (word (bytes "p"))
     (alt (seq (word (bytes "r")) (bracketsRe nameRe))
@@ -126,15 +130,15 @@ deviationRe = seq (word (bytes "/")) (seq (optRe (word (bytes "-"))) (seq decima
 abbrev pub confidenceRe : Re
 confidenceRe = seq (word (bytes "*")) (alt decimalRe pointRe)
 
-abbrev pub annotationRe : Re
-annotationRe =
-    seq (optRe (word (bytes "&"))) (seq (optRe analyteRe) (seq ionRe (seq (star lossRe) (seq isotopesRe (seq adductRe
+abbrev pub annotationRe : Re → Re
+annotationRe letters =
+    seq (optRe (word (bytes "&"))) (seq (optRe analyteRe) (seq (ionRe letters) (seq (star lossRe) (seq isotopesRe (seq adductRe
     (seq (optRe chargeRe) (seq (optRe deviationRe) (optRe confidenceRe))))))))
 
 -- ---- lines
 
-abbrev pub nextRe : Re
-nextRe = seq (word (bytes ",")) annotationRe
+abbrev pub nextRe : Re → Re
+nextRe letters = seq (word (bytes ",")) (annotationRe letters)
 
-abbrev pub lineRe : Re
-lineRe = alt eps (seq annotationRe (star nextRe))
+abbrev pub lineRe : Re → Re
+lineRe letters = alt eps (seq (annotationRe letters) (star (nextRe letters)))

@@ -2,9 +2,12 @@ pub mod Grammar
 pub mod TableMachine
 pub mod Rows
 pub mod Certificate
+pub mod FirstRows
+pub mod FirstCertificate
 pub mod MeansNumbers
 pub mod MeansNames
 pub mod MeansParts
 pub mod MeansLine
+pub mod LineBytes
 pub mod OneSpelling
 pub mod Unambiguous

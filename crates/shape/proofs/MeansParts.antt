@@ -11,11 +11,11 @@ use Rattle.rules.specs.Numbers.{Number}
 use Rattle.rules.specs.Texts.{Text, Name, LossName, Modification, bracedText}
 use Rattle.rules.specs.Elements.{symbols, Symbol}
 use Rattle.rules.specs.Formulas.{Written, writtenText, FormulaUnit, plain, labelled, unitText, Formula, formulaText}
-use Rattle.rules.specs.Ions.{seriesNames, Series, Ion, series, internal, immonium, precursor, reference, named, composed, smiles, unknown, ionText}
+use Rattle.rules.specs.Ions.{seriesNames, Series, cleavageNames, Letters, Ion, SpelledIon, series, internal, immonium, precursor, reference, named, composed, smiles, unknown, ionText}
 use Rattle.rules.specs.Losses.{Sign, minus, plus, signText, Lost, lost-formula, lost-name, lostText, Loss, lossText}
 use Rattle.rules.specs.Isotopes.{Shift, shiftText, Specific, specificText, Isotopes, no-isotope, plain-isotope, average-isotope, specific-isotopes, isotopesText}
 use Rattle.rules.specs.Adducts.{Added, added-formula, electron, addedText, Item, itemText, adductText}
-use Rattle.shape.proofs.Grammar.{word, someRe, numberRe, bracesRe, bracketsRe, textRe, lossNameRe, symbolRe, unitRe, formulaRe, ionRe, signRe, lossRe, shiftRe, specificRe, isotopesRe, itemRe, adductRe}
+use Rattle.shape.proofs.Grammar.{word, someRe, numberRe, bracesRe, bracketsRe, textRe, lossNameRe, symbolRe, unitRe, formulaRe, lettersRe, ionRe, signRe, lossRe, shiftRe, specificRe, isotopesRe, itemRe, adductRe}
 use Rattle.shape.proofs.MeansNumbers.{means-number, means-two}
 use Rattle.shape.proofs.MeansNames.{means-text, means-name, means-loss-name, means-modification, means-closed, means-braces, means-brackets}
 
@@ -57,59 +57,76 @@ means-formula = means-some means-unit
 means-braced : Means (Opt Text) (optText bracedText) (optRe (bracesRe textRe))
 means-braced = means-opt (means-braces means-text)
 
-abbrev Ions : Type 0
-Ions =
-    (Series × (Number × Opt Text)) ⊎ ((Unit {0} × (Number × (Unit {0} × (Number × Opt Text)))) ⊎ ((Unit {0} × (Byte capital × Opt Modification)) ⊎ (Unit {0}
-    ⊎ ((Unit {0} × Name) ⊎ ((Unit {0} × Text) ⊎ ((Unit {0} × Formula Written) ⊎ ((Unit {0} × Text) ⊎ (Unit {0} × Opt Number))))))))
+-- letters of any kind, each of which is spelled as one or none: what the edition of lines has behind the `m` of an internal ion
+module _ {Cut : Type 0} (up : Cut → Letters) where
+  abbrev pub lettered : Ion Written Cut → SpelledIon
+  lettered (series s n t) = series s n t
+  lettered (internal c m n t) = internal (up c) m n t
+  lettered (immonium a m) = immonium a m
+  lettered precursor = precursor
+  lettered (reference n) = reference n
+  lettered (named t) = named t
+  lettered (composed f) = composed f
+  lettered (smiles t) = smiles t
+  lettered (unknown n) = unknown n
 
-ion-to : Ion Written → Ions
-ion-to (series s n t) = inl (s, (n, t))
-ion-to (internal m n t) = inr (inl (tt, (m, (tt, (n, t)))))
-ion-to (immonium a m) = inr (inr (inl (tt, (a, m))))
-ion-to precursor = inr (inr (inr (inl tt)))
-ion-to (reference n) = inr (inr (inr (inr (inl (tt, n)))))
-ion-to (named t) = inr (inr (inr (inr (inr (inl (tt, t))))))
-ion-to (composed f) = inr (inr (inr (inr (inr (inr (inl (tt, f)))))))
-ion-to (smiles t) = inr (inr (inr (inr (inr (inr (inr (inl (tt, t))))))))
-ion-to (unknown n) = inr (inr (inr (inr (inr (inr (inr (inr (tt, n))))))))
+  abbrev Ions : Type 0
+  Ions =
+      (Series × (Number × Opt Text)) ⊎ ((Unit {0} × (Cut × (Number × (Unit {0} × (Number × Opt Text))))) ⊎ ((Unit {0} × (Byte capital × Opt Modification)) ⊎ (Unit {0}
+      ⊎ ((Unit {0} × Name) ⊎ ((Unit {0} × Text) ⊎ ((Unit {0} × Formula Written) ⊎ ((Unit {0} × Text) ⊎ (Unit {0} × Opt Number))))))))
 
-ion-from : Ions → Ion Written
-ion-from (inl p) = series (p .0) (p .1 .0) (p .1 .1)
-ion-from (inr (inl p)) = internal (p .1 .0) (p .1 .1 .1 .0) (p .1 .1 .1 .1)
-ion-from (inr (inr (inl p))) = immonium (p .1 .0) (p .1 .1)
-ion-from (inr (inr (inr (inl p)))) = precursor
-ion-from (inr (inr (inr (inr (inl p))))) = reference (p .1)
-ion-from (inr (inr (inr (inr (inr (inl p)))))) = named (p .1)
-ion-from (inr (inr (inr (inr (inr (inr (inl p))))))) = composed (p .1)
-ion-from (inr (inr (inr (inr (inr (inr (inr (inl p)))))))) = smiles (p .1)
-ion-from (inr (inr (inr (inr (inr (inr (inr (inr p)))))))) = unknown (p .1)
+  ion-to : Ion Written Cut → Ions
+  ion-to (series s n t) = inl (s, (n, t))
+  ion-to (internal c m n t) = inr (inl (tt, (c, (m, (tt, (n, t))))))
+  ion-to (immonium a m) = inr (inr (inl (tt, (a, m))))
+  ion-to precursor = inr (inr (inr (inl tt)))
+  ion-to (reference n) = inr (inr (inr (inr (inl (tt, n)))))
+  ion-to (named t) = inr (inr (inr (inr (inr (inl (tt, t))))))
+  ion-to (composed f) = inr (inr (inr (inr (inr (inr (inl (tt, f)))))))
+  ion-to (smiles t) = inr (inr (inr (inr (inr (inr (inr (inl (tt, t))))))))
+  ion-to (unknown n) = inr (inr (inr (inr (inr (inr (inr (inr (tt, n))))))))
 
-pub means-ion : Means (Ion Written) ionText ionRe
-unfolding ion-to ion-from
-means-ion =
-    means-as
-    (means-alt (means-pair (means-listed (map bytes seriesNames)) (means-pair means-number means-braced))
-    (means-alt (means-pair (means-word (bytes "m")) (means-pair means-number (means-pair (means-word (bytes ":")) (means-pair means-number means-braced))))
-    (means-alt (means-pair (means-word (bytes "I")) (means-pair (means-byte capital) (means-opt (means-brackets means-modification))))
-    (means-alt (means-word (bytes "p"))
-    (means-alt (means-pair (means-word (bytes "r")) (means-brackets means-name))
-    (means-alt (means-pair (means-word (bytes "_")) (means-braces means-text))
-    (means-alt (means-pair (means-word (bytes "f")) (means-braces means-formula))
-    (means-alt (means-pair (means-word (bytes "s")) (means-braces means-text)) (means-pair (means-word (bytes "?")) (means-opt means-number))))))))))
-    ion-to ion-from
-    (elim [ series s n t ↦ refl | internal m n t ↦ refl | immonium a m ↦ refl | precursor ↦ refl | reference n ↦ refl | named t ↦ refl | composed f ↦ refl | smiles t ↦ refl | unknown n ↦ refl ])
-    (elim [ series s n t ↦ refl | internal m n t ↦ refl | immonium a m ↦ refl | precursor ↦ refl | reference n ↦ refl | named t ↦ refl | composed f ↦ refl | smiles t ↦ refl | unknown n ↦ refl ])
-    (elim [
-      | inl p ↦ refl
-      | inr (inl p) ↦ refl
-      | inr (inr (inl p)) ↦ refl
-      | inr (inr (inr (inl p))) ↦ refl
-      | inr (inr (inr (inr (inl p)))) ↦ refl
-      | inr (inr (inr (inr (inr (inl p))))) ↦ refl
-      | inr (inr (inr (inr (inr (inr (inl p)))))) ↦ refl
-      | inr (inr (inr (inr (inr (inr (inr (inl p))))))) ↦ refl
-      | inr (inr (inr (inr (inr (inr (inr (inr p))))))) ↦ refl
-    ])
+  ion-from : Ions → Ion Written Cut
+  ion-from (inl p) = series (p .0) (p .1 .0) (p .1 .1)
+  ion-from (inr (inl p)) = internal (p .1 .0) (p .1 .1 .0) (p .1 .1 .1 .1 .0) (p .1 .1 .1 .1 .1)
+  ion-from (inr (inr (inl p))) = immonium (p .1 .0) (p .1 .1)
+  ion-from (inr (inr (inr (inl p)))) = precursor
+  ion-from (inr (inr (inr (inr (inl p))))) = reference (p .1)
+  ion-from (inr (inr (inr (inr (inr (inl p)))))) = named (p .1)
+  ion-from (inr (inr (inr (inr (inr (inr (inl p))))))) = composed (p .1)
+  ion-from (inr (inr (inr (inr (inr (inr (inr (inl p)))))))) = smiles (p .1)
+  ion-from (inr (inr (inr (inr (inr (inr (inr (inr p)))))))) = unknown (p .1)
+
+  pub means-ion : {r : Re} → Means Cut (λ c. optText wordOf (up c)) r → Means (Ion Written Cut) (λ x. ionText (lettered x)) (ionRe r)
+  unfolding ion-to ion-from
+  means-ion letters =
+      means-as
+      (means-alt (means-pair (means-listed (map bytes seriesNames)) (means-pair means-number means-braced))
+      (means-alt (means-pair (means-word (bytes "m")) (means-pair letters (means-pair means-number (means-pair (means-word (bytes ":")) (means-pair means-number means-braced)))))
+      (means-alt (means-pair (means-word (bytes "I")) (means-pair (means-byte capital) (means-opt (means-brackets means-modification))))
+      (means-alt (means-word (bytes "p"))
+      (means-alt (means-pair (means-word (bytes "r")) (means-brackets means-name))
+      (means-alt (means-pair (means-word (bytes "_")) (means-braces means-text))
+      (means-alt (means-pair (means-word (bytes "f")) (means-braces means-formula))
+      (means-alt (means-pair (means-word (bytes "s")) (means-braces means-text)) (means-pair (means-word (bytes "?")) (means-opt means-number))))))))))
+      ion-to ion-from
+      (elim [ series s n t ↦ refl | internal c m n t ↦ refl | immonium a m ↦ refl | precursor ↦ refl | reference n ↦ refl | named t ↦ refl | composed f ↦ refl | smiles t ↦ refl | unknown n ↦ refl ])
+      (elim [ series s n t ↦ refl | internal c m n t ↦ refl | immonium a m ↦ refl | precursor ↦ refl | reference n ↦ refl | named t ↦ refl | composed f ↦ refl | smiles t ↦ refl | unknown n ↦ refl ])
+      (elim [
+        | inl p ↦ refl
+        | inr (inl p) ↦ refl
+        | inr (inr (inl p)) ↦ refl
+        | inr (inr (inr (inl p))) ↦ refl
+        | inr (inr (inr (inr (inl p)))) ↦ refl
+        | inr (inr (inr (inr (inr (inl p))))) ↦ refl
+        | inr (inr (inr (inr (inr (inr (inl p)))))) ↦ refl
+        | inr (inr (inr (inr (inr (inr (inr (inl p))))))) ↦ refl
+        | inr (inr (inr (inr (inr (inr (inr (inr p))))))) ↦ refl
+      ])
+
+-- the second edition's letters
+pub means-letters : Means Letters (optText wordOf) lettersRe
+means-letters = means-opt (means-listed (map bytes cleavageNames))
 
 -- ---- losses
 

@@ -13,6 +13,7 @@ use io_lines::room;
 use numbers::put_number;
 use put_bytes::put_run;
 use put_bytes::put8;
+use run_program::asked_lines;
 use run_program::finish;
 use run_program::was_asked;
 use scan_line::Progress;
@@ -34,12 +35,14 @@ Standard output has one answer a line:
   fine       the line has the shape
   2 PLACE    a stray byte: the line does not begin any shape; so many bytes of it do
   3 LENGTH   the line begins a shape and is none
+
+With --second, lines are those of the second edition, in which an internal ion may have letters: mxa3:6.
 ",
         false,
     ) {
         return;
     }
-    let machine = scan_line::machine();
+    let machine = scan_line::machine(asked_lines());
     let mut buf = io::large_buffer();
     let mut out = io::large_buffer();
     all(b"shapes", &machine, &mut buf, &mut out);

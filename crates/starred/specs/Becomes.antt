@@ -6,6 +6,7 @@ use mathlib.Core.List.{List, [], _∷_}
 use mathlib.Core.Logic.{_↔_}
 use lib.ListN.{length}
 use Rattle.rules.specs.Bytes.{bytes}
+use Rattle.rules.specs.Editions.{LineEdition}
 use Rattle.rules.specs.Answers.{Answer, refuses, Delivers, Reads, Writes}
 
 infix 70 _is_
@@ -21,16 +22,16 @@ pub record Row : Type 0 where
 abbrev pub _is_ : String → Becomes → Row
 line is what = record { line = line; what = what }
 
--- whatever the room of the output, the answer is this refusal and no other
+-- in each edition of lines (document 02, M-113), whatever the room of the output, the answer is this refusal and no other
 abbrev pub RefusedAs : String → ℕ → ℕ → Type 0
-RefusedAs line number place = (room : ℕ) (a : Answer) → Reads (bytes line) room a ↔ (a ≡ refuses room number place)
+RefusedAs line number place = (l : LineEdition) (room : ℕ) (a : Answer) → Reads l (bytes line) room a ↔ (a ≡ refuses room number place)
 
--- whatever the room of the output, reading the line gives the table and writing the table gives the best line, or 8 where the room is
+-- in each edition of lines, whatever the room of the output, reading the line gives the table and writing the table gives the best line, or 8 where the room is
 -- too small for it, and there is no other answer
 pub record ReadAs (line : String) (size : ℕ) (table : List ℕ) (best : String) : Type 0 where
   pub long : length table ≡ size
-  pub reads : (room : ℕ) (a : Answer) → Reads (bytes line) room a ↔ Delivers room table a
-  pub writes : (room : ℕ) (a : Answer) → Writes table room a ↔ Delivers room (bytes best) a
+  pub reads : (l : LineEdition) (room : ℕ) (a : Answer) → Reads l (bytes line) room a ↔ Delivers room table a
+  pub writes : (l : LineEdition) (room : ℕ) (a : Answer) → Writes l table room a ↔ Delivers room (bytes best) a
 
 abbrev pub Meets : String → Becomes → Type 0
 Meets line (refused number place) = RefusedAs line number place

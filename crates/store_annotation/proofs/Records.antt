@@ -5,13 +5,13 @@ use mathlib.Core.List.{List, [], _∷_, _++_}
 use lib.ListN.{length}
 use Rattle.lang.specs.Mark.{Kept, here, later, marksOf}
 use Rattle.rules.specs.Numbers.{Number}
-use Rattle.rules.specs.Ions.{ionText, ionMap, Ion, series, internal, immonium, precursor, reference, named, composed, smiles, unknown}
+use Rattle.rules.specs.Ions.{ionText, ionMap, series, internal, immonium, precursor, reference, named, composed, smiles, unknown, SpelledIon}
 use Rattle.rules.specs.Formulas.{Written}
 use Rattle.rules.specs.Losses.{Loss}
 use Rattle.rules.specs.Isotopes.{isotopesMap}
 use Rattle.rules.specs.Adducts.{Item}
 use Rattle.rules.specs.Annotations.{SpelledAnnotation}
-use Rattle.rules.specs.Fields.{filled}
+use Rattle.rules.specs.Fields.{filled, filledCut}
 use Rattle.rules.specs.Limits.{part, optPart, ionParts, analytePart, chargePart, deviationPart, confidencePart, annotationParts, annotationMarks}
 use Rattle.rules.specs.Editions.{Edition, ed1, ed2}
 use Rattle.rules.specs.Stored.{little, u8, u16, u32, stores, isotopeRecords, residueCount, commonFields, addedFields, annotationRecord}
@@ -28,9 +28,9 @@ use Rattle.store_annotation.proofs.Numbers.{analyte-told, charge-told, 
 use Rattle.store_annotation.proofs.Ions.{ion-stored}
 
 -- a table has the residues that the spelling has
-count-filled : (x : Ion Written) → residueCount (ionMap filled x) ≡ residueCount x
+count-filled : (x : SpelledIon) → residueCount (ionMap filled filledCut x) ≡ residueCount x
 count-filled (series s n t) = refl
-count-filled (internal m n t) = refl
+count-filled (internal c m n t) = refl
 count-filled (immonium c m) = refl
 count-filled precursor = refl
 count-filled (reference n) = refl

@@ -13,7 +13,7 @@ use Rattle.rules.specs.Losses.{Loss}
 use Rattle.rules.specs.Adducts.{Item}
 use Rattle.rules.specs.Isotopes.{isotopesMap}
 use Rattle.rules.specs.Annotations.{TableAnnotation, SpelledAnnotation, annotationText}
-use Rattle.rules.specs.Fields.{filled, Says}
+use Rattle.rules.specs.Fields.{filled, Says, filledCut}
 use Rattle.rules.specs.Limits.{part, ionParts, annotationParts, annotationMarks}
 use Rattle.rules.specs.Stored.{stores, unitRecord, lossRecord, itemRecord, lostUnits, lostName, addedUnits, ionFields, isotopeRecords, annotationRecord, annotationUnits, annotationTexts}
 use Rattle.rules.specs.Layout.{annotationSection, lossSection, isotopeSection, itemSection, unitSection, textSection}
@@ -133,7 +133,7 @@ module _ (edition : Edition) (a : SpelledAnnotation) (k : List ℕ) (nth end : �
       let x = adduct-is a k e i at kept in
       let p = kept-part at (annotationParts a) (kept-tail kept) (part (ionText (a .ion)) (λ at. marksOf at (ionParts (a .ion)))) (later (later here)) in
       let g : FormulaUnit Number → List ℕ = λ u. stores (unitRecord u) in
-      let us = ionFields (ionMap filled (a .ion)) .units in
+      let us = ionFields (ionMap filled filledCut (a .ion)) .units in
       let vs = flat (λ l. lostUnits (l .what)) lost in
       let ws = flat (λ x. addedUnits (x .what)) added in
       section unitSection (sym (ion-other unitSection) ∙ ion-units (a .ion) (second a k) (ionSeen a k nth end f) (p .0) (p .1)) (l .units-are) refl (x .units)
@@ -144,7 +144,7 @@ module _ (edition : Edition) (a : SpelledAnnotation) (k : List ℕ) (nth end : �
       let l = losses-are a k e i at kept in
       let x = adduct-is a k e i at kept in
       section textSection (sym (ion-other textSection) ∙ ion-name (a .ion) (second a k) (ionSeen a k nth end f)) (l .text) refl (x .text)
-      ∙ ap (λ (z : List ℕ). ionFields (ionMap filled (a .ion)) .text ++ z) (append-nil (flat (λ l. lostName (l .what)) lost))
+      ∙ ap (λ (z : List ℕ). ionFields (ionMap filled filledCut (a .ion)) .text ++ z) (append-nil (flat (λ l. lostName (l .what)) lost))
 
   first-stored : StoresRead edition a (annotationEvents edition (first a k) read)
   first-stored =

@@ -1,5 +1,6 @@
 // Each line of standard input has the form `N ROW`, and ROW is read into an output of N bytes.
 use run_program::Input;
+use run_program::asked_lines;
 use run_program::was_asked;
 
 fn main() {
@@ -12,10 +13,13 @@ perhaps a tab and a line of annotations. Lines end at line feeds, and the last m
 
 Standard output has one answer a line: the number of refusal, the place, how many bytes the stored row has, and the
 stored row in hexadecimal digits, `-` where there is none.
+
+With --second, lines of annotations are those of the second edition, in which an internal ion may have letters:
+mxa3:6.
 ",
         true,
     ) {
         return;
     }
-    run_reads::answer_lines(b"try_read_row_sized", Input::Rows, true);
+    run_reads::answer_lines(b"try_read_row_sized", asked_lines(), Input::Rows, true);
 }

@@ -1,5 +1,6 @@
 // Each line of standard input has the form `N LINE`, and LINE is read into an output of N bytes.
 use run_program::Input;
+use run_program::asked_lines;
 use run_program::was_asked;
 
 fn main() {
@@ -12,10 +13,12 @@ Lines end at line feeds, and the last may lack its own.
 
 Standard output has one answer a line: the number of refusal, the place, how many bytes the table has, and the
 table in hexadecimal digits, `-` where there is none.
+
+With --second, lines are those of the second edition, in which an internal ion may have letters: mxa3:6.
 ",
         true,
     ) {
         return;
     }
-    run_reads::answer_lines(b"try_read_sized", Input::Lines, true);
+    run_reads::answer_lines(b"try_read_sized", asked_lines(), Input::Lines, true);
 }

@@ -1,4 +1,4 @@
--- What is answered to bytes that may be a stored row is what document 02, M-101 and M-112 say. Assumes nothing.
+-- What is answered to bytes that may be a stored row is what document 02, M-101, M-112 and M-113 say. Assumes nothing.
 use Prim.Native.Nat.{ℕ, _+_, _-_, _≤_, _<_}
 use mathlib.Core.Path.{_≡_, refl, sym, ap, ap₂, _∙_, subst}
 use mathlib.Core.Bool.{Bool, true, false, cond}
@@ -13,16 +13,14 @@ use Rattle.rules.specs.Fields.{Table}
 use Rattle.rules.specs.Limits as Limits
 use Rattle.rules.specs.Limits.{maxLine}
 use Rattle.rules.specs.Preferred.{shortenedAnnotation, preferred}
+use Rattle.rules.specs.Editions.{LineEdition}
 use Rattle.rules.specs.Answers.{Answer, refuses, Delivers, no-room, done, Writes, no-table}
 use Rattle.rules.specs.Rows.{tab, Row, preferredRow, rowHeadSize}
 use Rattle.rules.specs.RowAnswers.{WritesRow, no-row}
 use Rattle.rules.proofs.RisesParts.{ion-some}
 use Rattle.put_bytes.specs.Puts.{maxPlace}
-use Rattle.scan_line.specs.Verdicts.{JudgedBy}
-use Rattle.scan_line.specs.Steps.{scannedBy}
-use Rattle.read_line.specs.Same.{allBytes}
 use Rattle.write_table.specs.Writings.{writtenOf}
-use Rattle.write_table.proofs.Right.{write-right}
+use Rattle.write_table.proofs.Right.{Lent, write-right}
 use Rattle.numbers.specs.declared.Decimal.{Decimal}
 use Rattle.numbers.specs.Making.{ruled}
 use Rattle.write_row.specs.declared.Head.{Head}
@@ -132,22 +130,21 @@ module _ (s : List ℕ) (room : ℕ) (small : room ≤ maxPlace) (h : Head) (x :
       subst (λ (w : List ℕ). Delivers room w (behindOf text (length text) room b)) (sym (labelled-text (h .mz) (h .intensity) a t))
       (delivered-line text room small short-text (preferred (a ∷ t)) (preferred-some a t) l d)
 
-  line-right : {b : Answer} → Writes (drop rowHeadSize s) (room - (length text + 1)) b → WritesRow s room (behindOf text (length text) room b)
+  line-right : {l : LineEdition} {b : Answer} → Writes l (drop rowHeadSize s) (room - (length text + 1)) b → WritesRow l s room (behindOf text (length text) room b)
   unfolding behindOf
   line-right (no-table n) = no-row (λ r g. n (r .table) (record { edition = g .edition; holds = rest-holds (g .holds); also = g .also }))
   line-right (Writes.old t g o) = WritesRow.old (meant t) (head-holds x g) o
-  line-right (Writes.long t g l) = WritesRow.long (meant t) (head-holds x g) l
-  line-right (Writes.fits t g l d) = WritesRow.fits (meant t) (head-holds x g) l (delivered t l d)
+  line-right (Writes.lettered t g n) = WritesRow.lettered (meant t) (head-holds x g) n
+  line-right (Writes.long t g w n) = WritesRow.long (meant t) (head-holds x g) w n
+  line-right (Writes.fits t g w n d) = WritesRow.fits (meant t) (head-holds x g) w n (delivered t n d)
 
 -- ---- any bytes
 
-pub write-row-right : (machine s : List ℕ) (room : ℕ) → room ≤ maxPlace → Bytes s
-    → ((l : List ℕ) → allBytes l ≡ true → length l ≤ maxPlace → JudgedBy l (scannedBy machine l))
-    → WritesRow s room (writeRowOf machine s room)
+pub write-row-right : (l : LineEdition) (machine s : List ℕ) (room : ℕ) → room ≤ maxPlace → Bytes s → Lent l machine → WritesRow l s room (writeRowOf machine s room)
 unfolding writeRowOf
-write-row-right machine s room small y judged = by (headOf s .good) refl
+write-row-right l machine s room small y lent = by (headOf s .good) refl
   where
-    by : (t : Bool) → headOf s .good ≡ t → WritesRow s room (let columns = columnsText (headOf s .mz) (headOf s .intensity) in
+    by : (t : Bool) → headOf s .good ≡ t → WritesRow l s room (let columns = columnsText (headOf s .mz) (headOf s .intensity) in
         let to = capped 0 (length columns) in
         cond t (behindOf columns to room (writtenOf machine (drop rowHeadSize s) (room - capped to 1))) (refuses room 9 0))
     by true e =
@@ -155,5 +152,5 @@ write-row-right machine s room small y judged = by (headOf s .good) refl
         let n = length (columnsText (headOf s .mz) (headOf s .intensity)) in
         let z = short-text s room small (headOf s) x in
         let p : capped 0 n ≡ n = capped-is 0 n (omega arith) ∙ omega arith in
-        rw (p, capped-is n 1 (omega arith)) (line-right s room small (headOf s) x (write-right machine (drop rowHeadSize s) (room - (n + 1)) judged))
+        rw (p, capped-is n 1 (omega arith)) (line-right s room small (headOf s) x (write-right l machine (drop rowHeadSize s) (room - (n + 1)) lent))
     by false e = no-row (λ r g. subst T (sym (head-there (g .holds)) ∙ e) tt)

@@ -1,4 +1,4 @@
-// A stored row of a peak list, written. Document 02, M-101 and M-112: writing tests 9, 10, 1, 8.
+// A stored row of a peak list, written. Document 02, M-101, M-112 and M-113: writing tests 9, 10, 20, 1, 8.
 ghost use mathlib.Core.Path.{_≡_};
 ghost use Prim.Native.Nat.{_-_};
 ghost use lib.ListN.{length};

@@ -13,9 +13,9 @@ use Rattle.put_bytes.proofs.Putting.{over-zeros}
 use Rattle.rules.specs.Answers as Rules
 use Rattle.rules.specs.Answers.{refuses}
 use Rattle.rules.specs.Editions as rules
-use Rattle.rules.specs.Editions.{current}
+use Rattle.rules.specs.Editions.{current, ed2, first-lines, second-lines}
 use Rattle.rules.specs.Largest.{maxAnyTable}
-use Rattle.scan_line.specs.Steps.{scannedBy}
+use Rattle.scan_line.specs.Steps.{machineBytes, takesLetters, scannedBy}
 use Rattle.layout.specs.declared.Edition.{Edition}
 use Rattle.layout.specs.declared.Edition.the-variants.{First, Second}
 use Rattle.layout.specs.Editions.{editionOf}
@@ -25,7 +25,7 @@ use Rattle.answers.specs.Delivered.{answered, refusedOf}
 use Rattle.read_line.specs.Readings.{keepsAll}
 use Rattle.read_line.specs.Back.{readsTo, few, zeros}
 use Rattle.answers.specs.Delivered.{lineOver}
-use Rattle.write_table.specs.Writings.{editionFor, firstNumber, lineOf, handedOf, foundOf, foundAs, foundIn, longestPrinted, answerOf}
+use Rattle.write_table.specs.Writings.{editionFor, firstNumber, unheldNumber, lineOf, handedOf, foundOf, foundAs, foundIn, longestPrinted, answerOf, judgedFirst, judgedFor, answerFor}
 use Rattle.write_table.specs.declared.Wanted.{Wanted}
 
 -- ---- the line of a table, by its edition
@@ -46,16 +46,54 @@ module _ (w : List ℕ) (room : ℕ) {e : Edition} {out : List ℕ} {r : Answer}
   pub line-second : e ≡ Second → answered r out ≡ lineOver w room → answered r out ≡ lineOf (editionOf e) w room
   line-second p q = q ∙ ap (λ (e : Edition). lineOf (editionOf e) w room) (sym p)
 
+-- ---- not found to be the line of a table
+
+module _ (machine w table : List ℕ) {d : Edition} where
+  pub unheld-first : d ≡ First → 9 ≡ unheldNumber (editionOf d) machine w table
+  unheld-first q = ap (λ (d : Edition). unheldNumber (editionOf d) machine w table) (sym q)
+
+  module _ (q : d ≡ Second) {b : Bool} (l : b ≡ takesLetters machine) where
+    second-is : {n : ℕ} → n ≡ unheldNumber ed2 machine w table → n ≡ unheldNumber (editionOf d) machine w table
+    second-is e = e ∙ ap (λ (d : Edition). unheldNumber (editionOf d) machine w table) (sym q)
+
+    pub unheld-second : b ≡ true → 9 ≡ unheldNumber (editionOf d) machine w table
+    unheld-second t = second-is (rw (sym l ∙ t))
+
+    module _ (f : b ≡ false) {h : Bool} (r : h ≡ readsTo current (scannedBy (machineBytes second-lines) w) (zeros maxAnyTable) w table) where
+      pub unheld-letters : h ≡ true → 20 ≡ unheldNumber (editionOf d) machine w table
+      unheld-letters t = second-is (rw (sym l ∙ f, sym r ∙ t))
+
+      pub unheld-none : h ≡ false → 9 ≡ unheldNumber (editionOf d) machine w table
+      unheld-none t = second-is (rw (sym l ∙ f, sym r ∙ t))
+
+-- ---- the machine that judges
+
+module _ (wanted : Wanted) (machine table : List ℕ) (room : ℕ) {b : Bool} (l : b ≡ takesLetters machine) {a : Rules.Answer} where
+  pub judged-lent : b ≡ false → a ≡ answerOf wanted machine table room → a ≡ answerOf wanted (judgedFirst machine) table room
+  unfolding judgedFirst
+  judged-lent f q = q ∙ rw (sym l ∙ f)
+
+  pub judged-first : b ≡ true → {m : List ℕ} → m ≡ machineBytes first-lines → a ≡ answerOf wanted m table room → a ≡ answerOf wanted (judgedFirst machine) table room
+  unfolding judgedFirst
+  judged-first t i q = q ∙ ap (λ (m : List ℕ). answerOf wanted m table room) i ∙ rw (sym l ∙ t)
+
+module _ (wanted : Wanted) (machine table : List ℕ) (room : ℕ) {d : Edition} (i : d ≡ editionFor wanted table) {a : Rules.Answer} where
+  pub for-first : d ≡ First → a ≡ answerOf wanted (judgedFirst machine) table room → a ≡ answerFor wanted machine table room
+  for-first q x = x ∙ ap (λ (d : Edition). answerOf wanted (judgedFor (editionOf d) machine) table room) (sym q ∙ i)
+
+  pub for-second : d ≡ Second → a ≡ answerOf wanted machine table room → a ≡ answerFor wanted machine table room
+  for-second q x = x ∙ ap (λ (d : Edition). answerOf wanted (judgedFor (editionOf d) machine) table room) (sym q ∙ i)
+
 -- ---- found to be the line of a table
 
 module _ (wanted : Wanted) (e : rules.Edition) (w : List ℕ) (room : ℕ) {out : List ℕ} {r : Answer} where
-  pub found-not : (held : Bool) → held ≡ false → out ≡ replicate room 0 → r ≡ refusedOf 9 0 → answered r out ≡ foundOf wanted e held w room
+  pub found-not : (held : Bool) {number n : ℕ} → held ≡ false → number ≡ n → out ≡ replicate room 0 → r ≡ refusedOf number 0 → answered r out ≡ foundOf wanted e held n w room
   unfolding foundOf
-  found-not held n z f = rw (n, f, z)
+  found-not held h i z f = rw (h, f, z, i)
 
-  pub found-held : (held : Bool) → held ≡ true → answered r out ≡ handedOf wanted e w room → answered r out ≡ foundOf wanted e held w room
+  pub found-held : (held : Bool) (n : ℕ) → held ≡ true → answered r out ≡ handedOf wanted e w room → answered r out ≡ foundOf wanted e held n w room
   unfolding foundOf
-  found-held held n q = q ∙ rw n
+  found-held held n h q = q ∙ rw h
 
 module _ (wanted : Wanted) (machine : List ℕ) (most : ℕ) (scratch w table : List ℕ) (room : ℕ) where
   pub found-long : {out : List ℕ} {r : Answer} → most < length w → out ≡ replicate room 0 → r ≡ refusedOf 9 0
@@ -65,11 +103,11 @@ module _ (wanted : Wanted) (machine : List ℕ) (most : ℕ) (scratch w table : 
 
   -- s is what stands in the buffer, and d the edition that the bytes have to be of
   pub found-within : {s : List ℕ} {d : Edition} {held : Bool} {a : Rules.Answer} → s ≡ w → length w ≤ most → d ≡ editionFor wanted table
-      → held ≡ readsTo (editionOf d) (scannedBy machine s) scratch s table → a ≡ foundOf wanted (editionOf d) held s room
+      → held ≡ readsTo (editionOf d) (scannedBy machine s) scratch s table → a ≡ foundOf wanted (editionOf d) held (unheldNumber (editionOf d) machine s table) s room
       → a ≡ foundIn wanted machine most scratch w table room
   unfolding foundIn
   found-within {s} {d} {held} q h i e f =
-      f ∙ ap (λ (b : Bool). foundOf wanted (editionOf d) b s room) e ∙ ap (λ (d : Edition). foundAs wanted (editionOf d) machine scratch s table room) i
+      f ∙ ap (λ (b : Bool). foundOf wanted (editionOf d) b (unheldNumber (editionOf d) machine s table) s room) e ∙ ap (λ (d : Edition). foundAs wanted (editionOf d) machine scratch s table room) i
       ∙ ap (λ (l : List ℕ). foundAs wanted (editionOf (editionFor wanted table)) machine scratch l table room) q ∙ rw (le-ltb most (length w) h)
 
 -- ---- printed into a buffer

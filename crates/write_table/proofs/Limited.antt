@@ -10,16 +10,16 @@ use Rattle.rules.specs.Bytes.{bytes}
 use Rattle.rules.specs.Numbers.{From}
 use Rattle.rules.specs.Texts.{bracedText, bracketText}
 use Rattle.rules.specs.Formulas.{Written, FormulaUnit, plain, labelled, unitText, unitMap, Formula, formulaMap}
-use Rattle.rules.specs.Ions.{Ion, series, internal, immonium, precursor, reference, named, composed, smiles, unknown, ionText, ionMap}
+use Rattle.rules.specs.Ions.{series, internal, immonium, precursor, reference, named, composed, smiles, unknown, ionText, ionMap, SpelledIon}
 use Rattle.rules.specs.Losses.{signText, Lost, lost-formula, lost-name, lostMap, Loss, lossText, lossMap}
 use Rattle.rules.specs.Isotopes.{Shift, Specific, Isotopes, no-isotope, plain-isotope, average-isotope, specific-isotopes, shiftText, specificText, isotopesText}
 use Rattle.rules.specs.Isotopes.{shiftMap, specificMap, isotopesMap}
 use Rattle.rules.specs.Adducts.{Added, added-formula, electron, addedMap, Item, itemText, adductText, itemMap}
 use Rattle.rules.specs.Confidences.{Confidence, meantDecimal}
 use Rattle.rules.specs.Annotations.{SpelledAnnotation, Deviation, flagText}
-use Rattle.rules.specs.Fields.{filledAnnotation, Table, filled}
-use Rattle.rules.specs.Editions.{Edition}
-use Rattle.rules.specs.Answers.{Sound}
+use Rattle.rules.specs.Fields.{filledAnnotation, Table, filled, filledCut}
+use Rattle.rules.specs.Editions.{Edition, LineEdition}
+use Rattle.rules.specs.Answers.{SoundIn}
 use Rattle.rules.specs.Limits.{maxAnnotations, maxLosses, maxIsotopes, maxItems, maxUnits, maxText, maxPosition, maxCount, maxCharge, fits}
 use Rattle.rules.specs.Limits.{bare, part, optPart, numberPart, closedPart, decimalPart, rowMarks, rowPart, unitMarks, formulaPart, ionParts, lostPart, lossParts, lossMarks}
 use Rattle.rules.specs.Limits.{shiftMarks, specificMarks, isotopesMarks, addedPart, itemParts, itemMarks, adductMarks}
@@ -76,17 +76,17 @@ unit-limited i (labelled a s c) at k =
 formula-limited : (f : Formula Written) (at : ℕ) → Kept (formulaPart f .marks at) → FormulaWithin (formulaMap filled f)
 formula-limited f at k = row-limited unitText unitMarks maxUnits (unitMap filled) UnitWithin unit-counted unit-limited (items f) at k
 
-ion-limited : (x : Ion Written) (at : ℕ) → Kept (marksOf at (ionParts x)) → IonWithin (ionMap filled x)
+ion-limited : (x : SpelledIon) (at : ℕ) → Kept (marksOf at (ionParts x)) → IonWithin (ionMap filled filledCut x)
 ion-limited (series s n t) at k =
     let keep = kept-part at (ionParts (series s n t)) k in
     let p = keep (numberPart maxPosition n) (later here) in
     let q = keep (optPart (closedPart bracedText) t) (later (later here)) in
     (number-within maxPosition n (p .0) (p .1), if-short bracedText t (q .0) (q .1))
-ion-limited (internal m n t) at k =
-    let keep = kept-part at (ionParts (internal m n t)) k in
-    let p = keep (numberPart maxPosition m) (later here) in
-    let q = keep (numberPart maxPosition n) (later (later (later here))) in
-    let r = keep (optPart (closedPart bracedText) t) (later (later (later (later here)))) in
+ion-limited (internal c m n t) at k =
+    let keep = kept-part at (ionParts (internal c m n t)) k in
+    let p = keep (numberPart maxPosition m) (later (later here)) in
+    let q = keep (numberPart maxPosition n) (later (later (later (later here)))) in
+    let r = keep (optPart (closedPart bracedText) t) (later (later (later (later (later here))))) in
     (number-within maxPosition m (p .0) (p .1), (number-within maxPosition n (q .0) (q .1), if-short bracedText t (r .0) (r .1)))
 ion-limited (immonium a m) at k =
     let p = kept-part at (ionParts (immonium a m)) k (optPart (closedPart bracketText) m) (later (later here)) in
@@ -198,7 +198,7 @@ annotation-limited i a at k =
 
 -- ---- a sound table
 
-pub table-within : {e : Edition} (t : Table) → Sound e t → Row maxAnnotations AnnotationWithin t
+pub table-within : {l : LineEdition} {e : Edition} (t : Table) → SoundIn l e t → Row maxAnnotations AnnotationWithin t
 table-within t s =
     record {
       few = table-few t s;

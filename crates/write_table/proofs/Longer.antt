@@ -5,14 +5,15 @@ use mathlib.Core.Path.{_≡_, refl, subst}
 use mathlib.Core.Bool.{Bool, true, false}
 use mathlib.Core.List.{List, [], _∷_, _++_, map}
 use native.Mathlib.Omega.{arith}
-use lib.Dec.{leb}
+use lib.Dec.{eqb, leb}
 use lib.ListN.{length, length-append}
 use Rattle.lang.specs.Parts.{Opt, silent, written, optText, optMap, Some, flat, wordOf}
 use Rattle.lang.specs.Order.{Perm, Each, none, next}
 use Rattle.rules.specs.Bytes.{bytes}
+use Rattle.rules.specs.Texts.{bracedText}
 use Rattle.rules.specs.Numbers.{Number, numberText}
 use Rattle.rules.specs.Formulas.{Written, writtenText, FormulaUnit, plain, labelled, unitText, unitMap, Formula, formulaText, formulaMap}
-use Rattle.rules.specs.Ions.{Ion, series, internal, immonium, precursor, reference, named, composed, smiles, unknown, ionText, ionMap}
+use Rattle.rules.specs.Ions.{cleavageNames, Letters, series, internal, immonium, precursor, reference, named, composed, smiles, unknown, ionText, ionMap, SpelledIon, TableIon}
 use Rattle.rules.specs.Losses.{signText, Lost, lost-formula, lost-name, lostText, lostMap, Loss, lossText, lossMap}
 use Rattle.rules.specs.Isotopes.{Shift, shiftText, shiftMap, Specific, specificText, specificMap}
 use Rattle.rules.specs.Isotopes.{Isotopes, no-isotope, plain-isotope, average-isotope, specific-isotopes, isotopesText, isotopesMap}
@@ -21,8 +22,8 @@ use Rattle.rules.specs.Decimals.{Decimal}
 use Rattle.rules.specs.Confidences.{Confidence, in-full, confidenceText, meantDecimal}
 use Rattle.rules.specs.Annotations.{TableAnnotation, SpelledAnnotation, flagText, analyteText, chargeText, deviationText, annotationText}
 use Rattle.rules.specs.Lines.{Spelling, lineText, nextText}
-use Rattle.rules.specs.Preferred.{shortenedAnnotation, shortened, preferredSpelling, preferred}
-use Rattle.rules.specs.Fields.{Table, filled, Says}
+use Rattle.rules.specs.Preferred.{shortenedAnnotation, shortened, preferredSpelling, preferred, shortenedCut}
+use Rattle.rules.specs.Fields.{Table, filled, Says, filledCut}
 use Rattle.rules.proofs.Confidences.{full-longer}
 use Rattle.rules.proofs.Totals.{total, perm-total, perm-length}
 
@@ -102,9 +103,18 @@ shorter-unit (labelled a s c) = as-long
 shorter-formula : (x : Formula Written) → NoLonger (formulaText (formulaMap shortened (formulaMap filled x))) (formulaText x)
 shorter-formula x = one-or-more unitText (unitMap filled) (unitMap shortened) shorter-unit x
 
-shorter-ion : (x : Ion Written) → NoLonger (ionText (ionMap shortened (ionMap filled x))) (ionText x)
+-- letters that say yb are left out
+shorter-letters : (c : Letters) → NoLonger (optText wordOf (shortenedCut (filledCut c))) (optText wordOf c)
+shorter-letters silent = as-long
+shorter-letters (written c) = by (eqb (c .which) 4)
+  where
+    by : (t : Bool) → NoLonger (optText (wordOf {words = map bytes cleavageNames}) (elim t [ true ↦ silent | false ↦ written c ])) (wordOf c)
+    by true = nothing (wordOf c)
+    by false = as-long
+
+shorter-ion : (x : SpelledIon) → NoLonger (ionText (ionMap shortened shortenedCut (ionMap filled filledCut x))) (ionText x)
 shorter-ion (series s n t) = as-long
-shorter-ion (internal m n t) = as-long
+shorter-ion (internal c m n t) = after (bytes "m") (before (optText wordOf (shortenedCut (filledCut c))) (optText wordOf c) (numberText m ++ (bytes ":" ++ (numberText n ++ optText bracedText t))) (shorter-letters c))
 shorter-ion (immonium a m) = as-long
 shorter-ion precursor = as-long
 shorter-ion (reference n) = as-long
@@ -149,8 +159,8 @@ shorter-item x =
 
 -- ---- the parts of an annotation, as a table has them
 
-said-ion : (x : Ion Written) (y : Ion Number) → ionMap filled x ≡ y → NoLonger (ionText (ionMap shortened y)) (ionText x)
-said-ion x y e = through (alike (λ z. ionText (ionMap shortened z)) e) (shorter-ion x)
+said-ion : (x : SpelledIon) (y : TableIon) → ionMap filled filledCut x ≡ y → NoLonger (ionText (ionMap shortened shortenedCut y)) (ionText x)
+said-ion x y e = through (alike (λ z. ionText (ionMap shortened shortenedCut z)) e) (shorter-ion x)
 
 said-losses : (l : List (Loss Written)) (m : List (Loss Number)) → Perm (map (lossMap filled) l) m
     → NoLonger (flat lossText (map (lossMap shortened) m)) (flat lossText l)
@@ -181,7 +191,7 @@ said-annotation {a} {b} s =
     let e = s .fields in
     behind (flagText (bytes "&") (b .marked)) (flagText (bytes "&") (a .marked)) (alike (flagText (bytes "&")) (e .marked))
     (behind (optText analyteText (b .analyte)) (optText analyteText (a .analyte)) (alike (optText analyteText) (e .analyte))
-    (behind (ionText (ionMap shortened (b .ion))) (ionText (a .ion)) (said-ion (a .ion) (b .ion) (e .ion))
+    (behind (ionText (ionMap shortened shortenedCut (b .ion))) (ionText (a .ion)) (said-ion (a .ion) (b .ion) (e .ion))
     (behind (flat lossText (map (lossMap shortened) (b .losses))) (flat lossText (a .losses)) (said-losses (a .losses) (b .losses) (e .losses))
     (behind (isotopesText (isotopesMap shortened (b .isotopes))) (isotopesText (a .isotopes)) (said-isotopes (a .isotopes) (b .isotopes) (e .isotopes))
     (behind (adductText (map (itemMap shortened) (b .adduct))) (adductText (a .adduct)) (said-adduct (a .adduct) (b .adduct) (e .adduct))

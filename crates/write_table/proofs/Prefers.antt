@@ -10,19 +10,19 @@ use Rattle.lang.specs.Mark.{Kept}
 use Rattle.lang.specs.Order.{Perm, same, swap, keep, then, Each, none, next}
 use Rattle.rules.specs.Numbers.{Number}
 use Rattle.rules.specs.Decimals.{Decimal}
-use Rattle.rules.specs.Ions.{Ion, series, internal, immonium, precursor, reference, named, composed, smiles, unknown, ionMap}
+use Rattle.rules.specs.Ions.{Ion, series, internal, immonium, precursor, reference, named, composed, smiles, unknown, ionMap, TableIon}
 use Rattle.rules.specs.Adducts.{Item, itemMap}
 use Rattle.rules.specs.Confidences.{meantDecimal}
 use Rattle.rules.specs.Annotations.{TableAnnotation, SpelledAnnotation, Deviation}
 use Rattle.rules.specs.Lines.{Spelling}
-use Rattle.rules.specs.Preferred.{shortenedAnnotation, shortened, preferredSpelling}
-use Rattle.rules.specs.Fields.{Table, filled, SameFields, Says}
+use Rattle.rules.specs.Preferred.{shortenedAnnotation, shortened, preferredSpelling, shortenedCut}
+use Rattle.rules.specs.Fields.{Table, filled, filledCut, SameFields, Says}
 use Rattle.rules.specs.Texts.{Text}
 use Rattle.rules.specs.Sequences.{isSequence, residues}
 use Rattle.rules.specs.Limits.{lineMarks}
 use Rattle.rules.specs.House.{isEmpty, ionRule, sequenceIn, covered, ifThere, deviationRule, confidenceOf, share, one, formed, commonRules, longEnough, annotationRules, firstFailing, firstForeign, firstBreach, firstExcess}
-use Rattle.rules.specs.Editions.{Edition, ed1, ed2}
-use Rattle.rules.specs.Answers.{Sound}
+use Rattle.rules.specs.Editions.{Edition, LineEdition, ed1, ed2}
+use Rattle.rules.specs.Answers.{SoundIn}
 use Rattle.rules.proofs.Shortened.{confidence-back}
 use Rattle.rules.proofs.FitAnnotations.{passed}
 use Rattle.rules.proofs.SoundEditions.{passes}
@@ -31,21 +31,21 @@ use Rattle.write_table.proofs.Unbroken.{line-kept}
 
 -- ---- limits
 
-pub preferred-kept : {e : Edition} (t : Table) → Sound e t → Kept (lineMarks (preferredSpelling t))
+pub preferred-kept : {l : LineEdition} {e : Edition} (t : Table) → SoundIn l e t → Kept (lineMarks (preferredSpelling t))
 preferred-kept t s = line-kept t (table-within t s)
 
--- ---- rules for one annotation do not look at free counts, nor at the order of losses and items
+-- ---- rules for one annotation do not look at free counts and letters, nor at the order of losses and items
 
-ion-rule-map : {A B : Type 0} (f : A → B) (x : Ion A) (adduct : Bool) → ionRule (ionMap f x) adduct ≡ ionRule x adduct
-ion-rule-map f (series s n t) adduct = refl
-ion-rule-map f (internal m n t) adduct = refl
-ion-rule-map f (immonium a m) adduct = refl
-ion-rule-map f precursor adduct = refl
-ion-rule-map f (reference n) adduct = refl
-ion-rule-map f (named t) adduct = refl
-ion-rule-map f (composed x) adduct = refl
-ion-rule-map f (smiles t) adduct = refl
-ion-rule-map f (unknown n) adduct = refl
+ion-rule-map : {A B C D : Type 0} (f : A → B) (g : C → D) (x : Ion A C) (adduct : Bool) → ionRule (ionMap f g x) adduct ≡ ionRule x adduct
+ion-rule-map f g (series s n t) adduct = refl
+ion-rule-map f g (internal c m n t) adduct = refl
+ion-rule-map f g (immonium a m) adduct = refl
+ion-rule-map f g precursor adduct = refl
+ion-rule-map f g (reference n) adduct = refl
+ion-rule-map f g (named t) adduct = refl
+ion-rule-map f g (composed x) adduct = refl
+ion-rule-map f g (smiles t) adduct = refl
+ion-rule-map f g (unknown n) adduct = refl
 
 empty-map : {A B : Type 0} (f : A → B) (xs : List A) → isEmpty (map f xs) ≡ isEmpty xs
 empty-map f [] = refl
@@ -58,15 +58,15 @@ empty-perm (keep p) = refl
 empty-perm (then p q) = empty-perm p ∙ empty-perm q
 
 -- the rules, of what they look at
-abbrev rulesOf : {Free : Type 0} → Ion Free → Bool → Opt Deviation → Opt Decimal → Bool
+abbrev rulesOf : {Free Cut : Type 0} → Ion Free Cut → Bool → Opt Deviation → Opt Decimal → Bool
 rulesOf x empty d c = ionRule x (not empty) && (deviationRule d && leb (confidenceOf c) one)
 
 -- the counts, filled or shortened, are not looked at
-rules-map : {A B : Type 0} (f : A → B) (x : Ion A) (xs : List (Item A)) (d : Opt Deviation) (c : Opt Decimal)
-    → rulesOf (ionMap f x) (isEmpty (map (itemMap f) xs)) d c ≡ rulesOf x (isEmpty xs) d c
-rules-map f x xs d c =
-    ap (λ (e : Bool). rulesOf (ionMap f x) e d c) (empty-map (itemMap f) xs)
-    ∙ ap (λ (r : Bool). r && (deviationRule d && leb (confidenceOf c) one)) (ion-rule-map f x (not (isEmpty xs)))
+rules-map : {A B C D : Type 0} (f : A → B) (g : C → D) (x : Ion A C) (xs : List (Item A)) (d : Opt Deviation) (c : Opt Decimal)
+    → rulesOf (ionMap f g x) (isEmpty (map (itemMap f) xs)) d c ≡ rulesOf x (isEmpty xs) d c
+rules-map f g x xs d c =
+    ap (λ (e : Bool). rulesOf (ionMap f g x) e d c) (empty-map (itemMap f) xs)
+    ∙ ap (λ (r : Bool). r && (deviationRule d && leb (confidenceOf c) one)) (ion-rule-map f g x (not (isEmpty xs)))
 
 -- of an annotation as a table has it
 abbrev tableRules : TableAnnotation → Bool
@@ -74,45 +74,45 @@ tableRules a = rulesOf (a .ion) (isEmpty (a .adduct)) (a .deviation) (a .confide
 
 rules-same : {a b : TableAnnotation} → SameFields a b → tableRules a ≡ tableRules b
 rules-same {a} {b} e =
-    ap (λ (x : Ion Number). rulesOf x (isEmpty (a .adduct)) (a .deviation) (a .confidence)) (e .ion)
+    ap (λ (x : TableIon). rulesOf x (isEmpty (a .adduct)) (a .deviation) (a .confidence)) (e .ion)
     ∙ ap (λ (x : Bool). rulesOf (b .ion) x (a .deviation) (a .confidence)) (empty-perm (e .adduct))
     ∙ ap (λ (x : Opt Deviation). rulesOf (b .ion) (isEmpty (b .adduct)) x (a .confidence)) (e .deviation)
     ∙ ap (λ (x : Opt Decimal). rulesOf (b .ion) (isEmpty (b .adduct)) (b .deviation) x) (e .confidence)
 
 common-kept : {a : SpelledAnnotation} {b : TableAnnotation} → Says a b → commonRules a ≡ commonRules (shortenedAnnotation b)
 common-kept {a} {b} s =
-    sym (rules-map filled (a .ion) (a .adduct) (a .deviation) (optMap meantDecimal (a .confidence))) ∙ rules-same (s .fields)
-    ∙ sym (rules-map shortened (b .ion) (b .adduct) (b .deviation) (b .confidence))
-    ∙ ap (rulesOf (ionMap shortened (b .ion)) (isEmpty (map (itemMap shortened) (b .adduct))) (b .deviation)) (sym (confidence-back (b .confidence)))
+    sym (rules-map filled filledCut (a .ion) (a .adduct) (a .deviation) (optMap meantDecimal (a .confidence))) ∙ rules-same (s .fields)
+    ∙ sym (rules-map shortened shortenedCut (b .ion) (b .adduct) (b .deviation) (b .confidence))
+    ∙ ap (rulesOf (ionMap shortened shortenedCut (b .ion)) (isEmpty (map (itemMap shortened) (b .adduct))) (b .deviation)) (sym (confidence-back (b .confidence)))
 
 -- ---- nor do those on its sequence, which is a text of the ion
 
-sequence-map : {A B : Type 0} (f : A → B) (x : Ion A) → (sequenceIn (ionMap f x) ≡ sequenceIn x) × (covered (ionMap f x) ≡ covered x)
-sequence-map f (series s n t) = (refl, refl)
-sequence-map f (internal m n t) = (refl, refl)
-sequence-map f (immonium a m) = (refl, refl)
-sequence-map f precursor = (refl, refl)
-sequence-map f (reference n) = (refl, refl)
-sequence-map f (named t) = (refl, refl)
-sequence-map f (composed x) = (refl, refl)
-sequence-map f (smiles t) = (refl, refl)
-sequence-map f (unknown n) = (refl, refl)
+sequence-map : {A B C D : Type 0} (f : A → B) (g : C → D) (x : Ion A C) → (sequenceIn (ionMap f g x) ≡ sequenceIn x) × (covered (ionMap f g x) ≡ covered x)
+sequence-map f g (series s n t) = (refl, refl)
+sequence-map f g (internal c m n t) = (refl, refl)
+sequence-map f g (immonium a m) = (refl, refl)
+sequence-map f g precursor = (refl, refl)
+sequence-map f g (reference n) = (refl, refl)
+sequence-map f g (named t) = (refl, refl)
+sequence-map f g (composed x) = (refl, refl)
+sequence-map f g (smiles t) = (refl, refl)
+sequence-map f g (unknown n) = (refl, refl)
 
-formed-map : (e : Edition) {A B : Type 0} (f : A → B) (x : Ion A) → formed e (ionMap f x) ≡ formed e x
-formed-map ed1 f x = refl
-formed-map ed2 f x = ap (ifThere isSequence) (sequence-map f x .0)
+formed-map : (e : Edition) {A B C D : Type 0} (f : A → B) (g : C → D) (x : Ion A C) → formed e (ionMap f g x) ≡ formed e x
+formed-map ed1 f g x = refl
+formed-map ed2 f g x = ap (ifThere isSequence) (sequence-map f g x .0)
 
-long-map : (e : Edition) {A B : Type 0} (f : A → B) (x : Ion A) → longEnough e (ionMap f x) ≡ longEnough e x
-long-map ed1 f x = refl
-long-map ed2 f x =
-    ap₂ (λ (o : Opt Text) (n : ℕ). ifThere (λ w. leb n (residues w)) o) (sequence-map f x .0) (sequence-map f x .1)
+long-map : (e : Edition) {A B C D : Type 0} (f : A → B) (g : C → D) (x : Ion A C) → longEnough e (ionMap f g x) ≡ longEnough e x
+long-map ed1 f g x = refl
+long-map ed2 f g x =
+    ap₂ (λ (o : Opt Text) (n : ℕ). ifThere (λ w. leb n (residues w)) o) (sequence-map f g x .0) (sequence-map f g x .1)
 
 form-kept : (e : Edition) {a : SpelledAnnotation} {b : TableAnnotation} → Says a b → formed e (a .ion) ≡ formed e (shortenedAnnotation b .ion)
-form-kept e {a} {b} s = sym (formed-map e filled (a .ion)) ∙ ap (formed e) (s .fields .ion) ∙ sym (formed-map e shortened (b .ion))
+form-kept e {a} {b} s = sym (formed-map e filled filledCut (a .ion)) ∙ ap (formed e) (s .fields .ion) ∙ sym (formed-map e shortened shortenedCut (b .ion))
 
 rules-kept : (e : Edition) {a : SpelledAnnotation} {b : TableAnnotation} → Says a b → annotationRules e a ≡ annotationRules e (shortenedAnnotation b)
 rules-kept e {a} {b} s =
-    ap₂ _&&_ (common-kept s) (sym (long-map e filled (a .ion)) ∙ ap (longEnough e) (s .fields .ion) ∙ sym (long-map e shortened (b .ion)))
+    ap₂ _&&_ (common-kept s) (sym (long-map e filled filledCut (a .ion)) ∙ ap (longEnough e) (s .fields .ion) ∙ sym (long-map e shortened shortenedCut (b .ion)))
 
 -- ---- a search for a place
 
@@ -124,10 +124,10 @@ all-pass test k s t (next {a = a} {b = b} {l = l} {m = m} r x) p q e =
     let h = passed (test a) (firstFailing test _ l) p e in
     passes (test (shortenedAnnotation b)) (firstFailing test _ (preferredSpelling m)) q (subst T (k a b r) (h .0)) (all-pass test k l m x _ _ (h .1))
 
-pub preferred-form : (e : Edition) (t : Table) → Sound e t → firstForeign e 0 (preferredSpelling t) ≡ silent
+pub preferred-form : (e : Edition) (t : Table) {l : LineEdition} → SoundIn l e t → firstForeign e 0 (preferredSpelling t) ≡ silent
 preferred-form e t s = all-pass (λ a. formed e (a .ion)) (λ a b. form-kept e) (s .spelling) t (s .says) 0 0 (s .form)
 
-pub preferred-rules : (e : Edition) (t : Table) → Sound e t → firstBreach e 0 (preferredSpelling t) ≡ silent
+pub preferred-rules : (e : Edition) (t : Table) {l : LineEdition} → SoundIn l e t → firstBreach e 0 (preferredSpelling t) ≡ silent
 preferred-rules e t s = all-pass (annotationRules e) (λ a b. rules-kept e) (s .spelling) t (s .says) 0 0 (s .rules)
 
 -- ---- the sum of the confidences, which are the same one by one
@@ -142,5 +142,5 @@ sum-each (next {a = a} {b = b} {l = s} {m = t} r x) m n p q i e =
     passes (leb (n + share (shortenedAnnotation b)) one) (firstExcess _ _ (preferredSpelling t)) q
     (subst (λ (y : ℕ). T (leb y one)) sum (h .0)) (sum-each x _ _ _ _ sum (h .1))
 
-pub preferred-sum : {e : Edition} (t : Table) → Sound e t → firstExcess 0 0 (preferredSpelling t) ≡ silent
+pub preferred-sum : {l : LineEdition} {e : Edition} (t : Table) → SoundIn l e t → firstExcess 0 0 (preferredSpelling t) ≡ silent
 preferred-sum t s = sum-each (s .says) 0 0 0 0 refl (s .sum)

@@ -12,7 +12,7 @@ use Rattle.rules.specs.Numbers.{From, Number}
 use Rattle.rules.specs.Decimals.{Decimal}
 use Rattle.rules.specs.Texts.{bracedText, bracketText}
 use Rattle.rules.specs.Formulas.{FormulaUnit, plain, labelled, unitText, unitMap, Formula, formulaMap}
-use Rattle.rules.specs.Ions.{Ion, series, internal, immonium, precursor, reference, named, composed, smiles, unknown, ionText, ionMap}
+use Rattle.rules.specs.Ions.{series, internal, immonium, precursor, reference, named, composed, smiles, unknown, ionText, ionMap, TableIon}
 use Rattle.rules.specs.Losses.{signText, Lost, lost-formula, lost-name, lostMap, Loss, lossText, lossMap}
 use Rattle.rules.specs.Isotopes.{Shift, Specific, Isotopes, no-isotope, plain-isotope, average-isotope, specific-isotopes, shiftText, specificText, isotopesText}
 use Rattle.rules.specs.Isotopes.{shiftMap, specificMap, isotopesMap}
@@ -20,7 +20,7 @@ use Rattle.rules.specs.Adducts.{Added, added-formula, electron, addedMap, Item,
 use Rattle.rules.specs.Confidences.{in-full}
 use Rattle.rules.specs.Annotations.{TableAnnotation, Deviation, flagText, annotationText}
 use Rattle.rules.specs.Lines.{nextText}
-use Rattle.rules.specs.Preferred.{shortenedAnnotation, shortened, preferredSpelling}
+use Rattle.rules.specs.Preferred.{shortenedAnnotation, shortened, preferredSpelling, shortenedCut}
 use Rattle.rules.specs.Fields.{Table}
 use Rattle.rules.specs.Limits.{maxAnnotations, maxLosses, maxIsotopes, maxItems, maxUnits, maxText, maxPosition, maxCount, maxCharge, fits, manyMark}
 use Rattle.rules.specs.Limits.{bare, part, optPart, numberPart, closedPart, decimalPart, rowMarks, rowPart, unitMarks, formulaPart, ionParts, lostPart, lossMarks}
@@ -120,11 +120,11 @@ formula-ok : (f : Formula Number) → FormulaWithin f → Unbroken (formulaPart 
 formula-ok f w =
     record { ok = λ at. row-kept unitText unitMarks maxUnits (unitMap shortened) UnitWithin unit-ok 0 (items f) at (omega (arith, w .few)) (w .each) }
 
-ion-ok : (x : Ion Number) → IonWithin x → AllUnbroken (ionParts (ionMap shortened x))
+ion-ok : (x : TableIon) → IonWithin x → AllUnbroken (ionParts (ionMap shortened shortenedCut x))
 ion-ok (series s n t) w = also (bare-ok _) (also (number-ok maxPosition n (w .0)) (also (if-closed-ok bracedText t (w .1)) end))
-ion-ok (internal m n t) w =
-    also (bare-ok _) (also (number-ok maxPosition m (w .0))
-    (also (bare-ok _) (also (number-ok maxPosition n (w .1 .0)) (also (if-closed-ok bracedText t (w .1 .1)) end))))
+ion-ok (internal c m n t) w =
+    also (bare-ok _) (also (bare-ok _) (also (number-ok maxPosition m (w .0))
+    (also (bare-ok _) (also (number-ok maxPosition n (w .1 .0)) (also (if-closed-ok bracedText t (w .1 .1)) end)))))
 ion-ok (immonium a m) w = also (bare-ok _) (also (bare-ok _) (also (if-closed-ok bracketText m w) end))
 ion-ok precursor w = end
 ion-ok (reference n) w = also (bare-ok _) (also (closed-ok bracketText n w) end)

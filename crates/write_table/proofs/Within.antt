@@ -12,7 +12,7 @@ use Rattle.lang.specs.Order.{Perm}
 use Rattle.rules.specs.Numbers.{From, Number}
 use Rattle.rules.specs.Decimals.{Decimal}
 use Rattle.rules.specs.Formulas.{FormulaUnit, plain, labelled, Formula}
-use Rattle.rules.specs.Ions.{Ion, series, internal, immonium, precursor, reference, named, composed, smiles, unknown}
+use Rattle.rules.specs.Ions.{series, internal, immonium, precursor, reference, named, composed, smiles, unknown, TableIon}
 use Rattle.rules.specs.Losses.{Lost, lost-formula, lost-name, Loss}
 use Rattle.rules.specs.Isotopes.{Shift, Specific, Isotopes, no-isotope, plain-isotope, average-isotope, specific-isotopes}
 use Rattle.rules.specs.Adducts.{Added, added-formula, electron, Item}
@@ -52,9 +52,9 @@ UnitWithin (labelled a s c) = AtMost maxCount a × AtMost maxCount c
 abbrev pub FormulaWithin : Formula Number → Type 0
 FormulaWithin f = Row maxUnits UnitWithin (items f)
 
-abbrev pub IonWithin : Ion Number → Type 0
+abbrev pub IonWithin : TableIon → Type 0
 IonWithin (series s n t) = AtMost maxPosition n × IfThere Short t
-IonWithin (internal m n t) = AtMost maxPosition m × (AtMost maxPosition n × IfThere Short t)
+IonWithin (internal c m n t) = AtMost maxPosition m × (AtMost maxPosition n × IfThere Short t)
 IonWithin (immonium a m) = IfThere Short m
 IonWithin precursor = Unit {0}
 IonWithin (reference n) = Short n

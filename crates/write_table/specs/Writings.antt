@@ -7,10 +7,10 @@ use lib.Dec.{ltb}
 use lib.ListN.{length}
 use Rattle.rules.specs.Answers.{Answer, refuses}
 use Rattle.rules.specs.Editions as rules
-use Rattle.rules.specs.Editions.{ed1, ed2, current}
+use Rattle.rules.specs.Editions.{ed1, ed2, current, first-lines, second-lines}
 use Rattle.rules.specs.Largest.{maxAnyTable}
 use Rattle.answers.specs.Delivered.{lineOver}
-use Rattle.scan_line.specs.Steps.{scannedBy}
+use Rattle.scan_line.specs.Steps.{machineBytes, takesLetters, scannedBy}
 use Rattle.layout.specs.declared.Edition.{Edition}
 use Rattle.layout.specs.declared.Edition.the-variants.{First}
 use Rattle.layout.specs.Editions.{editionOf}
@@ -40,13 +40,19 @@ abbrev pub handedOf : Wanted → rules.Edition → List ℕ → ℕ → Answer
 handedOf Line e w room = lineOf e w room
 handedOf Table e w room = spelledOver current (zeros room) w
 
--- a line, where it is known whether it reads to the bytes that it was printed for
-unfoldable pub foundOf : Wanted → rules.Edition → Bool → List ℕ → ℕ → Answer
-foundOf wanted e held w room = cond held (handedOf wanted e w room) (refuses room 9 0)
+-- the number for bytes that the line w, printed for them, does not read to by a machine: 20 where it does in the second edition of lines, else 9
+abbrev pub unheldNumber : rules.Edition → List ℕ → List ℕ → List ℕ → ℕ
+unheldNumber ed1 machine w table = 9
+unheldNumber ed2 machine w table =
+    cond (takesLetters machine) 9 (cond (readsTo current (scannedBy (machineBytes second-lines) w) (zeros maxAnyTable) w table) 20 9)
+
+-- a line, where it is known whether it reads to the bytes that it was printed for, and the number if it does not
+unfoldable pub foundOf : Wanted → rules.Edition → Bool → ℕ → List ℕ → ℕ → Answer
+foundOf wanted e held number w room = cond held (handedOf wanted e w room) (refuses room number 0)
 
 -- held against bytes that may be a table of an edition; the line is read again into `scratch`
 abbrev pub foundAs : Wanted → rules.Edition → List ℕ → List ℕ → List ℕ → List ℕ → ℕ → Answer
-foundAs wanted e machine scratch w table room = foundOf wanted e (readsTo e (scannedBy machine w) scratch w table) w room
+foundAs wanted e machine scratch w table room = foundOf wanted e (readsTo e (scannedBy machine w) scratch w table) (unheldNumber e machine w table) w room
 
 -- line w of a table, printed into a buffer of `most` bytes
 unfoldable pub foundIn : Wanted → List ℕ → ℕ → List ℕ → List ℕ → List ℕ → ℕ → Answer
@@ -64,8 +70,19 @@ answerOf wanted machine table room =
     (foundIn wanted machine longestPrinted (zeros maxAnyTable) w table room)
     (foundIn wanted machine few (zeros few) w table room)
 
+-- a table of edition 1 has a line of the first edition, whichever is asked for
+unfoldable pub judgedFirst : List ℕ → List ℕ
+judgedFirst machine = cond (takesLetters machine) (machineBytes first-lines) machine
+
+abbrev pub judgedFor : rules.Edition → List ℕ → List ℕ
+judgedFor ed1 machine = judgedFirst machine
+judgedFor ed2 machine = machine
+
+abbrev pub answerFor : Wanted → List ℕ → List ℕ → ℕ → Answer
+answerFor wanted machine table room = answerOf wanted (judgedFor (editionOf (editionFor wanted table)) machine) table room
+
 abbrev pub writtenOf : List ℕ → List ℕ → ℕ → Answer
-writtenOf machine table room = answerOf Line machine table room
+writtenOf machine table room = answerFor Line machine table room
 
 abbrev pub convertedOf : List ℕ → List ℕ → ℕ → Answer
-convertedOf machine table room = answerOf Table machine table room
+convertedOf machine table room = answerFor Table machine table room

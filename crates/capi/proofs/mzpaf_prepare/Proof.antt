@@ -1,52 +1,60 @@
--- `capi::mzpaf_prepare` meets its contract: the machine is put over zeros, where it fits. Assumes nothing.
-use native.Mathlib.Omega.{arith}
+-- `capi::mzpaf_prepare` meets its contract: by the number of the edition. Assumes nothing.
 use lib.ListN.{length}
-use Rattle.capi.proofs.Preparing.{too-short, enough}
+use Rattle.capi.proofs.Preparing.{first-prepared, second-prepared, none-prepared}
 use borrow.Author.Needs.{needs}
 use Rattle.capi.proofs.mzpaf_prepare.Statement.{statement}
 use Rattle.capi.proofs.mzpaf_prepare.Tie as tie
 
-clear-requires : tie.Need-clear-requires
-clear-requires c κs = search needs
-
-machine-requires : tie.Need-machine-requires
-machine-requires c κs = search needs
+put-machine-requires : tie.Need-put-machine-requires
+put-machine-requires c κs = search needs
 
 same-length : tie.Need-same-length
 same-length c = search needs
 
 returns : tie.Need-returns
 returns c =
-    let at-clear = c .before .before .before .before in
-    let n = length (at-clear .before .before .before .args .machine .now) in
-    too-short n (omega (arith, c .if1 .taken, at-clear .clear .kept .0)) (at-clear .clear .ensures)
+    let at-put = c .before .before in
+    let at-if = at-put .before .before in
+    let start = at-if .before .before in
+    first-prepared (length (start .args .machine .now)) (start .args .lines) (at-if .if1 .taken) (at-put .put-machine .ensures)
 
-slice-aggregate-put-run : tie.Need-slice-aggregate-put-run
-slice-aggregate-put-run c = search needs
-
-put-run-requires : tie.Need-put-run-requires
-put-run-requires c κs = search needs
+put-machine-requires-2 : tie.Need-put-machine-requires-2
+put-machine-requires-2 c κs = search needs
 
 same-length-2 : tie.Need-same-length-2
 same-length-2 c = search needs
 
 returns-2 : tie.Need-returns-2
 returns-2 c =
-    let at-if = c .before .before .before .before .before in
-    let at-machine = at-if .before in
-    let at-clear = at-machine .before .before .before in
-    let n = length (at-clear .before .before .before .args .machine .now) in
-    enough n (omega (arith, at-if .if1 .left, at-clear .clear .kept .0)) (at-clear .clear .ensures) (at-machine .machine2 .ensures) (c .before .before .put-run .ensures)
+    let at-put = c .before .before in
+    let at-if = at-put .before .before in
+    let start = at-if .before .before .before in
+    second-prepared (length (start .args .machine .now)) (start .args .lines) (at-if .if2 .taken) (at-put .put-machine2 .ensures)
+
+clear-requires : tie.Need-clear-requires
+clear-requires c κs = search needs
+
+same-length-3 : tie.Need-same-length-3
+same-length-3 c = search needs
+
+returns-3 : tie.Need-returns-3
+returns-3 c =
+    let at-clear = c .before .before in
+    let at-second = at-clear .before .before in
+    let at-first = at-second .before in
+    let start = at-first .before .before in
+    none-prepared (length (start .args .machine .now)) (start .args .lines) (at-first .if1 .left) (at-second .if2 .left) (at-clear .clear .ensures)
 
 pub mzpaf-prepare-spec : {M : Type 1} → statement M
 mzpaf-prepare-spec =
     tie.close
     (tie.spec
-    clear-requires
-    machine-requires
+    put-machine-requires
     same-length
     returns
-    slice-aggregate-put-run
-    put-run-requires
+    put-machine-requires-2
     same-length-2
-    returns-2)
+    returns-2
+    clear-requires
+    same-length-3
+    returns-3)

@@ -5,11 +5,10 @@ use Prim.Native.Nat.{ℕ}
 use native.Mathlib.Omega.{arith}
 use lib.ListN.{length}
 use Rattle.rules.specs.Answers.{Converts}
+use Rattle.rules.specs.Editions.{first-lines}
 use Rattle.scan_line.specs.Steps.{machineBytes}
-use Rattle.scan_line.proofs.Scans.{by-machine}
 use Rattle.write_table.specs.Writings.{convertedOf}
-use Rattle.write_table.proofs.Low.{bytes-each}
-use Rattle.write_table.proofs.Right.{convert-right}
+use Rattle.write_table.proofs.Right.{lent, convert-right}
 use borrow.Author.Needs.{needs}
 use Rattle.lines.proofs.convert.Statement.{statement}
 use Rattle.lines.proofs.convert.Tie as tie
@@ -33,7 +32,7 @@ returns c =
     let table = at-args .args .table .now in
     let room = length (at-args .args .out .now) in
     subst (Converts table room) (sym (c .before .before .convert-by .ensures ∙ ap (λ (m : List ℕ). convertedOf m table room) (at-machine .machine .ensures)))
-    (convert-right machineBytes table room (omega arith) (λ l b h. by-machine l (bytes-each l b) (omega arith)))
+    (convert-right first-lines (machineBytes first-lines) table room (omega arith) (lent first-lines))
 
 pub convert-spec : {M : Type 1} → statement M
 convert-spec =

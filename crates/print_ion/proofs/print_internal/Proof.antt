@@ -1,5 +1,6 @@
--- `print_ion::print_internal` meets its contract: five puts in a row, both numbers from the record. Assumes nothing.
+-- `print_ion::print_internal` meets its contract: six puts in a row, letters and both numbers from the record. Assumes nothing.
 use Rattle.print_ion.specs.Ions.{internalPrinted}
+use Rattle.print_ion.specs.Texts.{lettersPrinted}
 use Rattle.slices.specs.Numbers.{u16At}
 use Rattle.rules.specs.Numbers.{digits}
 use mathlib.Core.Path.{ap, _∙_}
@@ -10,6 +11,12 @@ use Rattle.print_ion.proofs.print_internal.Tie as tie
 
 put8-requires : tie.Need-put8-requires
 put8-requires c κs = search needs
+
+byte-of-requires : tie.Need-byte-of-requires
+byte-of-requires c κs = search needs
+
+put-letters-requires : tie.Need-put-letters-requires
+put-letters-requires c κs = search needs
 
 rest-requires : tie.Need-rest-requires
 rest-requires c κs = search needs
@@ -54,14 +61,18 @@ returns c =
     let at-put-number = at-put82 .before .before .before .before in
     let at-u16-at = at-put-number .before in
     let at-rest = at-u16-at .before in
-    let at-put8 = at-rest .before .before .before .before in
-    put-then (at-put8 .put8 .ensures) (put-then (put-as (at-put-number .put-number .ensures) (ap digits ((at-u16-at .u16-at .ensures) ∙ ap u16At (at-rest .rest .ensures)))) (put-then (at-put82 .put82 .ensures) (put-then (put-as (at-put-number2 .put-number2 .ensures) (ap digits ((at-u16-at2 .u16-at2 .ensures) ∙ ap u16At (at-rest2 .rest2 .ensures)))) (c .before .before .put-enclosed .ensures))))
+    let at-put-letters = at-rest .before .before .before .before in
+    let at-byte-of = at-put-letters .before in
+    let at-put8 = at-byte-of .before .before .before .before in
+    put-then (at-put8 .put8 .ensures) (put-then (put-as (at-put-letters .put-letters .ensures) (ap lettersPrinted (at-byte-of .byte-of .ensures))) (put-then (put-as (at-put-number .put-number .ensures) (ap digits ((at-u16-at .u16-at .ensures) ∙ ap u16At (at-rest .rest .ensures)))) (put-then (at-put82 .put82 .ensures) (put-then (put-as (at-put-number2 .put-number2 .ensures) (ap digits ((at-u16-at2 .u16-at2 .ensures) ∙ ap u16At (at-rest2 .rest2 .ensures)))) (c .before .before .put-enclosed .ensures)))))
 
 pub print-internal-spec : {M : Type 1} → statement M
 print-internal-spec =
     tie.close
     (tie.spec
     put8-requires
+    byte-of-requires
+    put-letters-requires
     rest-requires
     u16-at-requires
     cast-put-number

@@ -1,6 +1,6 @@
 -- `respell_annotation::is_kept` meets its contract: what breaks it is found first, or the bytes decide. Assumes nothing.
 use native.Mathlib.Omega.{arith}
-use Rattle.respell_annotation.proofs.Steps.{with-formula, with-losses, with-items, with-point, by-bytes}
+use Rattle.respell_annotation.proofs.Steps.{with-formula, with-losses, with-items, with-free, by-bytes}
 use borrow.Author.Needs.{needs}
 use Rattle.respell_annotation.proofs.is_kept.Statement.{statement}
 use Rattle.respell_annotation.proofs.is_kept.Tie as tie
@@ -18,7 +18,7 @@ returns-4 : tie.Need-returns-4
 returns-4 c =
     let at-if3 = c .before in
     let at-if2 = at-if3 .before .before in
-    with-point _ _ _ _ (at-if2 .before .before .if1 .left) (omega (arith, at-if2 .if2 .left)) (omega (arith, at-if3 .if3 .left)) (c .if4 .taken)
+    with-free _ _ _ _ (at-if2 .before .before .if1 .left) (omega (arith, at-if2 .if2 .left)) (omega (arith, at-if3 .if3 .left)) (c .if4 .taken)
 
 has-one-requires : tie.Need-has-one-requires
 has-one-requires c κs = search needs

@@ -16,6 +16,12 @@ rest-requires-3 c κs = search needs
 minus-or-zero-requires : tie.Need-minus-or-zero-requires
 minus-or-zero-requires c κs = search needs
 
+rest-requires-4 : tie.Need-rest-requires-4
+rest-requires-4 c κs = search needs
+
+is-free-requires : tie.Need-is-free-requires
+is-free-requires c κs = search needs
+
 first-of-requires : tie.Need-first-of-requires
 first-of-requires c κs = search needs
 
@@ -36,10 +42,11 @@ returns c =
     let at-if1 = c .before .before .before .before .before in
     let at-is-kept = at-if1 .before in
     let at-first-of = at-is-kept .before in
-    let at-way = at-first-of .before in
-    let c1 = at-way in
+    let at-is-free = at-first-of .before in
+    let at-rest4 = at-is-free .before in
+    let c1 = at-rest4 .before in
     put-kept _ _ (c1 .before .before .before .rest .ensures) (c1 .before .before .rest2 .ensures) (c1 .before .rest3 .ensures) (c1 .minus-or-zero .ensures)
-    (at-first-of .first-of .ensures)
+    (at-rest4 .rest4 .ensures) (at-is-free .is-free .ensures) (at-first-of .first-of .ensures)
     (at-is-kept .is-kept .ensures) (at-if1 .if1 .taken)
     (c .before .before .before .first-of2 .ensures) (c .before .before .put-run .ensures)
 
@@ -54,11 +61,13 @@ returns-2 c =
     let at-if1 = c .before .before .before .before in
     let at-is-kept = at-if1 .before in
     let at-first-of = at-is-kept .before in
-    let at-minus-or-zero = at-first-of .before in
+    let at-is-free = at-first-of .before in
+    let at-rest4 = at-is-free .before in
+    let at-minus-or-zero = at-rest4 .before in
     let at-way = at-minus-or-zero .before in
     let c1 = at-way in
     put-anew _ _ (c1 .before .before .rest .ensures) (c1 .before .rest2 .ensures) (c1 .rest3 .ensures)
-    (at-minus-or-zero .minus-or-zero .ensures) (at-first-of .first-of .ensures)
+    (at-minus-or-zero .minus-or-zero .ensures) (at-rest4 .rest4 .ensures) (at-is-free .is-free .ensures) (at-first-of .first-of .ensures)
     (at-is-kept .is-kept .ensures) (at-if1 .if1 .left)
     (c .before .before .spell-parts .ensures)
 
@@ -70,6 +79,8 @@ spell-annotation-spec =
     rest-requires-2
     rest-requires-3
     minus-or-zero-requires
+    rest-requires-4
+    is-free-requires
     first-of-requires
     is-kept-requires
     first-of-requires-2

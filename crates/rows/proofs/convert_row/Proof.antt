@@ -7,10 +7,10 @@ use mathlib.Core.List.{List}
 use Prim.Native.Nat.{ℕ}
 use native.Mathlib.Omega.{arith}
 use lib.ListN.{length}
+use Rattle.rules.specs.Editions.{first-lines}
 use Rattle.rules.specs.RowAnswers.{ConvertsRow}
 use Rattle.scan_line.specs.Steps.{machineBytes}
-use Rattle.scan_line.proofs.Scans.{by-machine}
-use Rattle.write_table.proofs.Low.{bytes-each}
+use Rattle.write_table.proofs.Right.{lent}
 use Rattle.convert_row.specs.Conversions.{convertRowOf}
 use Rattle.convert_row.proofs.Right.{convert-row-right}
 
@@ -34,7 +34,7 @@ returns c =
     let stored = at-args .args .stored .now in
     let room = length (at-args .args .out .now) in
     subst (ConvertsRow stored room) (sym (c .before .before .convert-row-by .ensures ∙ ap (λ (m : List ℕ). convertRowOf m stored room) (at-machine .machine .ensures)))
-    (convert-row-right machineBytes stored room (omega arith) (λ i h. at-known .shared-slice-known .given i .fits) (λ l b h. by-machine l (bytes-each l b) (omega arith)))
+    (convert-row-right first-lines (machineBytes first-lines) stored room (omega arith) (λ i h. at-known .shared-slice-known .given i .fits) (lent first-lines))
 
 pub convert-row-spec : {M : Type 1} → statement M
 convert-row-spec =

@@ -15,7 +15,7 @@ use Rattle.rules.specs.Decimals.{Decimal}
 use Rattle.rules.specs.Texts.{Text, Name, LossName, Modification, isText, isName, isLossName, isModification}
 use Rattle.rules.specs.Elements.{Symbol, symbols}
 use Rattle.rules.specs.Formulas.{Written, FormulaUnit, plain, Formula}
-use Rattle.rules.specs.Ions.{Ion, series, internal, immonium, precursor, unknown}
+use Rattle.rules.specs.Ions.{SpelledIon, series, internal, immonium, precursor, unknown}
 use Rattle.rules.specs.Losses.{Sign, lost-formula, lost-name, Loss}
 use Rattle.rules.specs.Isotopes.{Specific, Isotopes, no-isotope, plain-isotope, average-isotope, specific-isotopes}
 use Rattle.rules.specs.Adducts.{added-formula, electron, Item}
@@ -119,12 +119,12 @@ CO = formula (plain C silent) (plain O silent ∷ [])
 
 -- marked; analyte; ion; losses; isotopes; adduct; charge; deviation; confidence
 abbrev pub annotation :
-    Bool → Opt ℕ → Ion Written → List (Loss Written) → Isotopes Written → List (Item Written) → Opt (From 2) → Opt Deviation → Opt Confidence
+    Bool → Opt ℕ → SpelledIon → List (Loss Written) → Isotopes Written → List (Item Written) → Opt (From 2) → Opt Deviation → Opt Confidence
     → SpelledAnnotation
 annotation m a i l s d c v f =
     record { marked = m; analyte = a; ion = i; losses = l; isotopes = s; adduct = d; charge = c; deviation = v; confidence = f }
 
-abbrev pub ion : Ion Written → SpelledAnnotation
+abbrev pub ion : SpelledIon → SpelledAnnotation
 ion i = annotation false silent i [] no-isotope [] silent silent silent
 
 -- one of the thirteen, by its place in their list less 1; position; text
@@ -141,7 +141,11 @@ abbrev pub z : ℕ → SpelledAnnotation
 z n = serial 8 tt n silent
 
 abbrev pub inner : ℕ → ℕ → Opt Text → SpelledAnnotation
-inner m n t = ion (internal (num m) (num n) t)
+inner m n t = ion (internal silent (num m) (num n) t)
+
+-- with the letters of a cleavage, counted from 0
+abbrev pub cleaved : (which : ℕ) → T (ltb which 9) → ℕ → ℕ → Opt Text → SpelledAnnotation
+cleaved which known m n t = ion (internal (written (record { which = which; known = known })) (num m) (num n) t)
 
 abbrev pub imm : (c : Char) → T (inC capital (code c)) → Opt Modification → SpelledAnnotation
 imm c isIn m = ion (immonium (record { val = code c; isIn = isIn }) m)

@@ -7,10 +7,10 @@ use Rattle.run_relabel.proofs.all.Statement.{statement}
 use Rattle.run_relabel.proofs.all.Tie as tie
 
 abbrev Inv-loop : tie.InvT-loop
-Inv-loop name input machine buf₀ out₀ s₀ turns₀ buf out s turns = (length buf ≡ length buf₀) × (length out ≡ length out₀)
+Inv-loop name lines input machine buf₀ out₀ s₀ turns₀ buf out s turns = (length buf ≡ length buf₀) × (length out ≡ length out₀)
 
 abbrev μ-loop : tie.MeasureT-loop
-μ-loop name input machine buf₀ out₀ s₀ turns₀ buf out s turns = turns
+μ-loop name lines input machine buf₀ out₀ s₀ turns₀ buf out s turns = turns
 
 begin-requires : tie.Need-begin-requires Inv-loop μ-loop
 begin-requires c κs = search needs

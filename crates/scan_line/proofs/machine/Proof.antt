@@ -1,25 +1,65 @@
--- `scan_line::machine` meets its contract: the constant is the machine's words, and they fill the bytes. Assumes nothing.
-use Rattle.scan_line.proofs.Cells.{made}
+-- `scan_line::machine` meets its contract: edition by edition. Assumes nothing.
+use Prim.Native.Nat.{ℕ}
+use mathlib.Core.Path.{sym, ap, _∙_}
+use mathlib.Core.List.{List}
+use lib.ListN.{set}
+use Rattle.shape.specs.Tables.{states, xAt, yAt, zAt}
+use Rattle.scan_line.specs.declared.Lines.{Lines}
+use Rattle.scan_line.specs.Lines.{linesIn}
 use Rattle.scan_line.specs.Steps.{machineBytes}
-use Rattle.shape.specs.Tables.{packed}
 use borrow.Author.Needs.{needs}
 use Rattle.scan_line.proofs.machine.Statement.{statement}
 use Rattle.scan_line.proofs.machine.Tie as tie
 
-slice-aggregate-put-words : tie.Need-slice-aggregate-put-words
-slice-aggregate-put-words c = search needs
+second-machine-requires : tie.Need-second-machine-requires
+second-machine-requires c κs = search needs
 
-slice-aggregate-put-words-2 : tie.Need-slice-aggregate-put-words-2
-slice-aggregate-put-words-2 c = search needs
+enum-told : tie.Need-enum-told
+enum-told c = search needs
 
-put-words-requires : tie.Need-put-words-requires
-put-words-requires c κs = search needs
+cast-bytes : tie.Need-cast-bytes
+cast-bytes c = search needs
+
+array-write-bytes : tie.Need-array-write-bytes
+array-write-bytes c = search needs
+
+cast-bytes-2 : tie.Need-cast-bytes-2
+cast-bytes-2 c = search needs
+
+array-write-bytes-2 : tie.Need-array-write-bytes-2
+array-write-bytes-2 c = search needs
+
+cast-bytes-3 : tie.Need-cast-bytes-3
+cast-bytes-3 c = search needs
+
+array-write-bytes-3 : tie.Need-array-write-bytes-3
+array-write-bytes-3 c = search needs
+
+enum-told-2 : tie.Need-enum-told-2
+enum-told-2 c = search needs
 
 returns : tie.Need-returns
-unfolding machineBytes packed
-returns c = made (c .before .put-words .ensures)
+unfolding machineBytes
+returns c =
+    ap (λ (m : List ℕ). set (set (set m xAt states) yAt states) zAt states) (c .before .before .second-machine .ensures)
+    ∙ ap (λ (x : Lines). machineBytes (linesIn x)) (sym (c .enum-told .given .1))
+
+returns-2 : tie.Need-returns-2
+unfolding machineBytes
+returns-2 c = c .before .before .second-machine .ensures ∙ ap (λ (x : Lines). machineBytes (linesIn x)) (sym (c .enum-told2 .given .1))
 
 pub machine-spec : {M : Type 1} → statement M
 machine-spec =
     tie.close
-    (tie.spec slice-aggregate-put-words slice-aggregate-put-words-2 put-words-requires returns)
+    (tie.spec
+    second-machine-requires
+    enum-told
+    cast-bytes
+    array-write-bytes
+    cast-bytes-2
+    array-write-bytes-2
+    cast-bytes-3
+    array-write-bytes-3
+    enum-told-2
+    returns
+    returns-2)

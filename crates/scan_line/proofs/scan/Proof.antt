@@ -1,5 +1,6 @@
 -- `scan_line::scan` meets its contract: the scan by the machine's bytes is what the rules say. Assumes nothing.
 use Rattle.scan_line.proofs.Scans.{by-machine}
+use Rattle.scan_line.specs.Lines.{linesIn}
 use Rattle.scan_line.specs.Verdicts.{JudgedBy}
 use Rattle.scan_line.specs.Steps.{scannedBy}
 use mathlib.Core.Path.{sym, ap, _∙_, subst}
@@ -23,8 +24,9 @@ returns : tie.Need-returns
 returns c =
     let b = c .before .before in
     let line = b .before .before .args .line .now in
-    subst (JudgedBy line) (sym (c .scan-by .ensures ∙ ap (λ (m : List ℕ). scannedBy m line) (b .machine .ensures)))
-    (by-machine line (λ i h. b .before .shared-slice-known .given i .fits) (omega arith))
+    let lines = b .before .before .args .lines in
+    subst (JudgedBy (linesIn lines) line) (sym (c .scan-by .ensures ∙ ap (λ (m : List ℕ). scannedBy m line) (b .machine .ensures)))
+    (by-machine (linesIn lines) line (λ i h. b .before .shared-slice-known .given i .fits) (omega arith))
 
 pub scan-spec : {M : Type 1} → statement M
 scan-spec = tie.close (tie.spec machine-requires slice-aggregate-scan-by scan-by-requires returns)
