@@ -172,6 +172,7 @@ each_length (next r e) = ap suc (each_length e)
 
 -- what stands in the relation with each member of the other list
 pub each_in : {A B : Type 0} {R : A → B → Type 0} {l : List A} {m : List B} → Each R l m → (b : B) → In b m → (a : A) × In a l × R a b
+each_in none b i = elim i [ ]
 each_in (next {a = a} r e) b here = (a, here, r)
 each_in (next r e) b (later i) = let c = each_in e b i in (c.0, later c.1, c.2)
 
@@ -187,6 +188,7 @@ line_few (a ∷ more) k =
 
 -- each annotation of a line is kept, at its place
 pub line_each : (s : Spelling) → Kept (line_marks s) → (a : SpelledAnnotation) → In a s → (i : ℕ) × (at : ℕ) × Kept (annotation_marks i a at)
+line_each [] k b i = elim i [ ]
 line_each (a ∷ more) k b here =
     (0, 0, kept_left (annotation_marks 0 a 0) (row_marks next_text next_marks 1 more (length (annotation_text a))) k)
 line_each (a ∷ more) k b (later i) =

@@ -1,5 +1,5 @@
 -- The limits and house rules keep each number of a sound table within its field of the stored table. Assumes nothing.
-use Prim.Native.Nat.{ℕ, ◌≤◌}
+use Prim.Native.Nat.{ℕ, ◌≤◌, ◌+◌}
 use mathlib.Core.Path.{◌≡◌, refl, subst}
 use mathlib.Core.Bool.{Bool, true, false, not, ◌&&◌}
 use mathlib.Core.List.{List, [], ◌∷◌}
@@ -15,7 +15,7 @@ use Rattle.rules.specs.Ions.{ion_text, TableIon, series, internal, immonium, pre
 use Rattle.rules.specs.Losses.{Loss, loss_text, loss_map}
 use Rattle.rules.specs.Isotopes.{Isotopes, isotopes_text}
 use Rattle.rules.specs.Adducts.{Item, item_text, adduct_text, item_map}
-use Rattle.rules.specs.Annotations.{TableAnnotation, SpelledAnnotation}
+use Rattle.rules.specs.Annotations.{TableAnnotation, SpelledAnnotation, annotation_text}
 use Rattle.rules.specs.Lines.{Spelling}
 use Rattle.rules.specs.Fields.{filled_annotation, Table, filled, SameFields}
 use Rattle.rules.specs.Limits.{max_position, max_charge, bare, part, opt_part, row_part, ion_parts}
@@ -111,8 +111,9 @@ passed false more at e = absurd (written_not_silent (written at) refl e)
 
 -- where no annotation of a line is the first that fails a test, each passes it
 pub passes_each : (test : SpelledAnnotation → Bool) (at : ℕ) (s : Spelling) → first_failing test at s ≡ silent → (a : SpelledAnnotation) → In a s → T (test a)
+passes_each test at [] e b i = elim i [ ]
 passes_each test at (a ∷ s) e b here = (passed (test a) (first_failing test _ s) at e).0
-passes_each test at (a ∷ s) e b (later i) = passes_each test _ s (passed (test a) (first_failing test _ s) at e).1 b i
+passes_each test at (a ∷ s) e b (later i) = passes_each test (at + length (annotation_text a) + 1) s (passed (test a) (first_failing test _ s) at e).1 b i
 
 pub table_in_range : {e : Edition} (t : Table) → Sound e t → (a : TableAnnotation) → In a t → InRange a
 table_in_range {e} t s a i =

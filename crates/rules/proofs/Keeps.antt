@@ -30,6 +30,7 @@ kept_tail k n i t = k n (later i) t
 
 -- each of the parts of a text is kept, at its place
 pub kept_part : (at : ℕ) (ps : List Part) → Kept (marks_of at ps) → (p : Part) → In p ps → (q : ℕ) × Kept (p.marks q)
+kept_part at [] k r i = elim i [ ]
 kept_part at (p ∷ ps) k r here = (at, kept_left (p.marks at) (marks_of (at + length p.text) ps) k)
 kept_part at (p ∷ ps) k r (later i) =
     kept_part (at + length p.text) ps (kept_right (p.marks at) (marks_of (at + length p.text) ps) k) r i
@@ -56,6 +57,7 @@ module _ {A : Type 0} (text : A → List ℕ) (marks : ℕ → A → ℕ → Lis
   -- each of a row is kept, at its place
   pub row_each : (i : ℕ) (xs : List A) (at : ℕ) → Kept (row_marks text marks i xs at) → (x : A) → In x xs
       → (j : ℕ) × (q : ℕ) × Kept (marks j x q)
+  row_each i [] at k y e = elim e [ ]
   row_each i (x ∷ xs) at k y here = (i, at, kept_left (marks i x at) (row_marks text marks (i + 1) xs (at + length (text x))) k)
   row_each i (x ∷ xs) at k y (later e) =
       let m = row_marks text marks (i + 1) xs (at + length (text x)) in

@@ -1,12 +1,13 @@
 -- A table that is sound in the current edition, by a line of another edition's own, is sound in that edition: the first asks for less. Assumes nothing.
-use Prim.Native.Nat.{ℕ}
+use Prim.Native.Nat.{ℕ, ◌+◌}
 use mathlib.Core.Path.{◌≡◌, refl}
 use mathlib.Core.Bool.{Bool, true, false}
 use mathlib.Core.List.{List, [], ◌∷◌}
 use lib.Dec.{T}
 use Rattle.lang.specs.Parts.{Opt, silent, written}
 use Rattle.lang.proofs.Deriv.{and_0, and_i}
-use Rattle.rules.specs.Annotations.{SpelledAnnotation}
+use lib.ListN.{length}
+use Rattle.rules.specs.Annotations.{SpelledAnnotation, annotation_text}
 use Rattle.rules.specs.Lines.{Spelling, within}
 use Rattle.rules.specs.Fields.{Table}
 use Rattle.rules.specs.Editions.{Edition, ed1, ed2, lines_of}
@@ -22,7 +23,7 @@ passes false more at t e = absurd t
 -- where all pass one test, all pass a weaker one
 pub weaker : (f g : SpelledAnnotation → Bool) → ((a : SpelledAnnotation) → T (f a) → T (g a)) → (at : ℕ) (s : Spelling) → first_failing f at s ≡ silent → first_failing g at s ≡ silent
 weaker f g h at [] e = refl
-weaker f g h at (a ∷ s) e = let p = passed (f a) (first_failing f _ s) at e in passes (g a) (first_failing g _ s) at (h a p.0) (weaker f g h _ s p.1)
+weaker f g h at (a ∷ s) e = let p = passed (f a) (first_failing f _ s) at e in passes (g a) (first_failing g _ s) at (h a p.0) (weaker f g h (at + length (annotation_text a) + 1) s p.1)
 
 pub sound_in : (e : Edition) (t : Table) (s : Sound ed2 t) → T (within (lines_of e) s.spelling) → Sound e t
 sound_in ed1 t s w =

@@ -48,6 +48,7 @@ in_cons P p h y (later i) = h y i
 
 pub in_map : {A B : Type 0} (f : A → B) (P : B → Type 0) (xs : List A) → ((x : A) → In x xs → P (f x))
     → (y : B) → In y (map f xs) → P y
+in_map f P [] h y i = elim i [ ]
 in_map f P (x ∷ xs) h y here = h x here
 in_map f P (x ∷ xs) h y (later i) = in_map f P xs (λ z j. h z (later j)) y i
 
