@@ -2,7 +2,7 @@
 -- byte by byte, with how many brackets are open. Assumes nothing.
 use Prim.Native.Nat.{ℕ, zero, suc, ◌+◌, ◌-◌, ◌≤◌, ◌<◌}
 use mathlib.Core.Path.{◌≡◌, refl, sym, ap, ◌∙◌, subst}
-use mathlib.Core.Bool.{Bool, true, false, cond, not, ◌&&◌, ◌||◌, and_false, or-false}
+use mathlib.Core.Bool.{Bool, true, false, cond, not, ◌&&◌, ◌||◌, and-false, or-false}
 use mathlib.Core.List.{List, [], ◌∷◌, ◌++◌}
 use native.Mathlib.Numerals.{add-one}
 use native.Mathlib.Omega.{arith}
@@ -45,7 +45,7 @@ by_byte false true true a f d = absurd a
 by_byte false true false a f d = or-false (f (suc d)) ∙ ap f (sym (add-one d))
 by_byte false false true a f zero = refl
 by_byte false false true a f (suc d) = rw (lt-ltb 0 (suc d) (omega arith)) (ap f (omega arith))
-by_byte false false false a f d = rw (and_false (ltb 0 d))
+by_byte false false false a f d = rw (and-false (ltb 0 d))
 
 paired_on : (b : ℕ) (w : List ℕ) (d : ℕ) → paired name_brackets (b ∷ w) d ≡ (goes_on name_brackets d b && paired name_brackets w (open_behind name_brackets d b))
 paired_on b w d = by_byte (in_c name_brackets.plain b) (in_c name_brackets.opens b) (in_c name_brackets.closes b) (kept_apart b) (paired name_brackets w) d
@@ -91,7 +91,7 @@ closed_at e n = eqb e.len n && eqb e.depth 0
 closed_paired : (w : List ℕ) (at d : ℕ) → closed_at (name_from w at d) (at + length w) ≡ paired name_brackets w d
 unfolding name_from
 closed_paired [] at zero = rw (eq-eqb at (at + 0) (omega arith))
-closed_paired [] at (suc d) = rw (ne_eqb (suc d) 0 (λ q. omega arith)) (and_false (eqb at (at + 0)))
+closed_paired [] at (suc d) = rw (ne_eqb (suc d) 0 (λ q. omega arith)) (and-false (eqb at (at + 0)))
 closed_paired (b ∷ w) at d =
     let e = open_behind name_brackets d b in
     by (name_from w (at + 1) e) (closed_paired w (at + 1) e) (goes_on name_brackets d b) ∙ sym (paired_on b w d)
