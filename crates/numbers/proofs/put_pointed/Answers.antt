@@ -1,0 +1,14 @@
+-- `numbers::put_pointed` meets its contract: the whole number alone, or with point and places behind it. Assumes nothing.
+use Rattle.numbers.proofs.Written.{put_whole, put_pointed}
+use Rattle.put_bytes.proofs.Putting.{put_as}
+use Rattle.rules.specs.Numbers.{digits}
+use mathlib.Core.Path.{ap}
+use Rattle.numbers.proofs.put_pointed.Goals as goal
+
+pub returns-then-places-lt1 : goal.returns-then-places-lt1
+returns-then-places-lt1 c = put_whole _ _ (put_as c.put_number-behind.ensures (ap digits c.whole_of.ensures)) c.if-places-lt1.true
+
+pub returns : goal.returns
+returns c =
+    put_pointed _ _ (put_as c.put_number-behind.ensures (ap digits c.whole_of.ensures)) c.if-places-lt1.false c.put8-to.ensures
+    c.put_last.ensures
