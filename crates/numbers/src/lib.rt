@@ -18,7 +18,7 @@ use slices::begins_in;
 const TOO_LONG: u64 = 1000000000000;
 
 // The digits that a part begins with: their value, no more than a million, and how many there are.
-#[derive(Drop)]
+#[derive(Clone, Copy)]
 pub struct Number {
     pub value: u32,
     pub len: usize,
