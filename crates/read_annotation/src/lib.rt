@@ -63,7 +63,7 @@ pub struct Tail {
 }
 
 // What was read of one annotation. Measuring it and storing it both need this, so it is read once and handed on.
-#[derive(Drop)]
+#[derive(Clone, Copy)]
 pub struct Parts {
     pub front: Front,
     pub middle: Middle,
