@@ -1,6 +1,5 @@
 -- `io_parts::keep` meets its contract. Assumes nothing.
 use Rattle.io_parts.proofs.Moves.{begin, turn, ends}
-use Prim.Native.Nat.{◌-◌}
 use borrow.Author.Rules.{rules}
 use Rattle.io_parts.proofs.keep.Goals as goal
 

@@ -1,6 +1,5 @@
 -- `io_parts::line_end` meets its contract: in its loop no line feed is among the bytes passed. Assumes nothing.
 use Rattle.io_parts.proofs.ToLineFeed.{begin, found, turn, ends}
-use Prim.Native.Nat.{◌-◌}
 use Rattle.io_parts.proofs.line_end.Goals as goal
 
 pub loop-at-init : goal.loop-at-init
