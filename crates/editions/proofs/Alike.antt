@@ -1,10 +1,12 @@
 -- Document 02, M-113: a spelling without letters is one of both editions, and no line has another; so both read it the same. Assumes nothing.
-use Prim.Native.Nat.{ℕ}
+use Prim.Native.Nat.{ℕ, ◌+◌}
 use mathlib.Core.Path.{◌≡◌, refl, sym, subst}
 use mathlib.Core.List.{[], ◌∷◌}
 use lib.Dec.{T}
+use lib.ListN.{length}
 use Rattle.lang.specs.Parts.{silent}
 use Rattle.lang.proofs.Deriv.{and_i}
+use Rattle.rules.specs.Annotations.{annotation_text}
 use Rattle.rules.specs.Lines.{Spelling, line_text, unlettered, all_unlettered, within}
 use Rattle.rules.specs.Editions.{LineEdition, first_lines, second_lines}
 use Rattle.rules.specs.Answers.{Answer, Reads, long, misshapen, spelled}
@@ -18,7 +20,7 @@ none_lettered : (at : ℕ) (s : Spelling) → first_letter at s ≡ silent → T
 none_lettered at [] e = tt
 none_lettered at (a ∷ more) e =
     let p = passed (unlettered a.ion) (first_letter _ more) _ e in
-    and_i (unlettered a.ion) (all_unlettered more) p.0 (none_lettered _ more p.1)
+    and_i (unlettered a.ion) (all_unlettered more) p.0 (none_lettered (at + length (annotation_text a) + 1) more p.1)
 
 -- what one edition answers to a spelling of both, the other answers
 carried : {l m : LineEdition} (s : Spelling) → T (within l s) → T (within m s) → {room : ℕ} {a : Answer}

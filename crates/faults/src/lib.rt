@@ -4,7 +4,7 @@ ghost use Rattle.rules.specs.Limits.{number_mark, many_mark};
 ghost use Rattle.faults.specs.Faults.{numbered, join, after};
 
 // The first limit that was broken: its number and place. Number 0: none was. Both are of one size, so that a copy has no gap in it.
-#[derive(Drop)]
+#[derive(Clone, Copy)]
 pub struct Fault {
     pub number: usize,
     pub place: usize,

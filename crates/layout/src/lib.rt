@@ -15,7 +15,7 @@ ghost use Rattle.rules.specs.Layout.{edition_at, length_at, annotation_pair_at, 
 ghost use Rattle.rules.specs.Layout.{annotation_section, loss_section, isotope_section, item_section, unit_section, text_section};
 
 // The editions of a stored table: document 01's, and that of document 02 (M-105), whose annotations have a count of residues more.
-#[derive(Drop)]
+#[derive(Clone, Copy)]
 pub enum Edition {
     First,
     Second,

@@ -18,7 +18,7 @@ use slices::begins_in;
 const TOO_LONG: u64 = 1000000000000;
 
 // The digits that a part begins with: their value, no more than a million, and how many there are.
-#[derive(Drop)]
+#[derive(Clone, Copy)]
 pub struct Number {
     pub value: u32,
     pub len: usize,
@@ -92,14 +92,14 @@ fn whole_of(v: u64, n: u8) -> u64
 }
 
 // A decimal: 0.70 is 70 with 2 places. Its fields are private, so that no decimal is made but by `new` and `zero`: each is within the bounds.
-#[derive(Drop)]
+#[derive(Clone, Copy)]
 pub struct Decimal {
     value: u64,
     places: u8,
 }
 
 // A decimal within its bounds, or that it is past them.
-#[derive(Drop)]
+#[derive(Clone, Copy)]
 pub enum MadeDecimal {
     Fits(Decimal),
     Past,

@@ -12,7 +12,7 @@ use slices::{advance, begins_with, minus_or_zero, rest};
 
 // A loss or an adduct item. Kind 0: a formula of `size` units; 1: a name of `size` bytes; 2: an electron. The formula, or the bracket
 // before the name, begins `start` bytes behind the sign.
-#[derive(Drop)]
+#[derive(Clone, Copy)]
 pub struct ChangeRead {
     pub sign: u8,
     pub kind: u8,

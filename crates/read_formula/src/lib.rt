@@ -15,7 +15,7 @@ use slices::{begins_in, begins_with, minus_or_zero, rest};
 
 // A unit: its numbers, as read_number tells them, where its count stands, and how many bytes it has. A silent count is 1, and a unit
 // without nucleon number has 0 nucleons.
-#[derive(Drop)]
+#[derive(Clone, Copy)]
 pub struct UnitRead {
     pub nucleons: u32,
     pub element: u16,
@@ -26,7 +26,7 @@ pub struct UnitRead {
 
 // What is measured of a unit without a look at which element it has: its numbers, where its symbol and its count stand, and how many bytes
 // it has.
-#[derive(Drop)]
+#[derive(Clone, Copy)]
 pub struct UnitSpan {
     pub nucleons: u32,
     pub symbol_at: usize,

@@ -35,6 +35,7 @@ neither_1 false y e = e
 
 -- not in a class, so in no range of it
 range_not : (c : List Rng) (g : Rng) (b : ℕ) → In g c → in_c c b ≡ false → in_rng g b ≡ false
+range_not [] r b i e = elim i [ ]
 range_not (g ∷ c) r b here e = neither_0 (in_rng g b) (in_c c b) e
 range_not (g ∷ c) r b (later i) e = range_not c r b i (neither_1 (in_rng g b) (in_c c b) e)
 

@@ -17,7 +17,7 @@ use read_opening::{begins_isotope, read_head};
 use slices::{advance, begins_in, begins_with, minus_or_zero, part, rest};
 
 // An isotope. Kind 0: plain; 1: average, `A` behind the `i`; 2: specific, with nucleon number and symbol behind the `i`.
-#[derive(Drop)]
+#[derive(Clone, Copy)]
 pub struct IsotopeRead {
     pub sign: u8,
     pub kind: u8,

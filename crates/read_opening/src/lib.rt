@@ -14,7 +14,7 @@ use slices::{advance, begins_with, minus_or_zero, rest};
 use texts::{name_len, text_len};
 
 // A sign, 0 for `-` and 1 for `+`, and a count, as read_number tells it; a silent count is 1.
-#[derive(Drop)]
+#[derive(Clone, Copy)]
 pub struct Head {
     pub sign: u8,
     pub count: u32,

@@ -66,7 +66,7 @@ module _ {A B : Type 0} (R : A → B → Type 0) (f : A → A → Bool) (g : B �
 
   fed_into_both : {s : List A} {t : List B} {xs : List A} {ys : List B} → Each R s t → Each R xs ys → Each R (fed_into f s xs) (fed_into g t ys)
   fed_into_both w none = w
-  fed_into_both w (next r q) = fed_into_both (insert-both r w) q
+  fed_into_both {s = s} {t = t} w (next {a = a} {b = b} r q) = fed_into_both {s = insert f a s} {t = insert g b t} (insert-both r w) q
 
   pub fed_both : {xs : List A} {ys : List B} → Each R xs ys → Each R (fed_into f [] xs) (fed_into g [] ys)
   fed_both q = fed_into_both none q

@@ -91,7 +91,7 @@ module _ {used : ℕ} {keys more : List ℕ} (c : Common used keys more) where
   fed_kept : {s xs : List Slot} → AllEndBy used s → AllEndBy used xs → fed_into (slot_le keys) s xs ≡ fed_into (slot_le more) s xs
   fed_kept d none_ends = refl
   fed_kept {s} d (next_ends {x = x} {xs = xs} h e) =
-      fed_kept (ends_insert (slot_le keys) h d) e ∙ ap (λ (l : List Slot). fed_into (slot_le more) l xs) (insert-kept h d)
+      fed_kept {s = insert (slot_le keys) x s} (ends_insert (slot_le keys) h d) e ∙ ap (λ (l : List Slot). fed_into (slot_le more) l xs) (insert-kept h d)
 
   pub feed_kept : {xs : List Slot} → AllEndBy used xs → feed keys xs ≡ feed more xs
   feed_kept e = fed_kept none_ends e

@@ -9,7 +9,7 @@ use limits::MAX_LOSSES;
 
 // A loss or an adduct item. Its text, which stands after sign and count, is keys[key .. key + len] of the buffer that is lent beside it;
 // the sign is 0 for `-` and 1 for `+`. Kind, size and start are the caller's, and are carried along.
-#[derive(Drop)]
+#[derive(Clone, Copy)]
 pub struct Slot {
     pub sign: u8,
     pub kind: u8,

@@ -5,7 +5,7 @@ use Prim.Native.Nat.{◌-◌}
 use Rattle.numbers.proofs.billionths.Given as goal
 
 abbrev pub invariant-loop-places : goal.invariant-loop-places
-invariant-loop-places l = Scaled (record { value = l.initial.v; l.places = l.initial.places }) l.v l.places
+invariant-loop-places l = Scaled (record { value = l.initial.v; places = l.initial.places }) l.v l.places
 
 abbrev pub decreases-loop-places : goal.decreases-loop-places
 decreases-loop-places l = max_places - l.places

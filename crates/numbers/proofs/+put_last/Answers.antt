@@ -1,0 +1,10 @@
+-- `numbers::put_last` meets its contract: by recursion on how many digits, none, or all but the last and then it. Assumes nothing.
+use Rattle.std.proofs.Common.{arith}
+use Rattle.numbers.proofs.Written.{put_no_place, put_place_more}
+use Rattle.numbers.proofs.+put_last.Goals as goal
+
+pub returns-then-n-lt1 : goal.returns-then-n-lt1
+returns-then-n-lt1 t c = put_no_place _ _ (omega arith) (omega arith) c.if-n-lt1.true
+
+pub returns : goal.returns
+returns t c = put_place_more _ _ c.if-n-lt1.false c.put_last-to.ensures c.put8.ensures

@@ -1,0 +1,11 @@
+-- `read_isotopes::spell_isotopes` meets its contract. Assumes nothing.
+use Rattle.read_isotopes.proofs.IsotopeLoops.{Spelling}
+use lib.ListN.{length}
+use Prim.Native.Nat.{◌-◌}
+use Rattle.read_isotopes.proofs.spell_isotopes.Given as goal
+
+abbrev pub invariant-loop-none : goal.invariant-loop-none
+invariant-loop-none l = Spelling l.s l.initial.out l.to l.len l.out l.end
+
+abbrev pub decreases-loop-none : goal.decreases-loop-none
+decreases-loop-none l = length l.s - l.len
