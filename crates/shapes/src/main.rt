@@ -47,7 +47,13 @@ With --second, lines are those of the second edition, in which an internal ion m
 }
 
 // Part after part, until none comes. A proved loop has to end, so it counts down from a number that no run uses up.
-fn all(system: &mut System, name: &[u8], machine: &[u8], buf: &mut [u8], out: &mut [u8]) -> ExitCode {
+fn all(
+    system: &mut System,
+    name: &[u8],
+    machine: &[u8],
+    buf: &mut [u8],
+    out: &mut [u8],
+) -> ExitCode {
     let mut p = Progress::begin();
     let mut s = next_part(system, buf, out, Stream::begin());
     let mut turns = u64::MAX;
@@ -73,7 +79,14 @@ struct Work {
 }
 
 // The part that was found, which may be the last of its line.
-fn one_part(system: &mut System, machine: &[u8], buf: &[u8], out: &mut [u8], s: Stream, p: Progress) -> Work
+fn one_part(
+    system: &mut System,
+    machine: &[u8],
+    buf: &[u8],
+    out: &mut [u8],
+    s: Stream,
+    p: Progress,
+) -> Work
     ensures { Parted machine.now (take s.len (drop s.from buf.now)) s p out.old out.new result }
 {
     let bytes = part(buf, s.from, s.len);
