@@ -33,9 +33,9 @@ moved_fit g k h (Moves.refused e f) = record { number = omega (arith, h.number);
 third_fits : {l : LineEdition} {mz intensity : Decimal} {third : List ℕ} {at room : ℕ} {a : Answer} → at ≤ 8320 → ReadsThird l mz intensity third at room a → AtMost most a
 third_fits g (ReadsThird.line r m) = moved_fit (omega arith) (omega arith) (reads_most r) m
 
-intensity-fits : {l : LineEdition} {mz : Decimal} {bytes : List ℕ} {at room : ℕ} {a : Answer} → at ≤ 4160 → length bytes ≤ 4160 → ReadsIntensity l mz bytes at room a → AtMost most a
-intensity-fits g l (ReadsIntensity.bad c b) = record { number = omega arith; place = omega arith; size = omega arith }
-intensity-fits g l (ReadsIntensity.good c d r) = third_fits (omega (arith, cut_place c)) r
+intensity_fits : {l : LineEdition} {mz : Decimal} {bytes : List ℕ} {at room : ℕ} {a : Answer} → at ≤ 4160 → length bytes ≤ 4160 → ReadsIntensity l mz bytes at room a → AtMost most a
+intensity_fits g l (ReadsIntensity.bad c b) = record { number = omega arith; place = omega arith; size = omega arith }
+intensity_fits g l (ReadsIntensity.good c d r) = third_fits (omega (arith, cut_place c)) r
 
 -- what stands behind a column is no longer than the whole
 rest_short : {s column more : List ℕ} {place : ℕ} → Cut s column more place → length more ≤ length s
@@ -44,7 +44,7 @@ rest_short {s} {place = place} c = omega (arith, length-drop place s, ap length 
 pub reads_row_fit : {l : LineEdition} {row : List ℕ} {room : ℕ} {a : Answer} → ReadsRow l row room a → AtMost most a
 reads_row_fit (ReadsRow.long h) = record { number = omega arith; place = omega arith; size = omega arith }
 reads_row_fit (ReadsRow.bad h c b) = record { number = omega arith; place = omega arith; size = omega arith }
-reads_row_fit (ReadsRow.good h c d r) = intensity-fits (omega (arith, cut_place c)) (omega (arith, rest_short c)) r
+reads_row_fit (ReadsRow.good h c d r) = intensity_fits (omega (arith, cut_place c)) (omega (arith, rest_short c)) r
 
 -- ---- writing
 

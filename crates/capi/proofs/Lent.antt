@@ -145,8 +145,8 @@ module _ (l : LineEdition) (z : List ℕ) where
       ∙ verdict_same _
 
   -- the byte that tells the editions apart is among the machine's
-  letters-same : takes_letters longer ≡ is_second l
-  letters-same = sym (letters_told longer (omega (arith, long))) ∙ ap (λ (b : ℕ). ltb b states) (inside x_at (omega arith)) ∙ letters_told own (omega (arith, size_is l)) ∙ takes_letters_lem l
+  letters_same : takes_letters longer ≡ is_second l
+  letters_same = sym (letters_told longer (omega (arith, long))) ∙ ap (λ (b : ℕ). ltb b states) (inside x_at (omega arith)) ∙ letters_told own (omega (arith, size_is l)) ∙ takes_letters_lem l
 
 -- ---- by a machine in a buffer of k bytes
 
@@ -161,7 +161,7 @@ module _ (l : LineEdition) (k : ℕ) where
   judged_rest row y h n = judged (drop n row) (bytes_drop row n y) (omega (arith, length-drop n row))
 
   lent_in : Lent l m
-  lent_in = record { letters = letters-same l (replicate (k - size) 0); judged = λ line b h. judged line (bytes_each line b) (omega arith) }
+  lent_in = record { letters = letters_same l (replicate (k - size) 0); judged = λ line b h. judged line (bytes_each line b) (omega arith) }
 
   module _ (room n : ℕ) (small : room ≤ max_place) where
     pub read_lent : (line : List ℕ) → Bytes line → length line < 2 ^ 64 → Hands (Reads l line room) room n (handed_of room (read_of (scanned_by m line) line room) n)

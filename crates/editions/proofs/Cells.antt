@@ -40,9 +40,9 @@ all_level : T (each_b (level machine1) positions)
 unfolding machine1
 all_level = tt
 
-letters-level : T (each_b (level machine1) letters)
+letters_level : T (each_b (level machine1) letters)
 unfolding machine1
-letters-level = tt
+letters_level = tt
 
 -- where `1:1` may follow to an end, nothing with a letter may
 pub no_letter : (q d : ℕ) → Stands machine1 q d → LA (res_at machine1 q d) positions → (b : ℕ) → T (among letters b)
@@ -50,7 +50,7 @@ pub no_letter : (q d : ℕ) → Stands machine1 q d → LA (res_at machine1 q d)
 unfolding machine1
 no_letter q d s x b a w y =
     let C = certified first_lines in
-    let s' = stands machine1 C q d b s (each→ (level machine1) letters letters-level b a) w y in
+    let s' = stands machine1 C q d b s (each→ (level machine1) letters letters_level b a) w y in
     either
     (λ n. T_not (taken machine1 q positions) n (taken_all machine1 C positions all_level q d s x))
     (λ n. T_not (ltb (step machine1 q b) flats) (each→ (shut q) letters n b a) (lt→ltb (step machine1 q b) flats s'.small))

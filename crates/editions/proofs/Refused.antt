@@ -64,8 +64,8 @@ module _ {s : Spelling} {place : ℕ} (x : Split s 0 place) where
       no_letter stood.state stood.depth stood.stand (stood.goes positions bare_follows) x.letter x.known v
       (stood.goes (x.letter ∷ v) ((from_start first_lines (x.front ++ (x.letter ∷ v))).1 z))
 
-  letter-stray : Stray (Shape first_lines) (line_text s) place
-  letter-stray =
+  letter_stray : Stray (Shape first_lines) (line_text s) place
+  letter_stray =
       let at : length x.front ≡ place = omega (arith, x.counts) in
       subst₂ (Stray (Shape first_lines)) (sym x.text) at
       (stray_behind (Shape first_lines) x.front x.letter x.back (positions, bare_shape) goes_no_further)
@@ -80,7 +80,7 @@ refused : (s : Spelling) (place room : ℕ) → Split s 0 place → Reads first_
 refused s place room x = by (leb (length (line_text s)) max_line) refl
   where
     by : (fits : Bool) → leb (length (line_text s)) max_line ≡ fits → Reads first_lines (line_text s) room (answer place room fits)
-    by true e = misshapen (leb-true (length (line_text s)) max_line e) (stray place (letter-stray x))
+    by true e = misshapen (leb-true (length (line_text s)) max_line e) (stray place (letter_stray x))
     by false e = long (leb-false (length (line_text s)) max_line e)
 
 pub refuses_letters : RefusesLetters

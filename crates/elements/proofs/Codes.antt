@@ -15,10 +15,10 @@ use Rattle.elements.proofs.SymbolsAgree.{Spelt, spelt_letters}
 abbrev none : Letters
 none = record { first = 0; second = 0 }
 
-letters-past : (n : ℕ) → 118 < n → letters_of n ≡ none
+letters_past : (n : ℕ) → 118 < n → letters_of n ≡ none
 unfolding letters_of
-letters-past zero h = refl
-letters-past (suc w) h = let g : length symbols ≤ w = omega (arith, long) in rw (get_or-eq_default symbols [] g)
+letters_past zero h = refl
+letters_past (suc w) h = let g : length symbols ≤ w = omega (arith, long) in rw (get_or-eq_default symbols [] g)
 
 pub code_is : {n : ℕ} (k : ℕ) → n ≡ k → code_of k ≡ code_of n
 code_is k e = ap code_of (sym e)
@@ -30,7 +30,7 @@ no_code (suc w) h = by (dec_le (suc w) 118)
   where
     by : Dec (suc w ≤ 118) → 0 ≡ code_of (suc w)
     by (yes g) = absurd (none_to 118 (suc w) h (omega arith) g)
-    by (no g) = rw (letters-past (suc w) (omega (arith, g)))
+    by (no g) = rw (letters_past (suc w) (omega (arith, g)))
 
 spelt_second : (l : Letters) → Spelt l → l.second < 256
 spelt_second l s = by (ℕ_discrete l.second 0)
@@ -46,7 +46,7 @@ second_is_byte (suc w) = by (dec_le (suc w) 118)
   where
     by : Dec (suc w ≤ 118) → (letters_of (suc w)).second < 256
     by (yes h) = spelt_second (letters_of (suc w)) (spelt_letters (suc w) (omega arith) h)
-    by (no h) = rw (letters-past (suc w) (omega (arith, h))) (omega arith)
+    by (no h) = rw (letters_past (suc w) (omega (arith, h))) (omega arith)
 
 -- a code gives back its letters
 apart : (l : Letters) → l.second < 256 → record { first = (l.first * 256 + l.second) / 256; second = (l.first * 256 + l.second) % 256 } ≡ l

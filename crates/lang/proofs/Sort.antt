@@ -63,9 +63,9 @@ module _ {A : Type 0} {before : A → A → Bool} (o : Order before) where
       by true = h
       by false = t
 
-  insert-rising : (a : A) (l : List A) → T (rising before l) → T (rising before (insert before a l))
-  insert-rising a [] t = tt
-  insert-rising a (b ∷ l) t = by (before a b) refl (insert-rising a l (and_1 (leads before b l) (rising before l) t))
+  insert_rising : (a : A) (l : List A) → T (rising before l) → T (rising before (insert before a l))
+  insert_rising a [] t = tt
+  insert_rising a (b ∷ l) t = by (before a b) refl (insert_rising a l (and_1 (leads before b l) (rising before l) t))
     where
       by : (x : Bool) → before a b ≡ x → T (rising before (insert before a l)) → T (rising before (elim x [ true ↦ a ∷ b ∷ l | false ↦ b ∷ insert before a l ]))
       by true e ih = and_i (before a b) (rising before (b ∷ l)) (is_t e) t
@@ -75,26 +75,26 @@ module _ {A : Type 0} {before : A → A → Bool} (o : Order before) where
 
   pub sorted_rising : (l : List A) → T (rising before (sorted before l))
   sorted_rising [] = tt
-  sorted_rising (a ∷ l) = insert-rising a (sorted before l) (sorted_rising l)
+  sorted_rising (a ∷ l) = insert_rising a (sorted before l) (sorted_rising l)
 
 -- ---- what is in order is sorted
 
 module _ {A : Type 0} (before : A → A → Bool) where
-  insert-here : (a b : A) (l : List A) → before a b ≡ true → insert before a (b ∷ l) ≡ a ∷ b ∷ l
-  insert-here a b l e = rw (e, insert)
+  insert_here : (a b : A) (l : List A) → before a b ≡ true → insert before a (b ∷ l) ≡ a ∷ b ∷ l
+  insert_here a b l e = rw (e, insert)
 
-  insert-on : (a b : A) (l : List A) → before a b ≡ false → insert before a (b ∷ l) ≡ b ∷ insert before a l
-  insert-on a b l e = rw (e, insert)
+  insert_on : (a b : A) (l : List A) → before a b ≡ false → insert before a (b ∷ l) ≡ b ∷ insert before a l
+  insert_on a b l e = rw (e, insert)
 
-  insert-first : (a : A) (l : List A) → T (leads before a l) → insert before a l ≡ a ∷ l
-  insert-first a [] t = refl
-  insert-first a (b ∷ l) t = insert-here a b l (t_is (before a b) t)
+  insert_first : (a : A) (l : List A) → T (leads before a l) → insert before a l ≡ a ∷ l
+  insert_first a [] t = refl
+  insert_first a (b ∷ l) t = insert_here a b l (t_is (before a b) t)
 
   pub sorted_same : (l : List A) → T (rising before l) → sorted before l ≡ l
   sorted_same [] t = refl
   sorted_same (a ∷ l) t =
       ap (insert before a) (sorted_same l (and_1 (leads before a l) (rising before l) t))
-      ∙ insert-first a l (and_0 (leads before a l) (rising before l) t)
+      ∙ insert_first a l (and_0 (leads before a l) (rising before l) t)
 
 -- ---- one list in order for all the lists with its members
 
@@ -104,9 +104,9 @@ module _ {A : Type 0} {before : A → A → Bool} (o : Order before) (anti : (a 
       → insert before a (b ∷ l) ≡ insert before b (a ∷ l)
   front a b l f g (inl p) (inl q) =
       let e = anti a b (is_t p) (is_t q) in
-      insert-here before a b l p ∙ ap (λ (x : A). x ∷ b ∷ l) e ∙ ap (λ (x : A). b ∷ x ∷ l) (sym e) ∙ sym (insert-here before b a l q)
-  front a b l f g (inl p) (inr q) = insert-here before a b l p ∙ ap (λ (x : List A). a ∷ x) (sym g) ∙ sym (insert-on before b a l q)
-  front a b l f g (inr p) (inl q) = insert-on before a b l p ∙ ap (λ (x : List A). b ∷ x) f ∙ sym (insert-here before b a l q)
+      insert_here before a b l p ∙ ap (λ (x : A). x ∷ b ∷ l) e ∙ ap (λ (x : A). b ∷ x ∷ l) (sym e) ∙ sym (insert_here before b a l q)
+  front a b l f g (inl p) (inr q) = insert_here before a b l p ∙ ap (λ (x : List A). a ∷ x) (sym g) ∙ sym (insert_on before b a l q)
+  front a b l f g (inr p) (inl q) = insert_on before a b l p ∙ ap (λ (x : List A). b ∷ x) f ∙ sym (insert_here before b a l q)
   front a b l f g (inr p) (inr q) = absurd (not_t q (other o a b p))
 
   -- where b comes before c, and a does not, a does not come before b
@@ -121,30 +121,30 @@ module _ {A : Type 0} {before : A → A → Bool} (o : Order before) (anti : (a 
   past : (a b c : A) (l : List A) → before b c ≡ true → before a c ≡ false
       → insert before a (insert before b (c ∷ l)) ≡ insert before b (insert before a (c ∷ l))
   past a b c l p q =
-      ap (insert before a) (insert-here before b c l p) ∙ insert-on before a b (c ∷ l) (chain a b c p q)
-      ∙ ap (λ (x : List A). b ∷ x) (insert-on before a c l q) ∙ sym (insert-here before b c (insert before a l) p)
-      ∙ ap (insert before b) (sym (insert-on before a c l q))
+      ap (insert before a) (insert_here before b c l p) ∙ insert_on before a b (c ∷ l) (chain a b c p q)
+      ∙ ap (λ (x : List A). b ∷ x) (insert_on before a c l q) ∙ sym (insert_here before b c (insert before a l) p)
+      ∙ ap (insert before b) (sym (insert_on before a c l q))
 
   -- insertion in either order
-  insert-insert : (a b : A) (l : List A) → insert before a (insert before b l) ≡ insert before b (insert before a l)
-  insert-insert a b [] = front a b [] refl refl (case (before a b)) (case (before b a))
-  insert-insert a b (c ∷ l) = by (case (before b c)) (case (before a c)) (insert-insert a b l)
+  insert_insert : (a b : A) (l : List A) → insert before a (insert before b l) ≡ insert before b (insert before a l)
+  insert_insert a b [] = front a b [] refl refl (case (before a b)) (case (before b a))
+  insert_insert a b (c ∷ l) = by (case (before b c)) (case (before a c)) (insert_insert a b l)
     where
       by : Case (before b c) → Case (before a c) → insert before a (insert before b l) ≡ insert before b (insert before a l)
           → insert before a (insert before b (c ∷ l)) ≡ insert before b (insert before a (c ∷ l))
       by (inl p) (inl q) ih =
-          ap (insert before a) (insert-here before b c l p)
-          ∙ front a b (c ∷ l) (insert-here before a c l q) (insert-here before b c l p) (case (before a b)) (case (before b a))
-          ∙ ap (insert before b) (sym (insert-here before a c l q))
+          ap (insert before a) (insert_here before b c l p)
+          ∙ front a b (c ∷ l) (insert_here before a c l q) (insert_here before b c l p) (case (before a b)) (case (before b a))
+          ∙ ap (insert before b) (sym (insert_here before a c l q))
       by (inl p) (inr q) ih = past a b c l p q
       by (inr p) (inl q) ih = sym (past b a c l q p)
       by (inr p) (inr q) ih =
-          ap (insert before a) (insert-on before b c l p) ∙ insert-on before a c (insert before b l) q ∙ ap (λ (x : List A). c ∷ x) ih
-          ∙ sym (insert-on before b c (insert before a l) p) ∙ ap (insert before b) (sym (insert-on before a c l q))
+          ap (insert before a) (insert_on before b c l p) ∙ insert_on before a c (insert before b l) q ∙ ap (λ (x : List A). c ∷ x) ih
+          ∙ sym (insert_on before b c (insert before a l) p) ∙ ap (insert before b) (sym (insert_on before a c l q))
 
   pub sorted_one : {l m : List A} → Perm l m → sorted before l ≡ sorted before m
   sorted_one same = refl
-  sorted_one (swap {a = a} {b = b} {l = l}) = insert-insert a b (sorted before l)
+  sorted_one (swap {a = a} {b = b} {l = l}) = insert_insert a b (sorted before l)
   sorted_one (keep {a = a} p) = ap (insert before a) (sorted_one p)
   sorted_one (then p q) = sorted_one p ∙ sorted_one q
 

@@ -15,7 +15,7 @@ use slices::{advance, begins_with, minus_or_zero, rest};
 // What was counted of the annotations up to `at`: how many of each kind, whether one has a free spelling that no count tells of, the sum of
 // confidences in billionths, the first broken limit, the first annotation whose sequence is outside the form that the edition asks for, the first that breaks
 // a rule, the first that takes the sum past 1.
-#[derive(Drop)]
+#[derive(Clone, Copy)]
 pub struct Totals {
     pub counts: Counts,
     pub free: bool,

@@ -88,9 +88,9 @@ series_stored s =
     let h = ltb→lt s.which 13 s.known in
     ap (λ (n : ℕ). get_or ([] ∷ map bytes series_names) n []) (byte_kept (s.which + 1) (omega arith) ∙ add-one s.which)
 
-letters-stored : (c : Cleavage) → letters_printed (held_cut c % 256) ≡ opt_text word_of (shortened_cut c)
+letters_stored : (c : Cleavage) → letters_printed (held_cut c % 256) ≡ opt_text word_of (shortened_cut c)
 unfolding letters_printed
-letters-stored c = by (eqb c.which 4) refl
+letters_stored c = by (eqb c.which 4) refl
   where
     by : (t : Bool) → eqb c.which 4 ≡ t
         → letters_printed (elim t [ true ↦ 0 | false ↦ c.which + 1 ] % 256) ≡ opt_text (word_of {words = map bytes cleavage_names}) (elim t [ true ↦ silent | false ↦ written c ])
@@ -183,7 +183,7 @@ module _ (a : TableAnnotation) (ks : List ℕ) where
       position_is (noted b ks) (bytes_of t) (series_stored s) (position_stored b ks h.position) (opt_braced t)
   kind_printed_lem (internal c m n t) ku h =
       let b = with_ion a (internal c m n t) in
-      internal_is (noted b ks) (bytes_of t) (letters-stored c) (position_stored b ks h.position) (end_stored b ks h.end) (opt_braced t)
+      internal_is (noted b ks) (bytes_of t) (letters_stored c) (position_stored b ks h.position) (end_stored b ks h.end) (opt_braced t)
   kind_printed_lem (immonium c m) ku h =
       let b = with_ion a (immonium c m) in
       immonium_is (noted b ks) (bytes_of m) (byte_kept c.val h.letter) (modified m)

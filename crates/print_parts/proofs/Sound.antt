@@ -1,7 +1,7 @@
 -- In a sound table each number, each row of units and each name has room in its record. Assumes nothing.
 use Prim.Native.Nat.{ℕ, ◌^◌, ◌<◌}
 use mathlib.Core.Bool.{Bool, true, false, not, ◌||◌}
-use mathlib.Core.List.{List, ◌∷◌, map}
+use mathlib.Core.List.{[], List, ◌∷◌, map}
 use native.Mathlib.Omega.{arith}
 use lib.Dec.{T, leb, le→leb}
 use Rattle.lang.specs.Parts.{Opt, silent, written, items}
@@ -40,16 +40,17 @@ item_ok a b r x i =
     let f = r.item x i in
     record { count = omega (arith, f.self.2.2.1); few = b.item x i; units = λ u j. unit_ok u (f.units u j) }
 
-in-mapped : {A B : Type 0} (f : A → B) {x : A} (xs : List A) → In x xs → In (f x) (map f xs)
-in-mapped f (y ∷ xs) here = here
-in-mapped f (y ∷ xs) (later i) = later (in-mapped f xs i)
+in_mapped : {A B : Type 0} (f : A → B) {x : A} (xs : List A) → In x xs → In (f x) (map f xs)
+in_mapped f [] i = elim i [ ]
+in_mapped f (y ∷ xs) here = here
+in_mapped f (y ∷ xs) (later i) = later (in_mapped f xs i)
 
 records_ok : (x : Isotopes Number) → ((fs : List Field) → In fs (isotope_records x) → Fits isotope_widths fs) → IsotopesOk x
 records_ok no_isotope h = tt
 records_ok (plain_isotope x) h = omega (arith, (h _ here).2.2.1)
 records_ok (average_isotope x) h = omega (arith, (h _ here).2.2.1)
 records_ok (specific_isotopes xs) h = λ x i.
-    let f = h (specific_record x) (in-mapped specific_record (items xs) i) in
+    let f = h (specific_record x) (in_mapped specific_record (items xs) i) in
     (omega (arith, f.2.2.1), omega (arith, f.2.2.2.1))
 
 pub isotopes_ok : (a : TableAnnotation) → InRange a → IsotopesOk a.isotopes

@@ -12,7 +12,7 @@ use Rattle.lang.specs.Parts.{Opt, silent, written, opt_text, opt_map}
 use Rattle.rules.specs.Bytes.{bytes}
 use Rattle.rules.specs.Numbers.{From}
 use Rattle.rules.specs.Decimals.{Decimal, decimal_text}
-use Rattle.rules.specs.Confidences.{in-full, confidence_text}
+use Rattle.rules.specs.Confidences.{in_full, confidence_text}
 use Rattle.rules.specs.Annotations.{TableAnnotation, Deviation, flag_text}
 use Rattle.rules.specs.Annotations as rules
 use Rattle.rules.specs.House.{deviation_rule}
@@ -72,7 +72,7 @@ deviation_told s (written d) k p v h g =
     ∙ ap (λ (w : List ℕ). bytes "/" ++ w) (append_assoc minus size (flag_text (bytes "ppm") d.ppm)))
 
 confidence_told : (s : List ℕ) (x : Opt Decimal) → get_or s confidence_present_at 0 ≡ present x → get_or s confidence_places_at 0 ≡ value_or0 (λ d. d.places) x
-    → u32_at (drop confidence_at s) ≡ value_or0 (λ d. d.value) x → confidence_printed s ≡ opt_text confidence_text (opt_map in-full x)
+    → u32_at (drop confidence_at s) ≡ value_or0 (λ d. d.value) x → confidence_printed s ≡ opt_text confidence_text (opt_map in_full x)
 unfolding confidence_printed
 confidence_told s silent k p v = rw k
 confidence_told s (written d) k p v = rw (k, p, v)
@@ -104,7 +104,7 @@ byte_kept n h = omega arith
 
 pub tail_printed_lem : (a : TableAnnotation) (k : List ℕ) → TailOk a
     → tail_printed (stores (common_fields a) ++ k)
-    ≡ opt_text rules.charge_text a.charge ++ (opt_text rules.deviation_text a.deviation ++ opt_text confidence_text (opt_map in-full a.confidence))
+    ≡ opt_text rules.charge_text a.charge ++ (opt_text rules.deviation_text a.deviation ++ opt_text confidence_text (opt_map in_full a.confidence))
 tail_printed_lem a k ok =
     let s = stores (common_fields a) ++ k in
     let d = a.deviation in

@@ -47,9 +47,9 @@ row_short text f n (x ∷ xs) h =
       mul-suc n (length xs),
     )
 
-in-mapped : {A B : Type 0} (f : A → B) {x : A} {xs : List A} → In x xs → In (f x) (map f xs)
-in-mapped f here = here
-in-mapped f (later i) = later (in-mapped f i)
+in_mapped : {A B : Type 0} (f : A → B) {x : A} {xs : List A} → In x xs → In (f x) (map f xs)
+in_mapped f here = here
+in_mapped f (later i) = later (in_mapped f i)
 
 -- ---- numbers
 
@@ -258,7 +258,7 @@ isotopes_short (average_isotope x) few fit =
 isotopes_short (specific_isotopes xs) few fit =
     omega (
       arith,
-      row_short specific_text (specific_map shortened) 14 (items xs) (λ x i. specific_short x (fit _ (in-mapped specific_record i))),
+      row_short specific_text (specific_map shortened) 14 (items xs) (λ x i. specific_short x (fit _ (in_mapped specific_record i))),
       length-map xs.more specific_record,
     )
 

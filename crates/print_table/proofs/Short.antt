@@ -13,7 +13,7 @@ use Rattle.rules.specs.Ions.{ion_text}
 use Rattle.rules.specs.Losses.{loss_text}
 use Rattle.rules.specs.Isotopes.{isotopes_text}
 use Rattle.rules.specs.Adducts.{adduct_text}
-use Rattle.rules.specs.Confidences.{in-full, confidence_text}
+use Rattle.rules.specs.Confidences.{in_full, confidence_text}
 use Rattle.rules.specs.Annotations.{TableAnnotation, Deviation, flag_text, analyte_text, charge_text, deviation_text, annotation_text}
 use Rattle.rules.specs.Lines.{next_text}
 use Rattle.rules.specs.Fields.{Table}
@@ -55,7 +55,7 @@ deviation_short (written d) h =
       decimal_short d.size h.places h.size,
     )
 
-confidence_short : (x : Opt Decimal) → ConfidenceFits x → length (opt_text confidence_text (opt_map in-full x)) ≤ 23
+confidence_short : (x : Opt Decimal) → ConfidenceFits x → length (opt_text confidence_text (opt_map in_full x)) ≤ 23
 confidence_short silent h = omega arith
 confidence_short (written d) h = let v = h.value in omega (arith, decimal_short d h.places (omega arith))
 

@@ -9,7 +9,7 @@ use Rattle.rules.specs.Formulas.{Written, written_text}
 use Rattle.rules.specs.Losses.{Sign, sign_text, Loss, lost_text, loss_text}
 use Rattle.rules.specs.Isotopes.{Shift, shift_text, specific_text, Isotopes, no_isotope, plain_isotope, average_isotope, specific_isotopes, isotopes_text}
 use Rattle.rules.specs.Adducts.{Item, added_text, item_text, adduct_text}
-use Rattle.rules.specs.Confidences.{Confidence, in-full, from_point_lem, confidence_text}
+use Rattle.rules.specs.Confidences.{Confidence, in_full, from_point_lem, confidence_text}
 use Rattle.rules.specs.Annotations.{Deviation, charge_text, deviation_text}
 
 -- an annotation ends at the end of the line, or at a comma
@@ -81,7 +81,7 @@ module _ (g : Opt (From 2)) (d : Opt Deviation) (c : Opt Confidence) (k : List �
       confidence_keep = opt_keep P confidence_text by c k ends_keep
         where
           by : (x : Confidence) (s : List ℕ) → P (confidence_text x ++ s)
-          by (in-full d) s = star _
+          by (in_full d) s = star _
           by (from_point_lem z) s = star _
 
       module _ (slash : (s : List ℕ) → P (47 ∷ s)) where

@@ -11,7 +11,7 @@ use Rattle.lang.specs.Parts.{Opt, silent, written, opt_map}
 use Rattle.lang.specs.Mark.{Kept, here, later}
 use Rattle.rules.specs.Bytes.{bytes}
 use Rattle.rules.specs.Decimals.{Decimal}
-use Rattle.rules.specs.Confidences.{Confidence, in-full, from_point_lem, meant_decimal}
+use Rattle.rules.specs.Confidences.{Confidence, in_full, from_point_lem, meant_decimal}
 use Rattle.rules.specs.Annotations.{Deviation, flag_text}
 use Rattle.rules.specs.House.{deviation_rule, confidence_of, one}
 use Rattle.rules.specs.Limits.{max_places, fits, bare, decimal_mark, decimal_part, opt_part, deviation_part, confidence_part}
@@ -30,7 +30,7 @@ fits_kept d at k = by (fits d) (λ t. k _ here t)
     by false h = absurd (h tt)
 
 pub confidence_fits_kept : (c : Confidence) (at : ℕ) → Kept ((confidence_part c).marks at) → fits (meant_decimal c) ≡ true
-confidence_fits_kept (in-full d) at k = fits_kept d _ k
+confidence_fits_kept (in_full d) at k = fits_kept d _ k
 confidence_fits_kept (from_point_lem z) at k = fits_kept z.decimal _ k
 
 pub deviation_rule_lem : (d : Opt Deviation) (at : ℕ) (g : Fault) → Kept ((opt_part deviation_part d).marks at) → deviation_rule_of (deviation_read d g) ≡ deviation_rule d

@@ -46,6 +46,7 @@ text_some : (t : Text) → leb 1 (length t.bytes) ≡ true
 text_some t = by t.bytes t.good
   where
     by : (w : List ℕ) → T (is_text w) → leb 1 (length w) ≡ true
+    by [] h = elim h [ ]
     by (b ∷ w) h = le-leb 1 (length (b ∷ w)) (omega arith)
 
 -- a sequence as it is read

@@ -33,7 +33,7 @@ pub struct PrefixRead {
 }
 
 // Prefix and ion; the ion begins at `at`. Its sequence has so many residues, and is of the plain form or not; without one it has none, and is.
-#[derive(Drop)]
+#[derive(Clone, Copy)]
 pub struct Front {
     pub marked: u8,
     pub present: u8,
@@ -46,7 +46,7 @@ pub struct Front {
 }
 
 // Losses, isotopes and adduct: how many there are, and how many units and name bytes they have.
-#[derive(Drop)]
+#[derive(Clone, Copy)]
 pub struct Middle {
     pub counts: Counts,
     pub len: usize,
@@ -54,7 +54,7 @@ pub struct Middle {
 }
 
 // Charge, deviation and confidence.
-#[derive(Drop)]
+#[derive(Clone, Copy)]
 pub struct Tail {
     pub charge: u32,
     pub deviation: DecimalPart,
@@ -63,7 +63,7 @@ pub struct Tail {
 }
 
 // What was read of one annotation. Measuring it and storing it both need this, so it is read once and handed on.
-#[derive(Drop)]
+#[derive(Clone, Copy)]
 pub struct Parts {
     pub front: Front,
     pub middle: Middle,

@@ -43,8 +43,8 @@ what_no_letter (a_formula x) k = no_letter (content_text (a_formula x) ++ k) (fo
 what_no_letter (a_name n) k = refl
 what_no_letter an_electron k = refl
 
-letter-low : (b : ℕ) → b < 65 → false ≡ in_c letter b
-letter-low b h = rw (lt-leb 65 b h, lt-leb 97 b (omega arith))
+letter_low : (b : ℕ) → b < 65 → false ≡ in_c letter b
+letter_low b h = rw (lt-leb 65 b h, lt-leb 97 b (omega arith))
 
 -- the name of a loss begins with a letter, and so no unit begins with its bracket
 name_no_digit : (w k : List ℕ) → first_in letter w ≡ true → first_in digit (w ++ k) ≡ false
@@ -52,7 +52,7 @@ name_no_digit [] k e = absurd (is_t {x = false} e)
 name_no_digit (b ∷ w) k e = by (ltb b 65) refl
   where
     by : (t : Bool) → ltb b 65 ≡ t → in_c digit b ≡ false
-    by true p = absurd (is_t {x = false} (letter-low b (ltb-true b 65 p) ∙ e))
+    by true p = absurd (is_t {x = false} (letter_low b (ltb-true b 65 p) ∙ e))
     by false p = range_above 48 57 b (omega (arith, ltb-false b 65 p))
 
 pub name_no_unit : (n : LossName) (k : List ℕ) → begins_unit (bracket_text n ++ k) ≡ false

@@ -63,9 +63,9 @@ module _ (end : ℕ) (s : List ℕ) (f : Fault) where
   unfolding series_of
   series_within = with_within _ _ _ _ _ s _ (openings.text_within end _ _)
 
-  internal-within : Within (internal_of end s f) s
+  internal_within : Within (internal_of end s f) s
   unfolding internal_of
-  internal-within = with_within _ _ _ _ _ s _ (openings.text_within end _ _)
+  internal_within = with_within _ _ _ _ _ s _ (openings.text_within end _ _)
 
   immonium_within : Within (immonium_of end s f) s
   unfolding immonium_of
@@ -101,7 +101,7 @@ module _ (end : ℕ) (s : List ℕ) (f : Fault) where
   by_within : (b : ℕ) → Within (ion_by b end s f) s
   unfolding ion_by
   by_within b =
-      one_of (λ r. Within r s) (eqb b 109) internal-within
+      one_of (λ r. Within r s) (eqb b 109) internal_within
       (one_of (λ r. Within r s) (eqb b 73) immonium_within
       (one_of (λ r. Within r s) (eqb b 112) precursor_within
       (one_of (λ r. Within r s) (eqb b 114) reference_within

@@ -102,8 +102,8 @@ module _ (c : Letters) (m n : Number) (t : Opt Text) (k : List ℕ) where
   abbrev pub internal_on : List ℕ
   internal_on = 109 ∷ (letters ++ first_on)
 
-  internal-long : length internal_on ≡ 2 + length letters + length (number_text m) + (length (number_text n) + length tail_on)
-  internal-long = omega (arith, length-append letters first_on, length-append (number_text m) (58 ∷ second_on), length-append (number_text n) tail_on)
+  internal_long : length internal_on ≡ 2 + length letters + length (number_text m) + (length (number_text n) + length tail_on)
+  internal_long = omega (arith, length-append letters first_on, length-append (number_text m) (58 ∷ second_on), length-append (number_text n) tail_on)
 
   first_start : drop (1 + length letters) internal_on ≡ first_on
   first_start = drop-append-add (109 ∷ []) (letters ++ first_on) (length letters) ∙ drop-append_seam letters first_on
@@ -131,11 +131,11 @@ module _ (c : Letters) (m n : Number) (t : Opt Text) (k : List ℕ) where
     abbrev second_place : ℕ
     second_place = end - (length internal_on - (1 + length letters + length (number_text m) + 1))
 
-    internal-fault : length internal_on ≤ end
+    internal_fault : length internal_on ≤ end
         → after (both_told (capped m.value) first_place (capped n.value) second_place) ((opt_part (closed_part braced_text) t).marks (end - length tail_on))
         ≡ after f (marks_of (end - length internal_on) (ion_parts (internal c m n t)))
-    internal-fault h =
-        let l = internal-long in
+    internal_fault h =
+        let l = internal_long in
         let p = end - length internal_on + 1 + length letters in
         let q = p + length (number_text m) + 1 in
         let a : end - length tail_on ≡ q + length (number_text n) = omega arith in
@@ -146,10 +146,10 @@ module _ (c : Letters) (m n : Number) (t : Opt Text) (k : List ℕ) where
         a
         ∙ ended (both_told m.value p n.value q) ((opt_part (closed_part braced_text) t).marks (q + length (number_text n)))
 
-    internal-of : EndsIon k → length internal_on ≤ end → internal_of end internal_on f ≡ ion_read (internal c m n t) (after f (marks_of (end - length internal_on) (ion_parts (internal c m n t))))
+    internal_of_lem : EndsIon k → length internal_on ≤ end → internal_of end internal_on f ≡ ion_read (internal c m n t) (after f (marks_of (end - length internal_on) (ion_parts (internal c m n t))))
     unfolding internal_of
-    internal-of e h =
-        let l = internal-long in
+    internal_of_lem e h =
+        let l = internal_long in
         let u : min (1 + length letters) (length internal_on) ≡ 1 + length letters = omega arith in
         let p : min (min (1 + length letters + length (number_text m)) (length internal_on) + 1) (length internal_on) ≡ 1 + length letters + length (number_text m) + 1 = omega arith in
         let q : min (1 + length letters + length (number_text m) + 1 + length (number_text n)) (length internal_on) ≡ 1 + length letters + length (number_text m) + 1 + length (number_text n) = omega arith in
@@ -176,8 +176,8 @@ module _ (c : Letters) (m n : Number) (t : Opt Text) (k : List ℕ) where
         )
         (ap₂ (λ (l : ℕ) (g : Fault).
         record { kind = 2; letter = held_cut (filled_cut c); position = capped m.value; last = capped n.value; start = 1 + length letters + length (number_text m) + 1 + length (number_text n); units = 0; text = length (bytes_of t); len = l; fault = g })
-        z (internal-fault h))
+        z (internal_fault h))
 
     pub internal_read : EndsIon k → length internal_on ≤ end → ion_of end internal_on f ≡ ion_read (internal c m n t) (after f (marks_of (end - length internal_on) (ion_parts (internal c m n t))))
     unfolding ion_of ion_by
-    internal_read e h = internal-of e h
+    internal_read e h = internal_of_lem e h

@@ -54,16 +54,16 @@ two_none a d e =
     by false true = refl
     by false false = refl
 
-letters-in : (n : ℕ) (w k : List ℕ) → T (is_placed (suc n) w) → first_in digit k ≡ true → letters_of (w ++ k) ≡ record { letter = suc n; len = length w }
+letters_in : (n : ℕ) (w k : List ℕ) → T (is_placed (suc n) w) → first_in digit k ≡ true → letters_of (w ++ k) ≡ record { letter = suc n; len = length w }
 unfolding letters_of
-letters-in n [] k t e = absurd t
-letters-in n (a ∷ []) [] t e = absurd (is_t {x = false} e)
-letters-in n (a ∷ []) (d ∷ k) t e = rw (two_none a d e, eqb→eq (one_letter a) (suc n) (and_1 (is_apart a) (eqb (one_letter a) (suc n)) t), ne_eqb (suc n) 0 (λ z. omega arith))
-letters-in n (a ∷ b ∷ []) k t e = rw (eqb→eq (two_letters a b) (suc n) (and_1 (is_apart a) (eqb (two_letters a b) (suc n)) t), ne_eqb (suc n) 0 (λ z. omega arith))
-letters-in n (a ∷ b ∷ d ∷ w) k t e = absurd t
+letters_in n [] k t e = absurd t
+letters_in n (a ∷ []) [] t e = absurd (is_t {x = false} e)
+letters_in n (a ∷ []) (d ∷ k) t e = rw (two_none a d e, eqb→eq (one_letter a) (suc n) (and_1 (is_apart a) (eqb (one_letter a) (suc n)) t), ne_eqb (suc n) 0 (λ z. omega arith))
+letters_in n (a ∷ b ∷ []) k t e = rw (eqb→eq (two_letters a b) (suc n) (and_1 (is_apart a) (eqb (two_letters a b) (suc n)) t), ne_eqb (suc n) 0 (λ z. omega arith))
+letters_in n (a ∷ b ∷ d ∷ w) k t e = absurd t
 
 pub letters_read : (s : Series) (k : List ℕ) → first_in digit k ≡ true → letters_of (word_of s ++ k) ≡ record { letter = s.which + 1; len = length (word_of s) }
-letters_read s k e = letters-in s.which (word_of s) k (placed s) e ∙ ap (λ (n : ℕ). record { letter = n; len = length (word_of s) }) (sym (add-one s.which))
+letters_read s k e = letters_in s.which (word_of s) k (placed s) e ∙ ap (λ (n : ℕ). record { letter = n; len = length (word_of s) }) (sym (add-one s.which))
 
 -- ---- a series begins no other kind of ion
 

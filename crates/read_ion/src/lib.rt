@@ -16,7 +16,7 @@ use slices::{advance, begins_with, byte_of, minus_or_zero, rest};
 
 // An ion. Letter: series 1 to 13, the cleavage of an internal ion as a table holds it, or the letter of an immonium ion. Position: position,
 // start or label; last: the end of an internal ion. It has so many units, or bytes of text: the formula, or the brace or bracket before the text, begins at `start`.
-#[derive(Drop)]
+#[derive(Clone, Copy)]
 pub struct IonRead {
     pub kind: u8,
     pub letter: u8,

@@ -45,9 +45,9 @@ sign_some : (s : List ℕ) → begins_sign s ≡ true → 1 ≤ length s
 sign_some [] e = absurd (is_t {x = false} e)
 sign_some (b ∷ s) e = omega arith
 
-letter-some : (s : List ℕ) → starts_with (bytes "i") s ≡ true → 1 ≤ length s
-letter-some [] e = absurd (is_t {x = false} e)
-letter-some (b ∷ s) e = omega arith
+letter_some : (s : List ℕ) → starts_with (bytes "i") s ≡ true → 1 ≤ length s
+letter_some [] e = absurd (is_t {x = false} e)
+letter_some (b ∷ s) e = omega arith
 
 pub change_some : (s : List ℕ) → begins_change s ≡ true → (1 ≤ length s) × ((head_of s).len ≤ length s)
 unfolding begins_change
@@ -60,7 +60,7 @@ pub isotope_some : (s : List ℕ) → begins_isotope s ≡ true → (1 ≤ lengt
 unfolding begins_isotope
 isotope_some s e =
     let a = sign_some s (both_0 (begins_sign s) (starts_with (bytes "i") (behind s)) e) in
-    let b = letter-some (behind s) (both_1 (begins_sign s) (starts_with (bytes "i") (behind s)) e) in
+    let b = letter_some (behind s) (both_1 (begins_sign s) (starts_with (bytes "i") (behind s)) e) in
     (a, omega (arith, length-drop (head_of s).len s))
 
 -- ---- texts in braces, names in brackets

@@ -85,16 +85,16 @@ module _ {m : ℕ} (g : Sign) (c : Opt (From m)) (k : List ℕ) where
     pub behind_read : behind (sign_text g ++ (opt_text number_text c ++ k)) ≡ k
     behind_read = ap (λ (h : Head). drop h.len (sign_text g ++ (opt_text number_text c ++ k))) head_read_lem ∙ drop_read
 
-    letter-behind : starts_with (bytes "i") (behind (sign_text g ++ (opt_text number_text c ++ k))) ≡ starts_with (bytes "i") k
-    letter-behind = ap (starts_with (bytes "i")) behind_read
+    letter_behind : starts_with (bytes "i") (behind (sign_text g ++ (opt_text number_text c ++ k))) ≡ starts_with (bytes "i") k
+    letter_behind = ap (starts_with (bytes "i")) behind_read
 
     isotope_if : begins_isotope (sign_text g ++ (opt_text number_text c ++ k)) ≡ starts_with (bytes "i") k
     unfolding begins_isotope
-    isotope_if = ap₂ (λ (x y : Bool). x && y) (sign_begins g (opt_text number_text c ++ k)) letter-behind
+    isotope_if = ap₂ (λ (x y : Bool). x && y) (sign_begins g (opt_text number_text c ++ k)) letter_behind
 
     change_if : begins_change (sign_text g ++ (opt_text number_text c ++ k)) ≡ not (starts_with (bytes "i") k)
     unfolding begins_change
-    change_if = ap₂ (λ (x y : Bool). x && not y) (sign_begins g (opt_text number_text c ++ k)) letter-behind
+    change_if = ap₂ (λ (x y : Bool). x && not y) (sign_begins g (opt_text number_text c ++ k)) letter_behind
 
     pub change_begins : starts_with (bytes "i") k ≡ false → (begins_change (sign_text g ++ (opt_text number_text c ++ k)) ≡ true) × (begins_isotope (sign_text g ++ (opt_text number_text c ++ k)) ≡ false)
     change_begins e = (change_if ∙ ap not e, isotope_if ∙ e)

@@ -81,9 +81,9 @@ module _ (l : LineEdition) (machine row : List ℕ) (room : ℕ) (small : room �
       subst (λ (n : ℕ). ReadsThird l (ruled mz) (ruled intensity) third n room a) e
       (subst (λ (w : List ℕ). ReadsThird l (ruled mz) (ruled intensity) w to room a) q (third_right mz intensity to h))
 
-  intensity-right : (mz : Decimal) (at : ℕ) → at ≤ length row → ReadsIntensity l (ruled mz) (drop at row) at room (intensity_of machine row at mz room)
+  intensity_right : (mz : Decimal) (at : ℕ) → at ≤ length row → ReadsIntensity l (ruled mz) (drop at row) at room (intensity_of machine row at mz room)
   unfolding intensity_of
-  intensity-right mz at h = by (column_of (drop at row)).good refl
+  intensity_right mz at h = by (column_of (drop at row)).good refl
     where
       by : (t : Bool) → (column_of (drop at row)).good ≡ t
           → ReadsIntensity l (ruled mz) (drop at row) at room
@@ -108,7 +108,7 @@ module _ (l : LineEdition) (machine row : List ℕ) (room : ℕ) (small : room �
           let a = intensity_of machine row n (column_of row).decimal room in
           ReadsRow.good short g.cut g.text
           (subst (λ (w : List ℕ). ReadsIntensity l (ruled (column_of row).decimal) w n room a) (cut_rest g.cut)
-          (intensity-right (column_of row).decimal n (cut_place g.cut)))
+          (intensity_right (column_of row).decimal n (cut_place g.cut)))
       by false e = ReadsRow.bad short (cut_some row).is (read_bad row e (cut_some row).is)
 
 pub read_row_right : (l : LineEdition) (machine row : List ℕ) (room : ℕ) → room ≤ max_place → ((n : ℕ) → JudgedBy l (drop n row) (scanned_by machine (drop n row)))

@@ -15,7 +15,7 @@ use Rattle.rules.specs.Bytes.{bytes, digit}
 use Rattle.rules.specs.Texts.{first_in, starts_with}
 use Rattle.rules.specs.Numbers.{From}
 use Rattle.rules.specs.Decimals.{Decimal, point_text, decimal_text}
-use Rattle.rules.specs.Confidences.{Confidence, in-full, from_point_lem, confidence_text, meant_decimal}
+use Rattle.rules.specs.Confidences.{Confidence, in_full, from_point_lem, confidence_text, meant_decimal}
 use Rattle.rules.specs.Annotations.{Deviation, flag_text, charge_text, deviation_text}
 use Rattle.rules.specs.Limits.{max_charge, fits, decimal_mark, opt_part, charge_part, deviation_part, confidence_part}
 use Rattle.rules.proofs.Confidences.{leaves_zero, places_some, point_length}
@@ -94,9 +94,9 @@ pub confidence_read_lem : (c : Opt Confidence) (k : List ℕ) (end : ℕ) (f : F
     → confidence_of end (opt_text confidence_text c ++ k) f ≡ confidence_read c (after f ((opt_part confidence_part c).marks (end - length (opt_text confidence_text c ++ k))))
 unfolding confidence_of
 confidence_read_lem silent k end f d p e h = rw e
-confidence_read_lem (written (in-full x)) k end f d p e h =
+confidence_read_lem (written (in_full x)) k end f d p e h =
     rw (digit_not 46 (omega arith) (decimal_text x ++ k) (decimal_begins x k), decimal_read DigitOrPoint x k d p)
-    (part_made x 1 false false (1 + length (decimal_text x)) (end - (length (confidence_text (in-full x) ++ k) - 1)) f
+    (part_made x 1 false false (1 + length (decimal_text x)) (end - (length (confidence_text (in_full x) ++ k) - 1)) f
     ∙ ap₂ (λ (l n : ℕ). part_read 1 false false x l (after f (decimal_mark x n))) (omega arith) (omega arith))
 confidence_read_lem (written (from_point_lem z)) k end f d p e h =
     let x = z.decimal in

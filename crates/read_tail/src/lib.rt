@@ -20,7 +20,7 @@ pub struct ChargeRead {
 
 // A deviation or a confidence. Kind 0: there is none; 1: there is one; 2: a deviation in ppm. A bare one lacks the 0 before its point.
 // A decimal past its bounds is told as 0.
-#[derive(Drop)]
+#[derive(Clone, Copy)]
 pub struct DecimalPart {
     pub kind: u8,
     pub minus: bool,

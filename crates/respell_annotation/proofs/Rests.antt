@@ -14,7 +14,7 @@ use Rattle.rules.specs.Losses.{loss_text, loss_map}
 use Rattle.rules.specs.Isotopes.{isotopes_text, isotopes_map}
 use Rattle.rules.specs.Adducts.{adduct_text}
 use Rattle.rules.specs.Decimals.{point_text}
-use Rattle.rules.specs.Confidences.{Confidence, in-full, from_point_lem, confidence_text, meant_decimal}
+use Rattle.rules.specs.Confidences.{Confidence, in_full, from_point_lem, confidence_text, meant_decimal}
 use Rattle.rules.specs.Annotations.{SpelledAnnotation, flag_text, analyte_text, charge_text, deviation_text}
 use Rattle.rules.specs.Fields.{filled, filled_cut}
 use Rattle.rules.specs.Preferred.{shortened, loss_le, shortened_cut}
@@ -67,10 +67,10 @@ zero_put u v w n e =
     ∙ append_assoc u (v ++ bytes "*") (bytes "0" ++ w) ∙ ap (λ (l : List ℕ). u ++ l) (append_assoc v (bytes "*") (bytes "0" ++ w))
 
 tail_spelled_lem : (u v : List ℕ) (c : Opt Confidence) (g : Fault)
-    → tail_spelled (u ++ (v ++ opt_text confidence_text c)) (confidence_read c g) ≡ u ++ (v ++ opt_text confidence_text (opt_map in-full (opt_map meant_decimal c)))
+    → tail_spelled (u ++ (v ++ opt_text confidence_text c)) (confidence_read c g) ≡ u ++ (v ++ opt_text confidence_text (opt_map in_full (opt_map meant_decimal c)))
 unfolding tail_spelled
 tail_spelled_lem u v silent g = refl
-tail_spelled_lem u v (written (in-full d)) g = refl
+tail_spelled_lem u v (written (in_full d)) g = refl
 tail_spelled_lem u v (written (from_point_lem z)) g =
     let w = point_text z.decimal.places z.decimal.value in
     zero_put u v w (length (confidence_text (from_point_lem z)) - 1) (omega arith) ∙ ap (λ (l : List ℕ). u ++ (v ++ (bytes "*" ++ l))) (sym (zero_before z))
@@ -89,7 +89,7 @@ module _ (a : SpelledAnnotation) (k : List ℕ) where
     middle_is = take_three (flat loss_text a.losses) (isotopes_text a.isotopes) (adduct_text a.adduct) (third a k)
 
     pub tail_is : tail_spelled (take read.tail.len (drop read.middle.len (second a k))) read.tail.confidence
-        ≡ opt_text charge_text a.charge ++ (opt_text deviation_text a.deviation ++ opt_text confidence_text (opt_map in-full (opt_map meant_decimal a.confidence)))
+        ≡ opt_text charge_text a.charge ++ (opt_text deviation_text a.deviation ++ opt_text confidence_text (opt_map in_full (opt_map meant_decimal a.confidence)))
     tail_is =
         ap (λ (s : List ℕ). tail_spelled s read.tail.confidence)
         (ap (take read.tail.len) (drop_three (flat loss_text a.losses) (isotopes_text a.isotopes) (adduct_text a.adduct) (third a k))

@@ -18,7 +18,7 @@ use Rattle.rules.specs.Ions.{ion_map, SpelledIon, TableIon}
 use Rattle.rules.specs.Losses.{loss_map}
 use Rattle.rules.specs.Isotopes.{Isotopes, no_isotope, plain_isotope, average_isotope, specific_isotopes, isotopes_map}
 use Rattle.rules.specs.Adducts.{item_map}
-use Rattle.rules.specs.Confidences.{in-full}
+use Rattle.rules.specs.Confidences.{in_full}
 use Rattle.rules.specs.Annotations.{TableAnnotation, SpelledAnnotation}
 use Rattle.rules.specs.Lines.{Spelling, line_text}
 use Rattle.rules.specs.Fields.{filled_annotation, Table, filled, Says, filled_cut}
@@ -96,7 +96,7 @@ first_said a b s p free =
     let losses = none_said (loss_map filled) (loss_map shortened) a.losses b.losses e.losses p.losses in
     let isotopes = isotopes_filled a.isotopes p.isotopes ∙ ap (isotopes_map shortened) e.isotopes in
     let adduct = none_said (item_map filled) (item_map shortened) a.adduct b.adduct e.adduct p.items in
-    let confidence = in_full_kept a.confidence z.0 ∙ ap (opt_map in-full) e.confidence in
+    let confidence = in_full_kept a.confidence z.0 ∙ ap (opt_map in_full) e.confidence in
     λ i. record {
       marked = e.marked i;
       analyte = e.analyte i;

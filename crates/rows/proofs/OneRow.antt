@@ -148,12 +148,12 @@ third_one : {l : LineEdition} {mz intensity : Decimal} {third : List ℕ} {at ro
 third_one {mz} {intensity} {at = at} {room = room} {c = c} (line r m) (line s n) =
     moves_one m (subst (λ (b : Answer). Moves (stores (row_head mz intensity)) at room b c) (reads_one s r) n)
 
-intensity-one : {l : LineEdition} {mz : Decimal} {bytes : List ℕ} {at room : ℕ} {a c : Answer}
+intensity_one : {l : LineEdition} {mz : Decimal} {bytes : List ℕ} {at room : ℕ} {a c : Answer}
     → ReadsIntensity l mz bytes at room a → ReadsIntensity l mz bytes at room c → a ≡ c
-intensity-one (ReadsIntensity.bad x n) (ReadsIntensity.bad y m) = refl
-intensity-one (ReadsIntensity.bad x n) (ReadsIntensity.good y g s) = absurd (not_bad (cut_one y x).column g n)
-intensity-one (ReadsIntensity.good x f r) (ReadsIntensity.bad y m) = absurd (not_bad (cut_one x y).column f m)
-intensity-one {l} {mz} {at = at} {room = room} {c = c} (ReadsIntensity.good {third = more} {place = p} x {intensity = d} f r) (ReadsIntensity.good {third = third} {place = o} x2 {intensity = e} g s) =
+intensity_one (ReadsIntensity.bad x n) (ReadsIntensity.bad y m) = refl
+intensity_one (ReadsIntensity.bad x n) (ReadsIntensity.good y g s) = absurd (not_bad (cut_one y x).column g n)
+intensity_one (ReadsIntensity.good x f r) (ReadsIntensity.bad y m) = absurd (not_bad (cut_one x y).column f m)
+intensity_one {l} {mz} {at = at} {room = room} {c = c} (ReadsIntensity.good {third = more} {place = p} x {intensity = d} f r) (ReadsIntensity.good {third = third} {place = o} x2 {intensity = e} g s) =
     let q = cut_one x2 x in
     third_one r
     (subst (λ (n : ℕ). ReadsThird l mz d more (at + n) room c) q.place
@@ -171,7 +171,7 @@ reads_row_one (ReadsRow.good h x f r) (ReadsRow.long g) = absurd (omega arith)
 reads_row_one (ReadsRow.good h x f r) (ReadsRow.bad g y m) = absurd (not_bad (cut_one x y).column f m)
 reads_row_one {l} {room = room} {c = c} (ReadsRow.good h {more = more} {place = place} x {mz = d} f r) (ReadsRow.good g {more = rest} {place = p} y {mz = e} k s) =
     let q = cut_one y x in
-    intensity-one r
+    intensity_one r
     (subst (λ (n : ℕ). ReadsIntensity l d more n room c) q.place
     (subst (λ (w : List ℕ). ReadsIntensity l d w p room c) q.more (subst (λ (m : Decimal). ReadsIntensity l m rest p room c) (column_one q.column k f) s)))
 

@@ -48,14 +48,14 @@ third_enough (line r (Moves.done e)) h n = omega arith
 third_enough {third = third} (line r (Moves.no_room e)) h n = read_enough third r (omega arith) e
 third_enough (line r (Moves.refused d e)) h n = e n
 
-intensity-enough : {l : LineEdition} {mz : Decimal} {bytes : List ℕ} {at room : ℕ} {a : Answer} → ReadsIntensity l mz bytes at room a → max_stored_row ≤ room → a.number ≡ 8 → ⊥
-intensity-enough (ReadsIntensity.bad x n) h e = omega arith
-intensity-enough (ReadsIntensity.good x g r) h e = third_enough r h e
+intensity_enough : {l : LineEdition} {mz : Decimal} {bytes : List ℕ} {at room : ℕ} {a : Answer} → ReadsIntensity l mz bytes at room a → max_stored_row ≤ room → a.number ≡ 8 → ⊥
+intensity_enough (ReadsIntensity.bad x n) h e = omega arith
+intensity_enough (ReadsIntensity.good x g r) h e = third_enough r h e
 
 pub read_row_enough : {l : LineEdition} {row : List ℕ} {room : ℕ} {a : Answer} → ReadsRow l row room a → max_stored_row ≤ room → a.number ≡ 8 → ⊥
 read_row_enough (ReadsRow.long l) h e = omega arith
 read_row_enough (ReadsRow.bad l x n) h e = omega arith
-read_row_enough (ReadsRow.good l x g r) h e = intensity-enough r h e
+read_row_enough (ReadsRow.good l x g r) h e = intensity_enough r h e
 
 -- ---- room for the preferred row
 
@@ -183,14 +183,14 @@ third_inside (line r (Moves.done e)) n =
 third_inside (line r (Moves.no_room e)) n = absurd (omega arith)
 third_inside (line r (Moves.refused d e)) n = absurd (d n)
 
-intensity-inside : {l : LineEdition} {mz : Decimal} {bytes : List ℕ} {at room : ℕ} {a : Answer} → ReadsIntensity l mz bytes at room a → a.number ≡ 0 → a.size ≤ room
-intensity-inside (ReadsIntensity.bad x n) e = absurd (omega arith)
-intensity-inside (ReadsIntensity.good x g r) e = third_inside r e
+intensity_inside : {l : LineEdition} {mz : Decimal} {bytes : List ℕ} {at room : ℕ} {a : Answer} → ReadsIntensity l mz bytes at room a → a.number ≡ 0 → a.size ≤ room
+intensity_inside (ReadsIntensity.bad x n) e = absurd (omega arith)
+intensity_inside (ReadsIntensity.good x g r) e = third_inside r e
 
 reads_inside : {l : LineEdition} {row : List ℕ} {room : ℕ} {a : Answer} → ReadsRow l row room a → a.number ≡ 0 → a.size ≤ room
 reads_inside (ReadsRow.long l) e = absurd (omega arith)
 reads_inside (ReadsRow.bad l x n) e = absurd (omega arith)
-reads_inside (ReadsRow.good l x g r) e = intensity-inside r e
+reads_inside (ReadsRow.good l x g r) e = intensity_inside r e
 
 -- there is such an answer
 pub given_again_row : {l : LineEdition} {row : List ℕ} {room room' : ℕ} {a : Answer} → RelabelsRow l row room a → a.number ≡ 0 → a.size ≤ room'

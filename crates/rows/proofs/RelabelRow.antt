@@ -87,7 +87,7 @@ record Split (l : LineEdition) (row : List ℕ) (end at : ℕ) : Type 0 where
   mz : Decimal
   intensity : Decimal
   mz_fits : T (fits mz)
-  intensity-fits : T (fits intensity)
+  intensity_fits : T (fits intensity)
   inside : at ≤ length row
   reads : (room : ℕ) (a : Answer) → ReadsThird l mz intensity (drop at row) at room a → ReadsRow l row room a
   bare : take end row ≡ decimal_text mz ++ (tab ++ decimal_text intensity)
@@ -112,7 +112,7 @@ module _ (l : LineEdition) (row : List ℕ) (short : length row ≤ max_row) (mz
         mz = mz;
         intensity = d;
         mz_fits = f;
-        intensity-fits = g;
+        intensity_fits = g;
         inside = omega (arith, ap length z, length-append c third, k);
         reads = λ room a r.
             ReadsRow.good short (at_tab v (w ++ (tab ++ third)) (decimal_lacks mz) e) (record { text = refl; bounds = f })
@@ -132,7 +132,7 @@ module _ (l : LineEdition) (row : List ℕ) (short : length row ≤ max_row) (mz
         mz = mz;
         intensity = d;
         mz_fits = f;
-        intensity-fits = g;
+        intensity_fits = g;
         inside = omega arith;
         reads = λ room a r.
             ReadsRow.good short (at_tab v w (decimal_lacks mz) e) (record { text = refl; bounds = f })
@@ -290,23 +290,23 @@ module _ (l : LineEdition) (machine row : List ℕ) (room : ℕ) (small : room �
       relabelled
       (s.reads max_stored_row (record { number = 0; place = 0; size = row_head_size + a.size; out = head ++ a.out }) (line r (Moves.done e))) refl
       (subst (λ (w : List ℕ). WritesRow l w room (spelled_of (take at row) (length third) room b)) (sym q)
-      (line_written s.mz s.intensity s.mz_fits s.intensity-fits l t x.sound (preferred_within l x.says x.edition) some (take at row) (s.labelled h) few (length third) room x.short small
+      (line_written s.mz s.intensity s.mz_fits s.intensity_fits l t x.sound (preferred_within l x.says x.edition) some (take at row) (s.labelled h) few (length third) room x.short small
       (subst (λ (w : List ℕ). Writes l w (room - length (take at row)) b) (bytes_read third max_table x) w)))
 
   bare_right : {end at : ℕ} → Split l row end at → length row ≤ at → RelabelsRow l row room (bare_of (take end row) (length (take end row)) room)
   bare_right {end} {at} s h =
-      let r = meant s.mz s.intensity s.mz_fits s.intensity-fits [] in
+      let r = meant s.mz s.intensity s.mz_fits s.intensity_fits [] in
       let c = take end row in
       let few : length (stored current []) ≤ max_table = table_small none no_table_sound (omega arith) in
       let n : length (stored_row r) ≤ max_stored_row = omega (arith, length-append (stores (row_head s.mz s.intensity)) (stored current [])) in
-      let read = third_read l r s.mz_fits s.intensity-fits no_table_sound (none_within l) (omega arith) max_stored_row n at in
+      let read = third_read l r s.mz_fits s.intensity_fits no_table_sound (none_within l) (omega arith) max_stored_row n at in
       relabelled
       (s.reads max_stored_row (gives max_stored_row (stored_row r))
       (subst (λ (w : List ℕ). ReadsThird l s.mz s.intensity w at max_stored_row (gives max_stored_row (stored_row r))) (sym (drop_of_length-le row {i = at} h)) read)) refl
       (subst (λ (w : List ℕ). WritesRow l w room (bare_of c (length c) room)) (sym (take_given max_stored_row (stored_row r)))
-      (WritesRow.fits r (held s.mz s.intensity s.mz_fits s.intensity-fits [] no_table_sound) (none_within l) (omega arith)
+      (WritesRow.fits r (held s.mz s.intensity s.mz_fits s.intensity_fits [] no_table_sound) (none_within l) (omega arith)
       (subst (λ (w : List ℕ). Delivers room w (bare_of c (length c) room))
-      (s.bare ∙ sym (bare_text s.mz s.intensity s.mz_fits s.intensity-fits)) (bare_delivered c room))))
+      (s.bare ∙ sym (bare_text s.mz s.intensity s.mz_fits s.intensity_fits)) (bare_delivered c room))))
 
   columns_right : {end at : ℕ} → Split l row end at → RelabelsRow l row room (columns_of machine row end at room)
   unfolding columns_of third_of
@@ -324,9 +324,9 @@ module _ (l : LineEdition) (machine row : List ℕ) (room : ℕ) (small : room �
   abbrev n : ℕ
   n = (column_of row).next
 
-  intensity-right : (column_of row).good ≡ true → RelabelsRow l row room (intensity_of machine row (column_of row).next room)
+  intensity_right : (column_of row).good ≡ true → RelabelsRow l row room (intensity_of machine row (column_of row).next room)
   unfolding intensity_of
-  intensity-right e = by (column_of (drop n row)).good refl
+  intensity_right e = by (column_of (drop n row)).good refl
     where
       by : (t : Bool) → (column_of (drop n row)).good ≡ t
           → RelabelsRow l row room (cond t (columns_of machine row (min (n + (column_of (drop n row)).len) (length row)) (min (n + (column_of (drop n row)).next) (length row)) room) (refuses room 13 n))
@@ -348,7 +348,7 @@ module _ (l : LineEdition) (machine row : List ℕ) (room : ℕ) (small : room �
   mz_right = by (column_of row).good refl
     where
       by : (t : Bool) → (column_of row).good ≡ t → RelabelsRow l row room (cond t (intensity_of machine row (column_of row).next room) (refuses room 12 0))
-      by true e = intensity-right e
+      by true e = intensity_right e
       by false e =
           let c = (cut_some row).is in refused (ReadsRow.bad short c (read_bad row e c)) (λ z. absurd (omega arith))
 

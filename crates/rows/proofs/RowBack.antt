@@ -58,14 +58,14 @@ module _ (l : LineEdition) (r : Row) (f : T (fits r.mz)) (g : T (fits r.intensit
       subst (ReadsThird l r.mz r.intensity (preferred r.table) at room) (headed head (stored current r.table) room refl)
       (line (reads_preferred l r.table s i n (room - row_head_size) (omega (arith, length-append head (stored current r.table)))) (Moves.done refl))
 
-  intensity-read : (t : Table) → r.table ≡ t → (at : ℕ)
+  intensity_read : (t : Table) → r.table ≡ t → (at : ℕ)
       → ReadsIntensity l r.mz (decimal_text r.intensity ++ opt_text third_text (preferred_third t)) at room (gives room (stored_row r))
-  intensity-read [] e at =
+  intensity_read [] e at =
       let w = decimal_text r.intensity in
       ReadsIntensity.good (no_tab (subst (λ (x : List ℕ). T (lacks 9 x)) (sym (append-nil w)) (decimal_lacks r.intensity)))
       (record { text = sym (append-nil w); bounds = g })
       (subst (λ (x : Table). ReadsThird l r.mz r.intensity (preferred x) (at + length (w ++ [])) room (gives room (stored_row r))) e (third_read (at + length (w ++ []))))
-  intensity-read (a ∷ t) e at =
+  intensity_read (a ∷ t) e at =
       let w = decimal_text r.intensity in
       ReadsIntensity.good (at_tab w (preferred (a ∷ t)) (decimal_lacks r.intensity) refl) (record { text = refl; bounds = g })
       (subst (λ (x : Table). ReadsThird l r.mz r.intensity (preferred x) (at + (length w + 1)) room (gives room (stored_row r))) e (third_read (at + (length w + 1))))
@@ -76,7 +76,7 @@ module _ (l : LineEdition) (r : Row) (f : T (fits r.mz)) (g : T (fits r.intensit
       let w = decimal_text r.intensity in
       let x = opt_text third_text (preferred_third r.table) in
       ReadsRow.good (preferred_row_short r f g n)
-      (at_tab v (w ++ x) (decimal_lacks r.mz) refl) (record { text = refl; bounds = f }) (intensity-read r.table refl (length v + 1))
+      (at_tab v (w ++ x) (decimal_lacks r.mz) refl) (record { text = refl; bounds = f }) (intensity_read r.table refl (length v + 1))
 
 -- the row that was written is the preferred one of the stored row
 pub record Wrote (l : LineEdition) (bytes : List ℕ) (a : Answer) : Type 0 where

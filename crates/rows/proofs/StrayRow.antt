@@ -41,7 +41,7 @@ record StrayIn (l : LineEdition) (row : List ℕ) (place : ℕ) : Type 0 where
   mz : Decimal
   intensity : Decimal
   mz_fits : T (fits mz)
-  intensity-fits : T (fits intensity)
+  intensity_fits : T (fits intensity)
   third : List ℕ
   is : columns mz intensity ++ third ≡ row
   room : ℕ
@@ -59,7 +59,7 @@ stray_third {third = third} {room = room} mz intensity f g q (line {b = b} r (Mo
       mz = mz;
       intensity = intensity;
       mz_fits = f;
-      intensity-fits = g;
+      intensity_fits = g;
       third = third;
       is = q;
       room = room - row_head_size;
@@ -132,7 +132,7 @@ stray_answered_row {l} {row} {other} {room' = room'} {a = a} r e small agrees =
     let third = drop p other in
     let whole : c ++ third ≡ other = ap (λ (z : List ℕ). z ++ third) (sym front) ∙ take-append-drop p other in
     let t = stray_answered {room' = room' - row_head_size} x.reads x.two (omega (arith, length-drop p other)) (y.1 ∙ ap (take (k + 1)) behind) in
-    let d = read_other x.mz x.intensity x.mz_fits x.intensity-fits third {room = room'} (omega (arith, ap length whole)) t in
+    let d = read_other x.mz x.intensity x.mz_fits x.intensity_fits third {room = room'} (omega (arith, ap length whole)) t in
     subst (λ (z : List ℕ). ReadsRow l z room' (refuses room' 2 a.place)) whole
     (subst (λ (z : ℕ). ReadsRow l (c ++ third) room' (refuses room' 2 z)) (sym x.at) d)
 

@@ -14,14 +14,14 @@ use Rattle.lang.proofs.Tests.{t_is, not_t}
 use Rattle.rules.specs.Bytes.{bytes}
 use Rattle.rules.specs.Numbers.{digits}
 use Rattle.rules.specs.Decimals.{Decimal, whole, point_text, decimal_text}
-use Rattle.rules.specs.Confidences.{begins_zero_point, ZeroPoint, Confidence, in-full, from_point_lem, confidence_text, meant_decimal}
+use Rattle.rules.specs.Confidences.{begins_zero_point, ZeroPoint, Confidence, in_full, from_point_lem, confidence_text, meant_decimal}
 use Rattle.rules.proofs.Digits.{digits_small}
 use Rattle.rules.proofs.Fractions.{last_length}
 
 -- ---- what is left out
 
 abbrev pub leaves_zero : Confidence → Bool
-leaves_zero (in-full d) = false
+leaves_zero (in_full d) = false
 leaves_zero (from_point_lem z) = true
 
 abbrev pub zero_left_out : Opt Confidence → Bool
@@ -29,9 +29,9 @@ zero_left_out silent = false
 zero_left_out (written c) = leaves_zero c
 
 -- one that leaves out nothing is the decimal that it means, in full
-pub in_full_kept : (x : Opt Confidence) → zero_left_out x ≡ false → x ≡ opt_map in-full (opt_map meant_decimal x)
+pub in_full_kept : (x : Opt Confidence) → zero_left_out x ≡ false → x ≡ opt_map in_full (opt_map meant_decimal x)
 in_full_kept silent e = refl
-in_full_kept (written (in-full d)) e = refl
+in_full_kept (written (in_full d)) e = refl
 in_full_kept (written (from_point_lem z)) e = absurd (not_t {x = true} e tt)
 
 -- ---- the decimal
@@ -66,8 +66,8 @@ point_length zero v h = absurd (omega arith)
 point_length (suc n) v h = omega (arith, last_length (suc n) v)
 
 -- in full it is at most one byte longer
-pub full_longer : (c : Confidence) → length (confidence_text (in-full (meant_decimal c))) ≤ length (confidence_text c) + 1
-full_longer (in-full d) = omega arith
+pub full_longer : (c : Confidence) → length (confidence_text (in_full (meant_decimal c))) ≤ length (confidence_text c) + 1
+full_longer (in_full d) = omega arith
 full_longer (from_point_lem z) =
     let w = point_text z.decimal.places z.decimal.value in
     omega (arith, ap length (zero_before z), length-append (bytes "0") w)

@@ -10,7 +10,7 @@ use Rattle.lang.specs.Mark.{here, later, Kept}
 use Rattle.lang.proofs.Deriv.{and_0, and_1}
 use Rattle.rules.specs.Bytes.{bytes}
 use Rattle.rules.specs.Decimals.{Decimal, digit_count}
-use Rattle.rules.specs.Confidences.{Confidence, in-full, from_point_lem, meant_decimal}
+use Rattle.rules.specs.Confidences.{Confidence, in_full, from_point_lem, meant_decimal}
 use Rattle.rules.specs.Annotations.{Deviation, flag_text}
 use Rattle.rules.specs.Limits.{max_places, max_digits, fits, bare, opt_part, decimal_part}
 use Rattle.rules.specs.Limits.{deviation_part, confidence_part}
@@ -74,7 +74,7 @@ within_one d f t =
 
 -- the limit of a confidence is that of the decimal which it means
 pub confidence_kept : (c : Confidence) (at : ℕ) → Kept ((confidence_part c).marks at) → T (fits (meant_decimal c))
-confidence_kept (in-full d) at k = kept_true (fits d) (λ b. k _ here b)
+confidence_kept (in_full d) at k = kept_true (fits d) (λ b. k _ here b)
 confidence_kept (from_point_lem z) at k = kept_true (fits z.decimal) (λ b. k _ here b)
 
 pub confidence_fits : (x : Opt Confidence) (at : ℕ) → Kept ((opt_part confidence_part x).marks at) → T (leb (confidence_of (opt_map meant_decimal x)) one)

@@ -93,9 +93,9 @@ brackets_on : (n : Name) (k : List ℕ) (p : Phase) (c : ℕ) → from (bracket_
 unfolding read_from
 brackets_on n k p c = ap (λ (w : List ℕ). read_from w p 1 true c) (append_assoc n.bytes (93 ∷ []) k) ∙ name_on n.bytes k p c n.good
 
-letter-on : (b : ℕ) (k : List ℕ) (p : Phase) (c : ℕ) → T (in_c capital b) → from (b ∷ k) p c ≡ from k (leads p).letter (c + 1)
+letter_on : (b : ℕ) (k : List ℕ) (p : Phase) (c : ℕ) → T (in_c capital b) → from (b ∷ k) p c ≡ from k (leads p).letter (c + 1)
 unfolding read_from
-letter-on b k p c h = rw (not_in capital name_brackets.opens tt tt b h, not_in capital name_brackets.closes tt tt b h, t_is (in_c capital b) h)
+letter_on b k p c h = rw (not_in capital name_brackets.opens tt tt b h, not_in capital name_brackets.closes tt tt b h, t_is (in_c capital b) h)
 
 dash_on : (k : List ℕ) (p : Phase) (c : ℕ) → from (45 ∷ k) p c ≡ from k (leads p).dash c
 unfolding read_from
@@ -108,7 +108,7 @@ names_on (n ∷ ns) k c =
 
 residue_on : (r : Residue) (k : List ℕ) (p : Phase) (c : ℕ) → (leads p).letter ≡ residue → from (residue_text r ++ k) p c ≡ from k residue (c + 1)
 residue_on r k p c e =
-    letter-on r.letter.val (flat bracket_text r.names ++ k) p c r.letter.is_in ∙ ap (λ (q : Phase). from (flat bracket_text r.names ++ k) q (c + 1)) e
+    letter_on r.letter.val (flat bracket_text r.names ++ k) p c r.letter.is_in ∙ ap (λ (q : Phase). from (flat bracket_text r.names ++ k) q (c + 1)) e
     ∙ names_on r.names k (c + 1)
 
 more_on : (rs : List Residue) (k : List ℕ) (c : ℕ) → from (flat residue_text rs ++ k) residue c ≡ from k residue (c + length rs)

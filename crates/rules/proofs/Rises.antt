@@ -9,7 +9,7 @@ use Rattle.lang.proofs.Rising.{room, none, also, rise_none, rise_wide, rise_appe
 use Rattle.rules.specs.Bytes.{bytes}
 use Rattle.rules.specs.Numbers.{digits, From}
 use Rattle.rules.specs.Losses.{loss_text}
-use Rattle.rules.specs.Confidences.{Confidence, in-full, from_point_lem, confidence_text}
+use Rattle.rules.specs.Confidences.{Confidence, in_full, from_point_lem, confidence_text}
 use Rattle.rules.specs.Annotations.{SpelledAnnotation, Deviation, flag_text, charge_text, deviation_text, annotation_text}
 use Rattle.rules.specs.Lines.{Spelling, next_text, line_text}
 use Rattle.rules.specs.Limits.{max_position, max_charge, loss_marks, analyte_part, charge_part, deviation_part, confidence_part}
@@ -36,9 +36,9 @@ deviation_fits d =
     record { rises = λ at. parts_within ps at (length (deviation_text d)) (simp length-append (omega arith)) }
 
 confidence_fits : (c : Confidence) → Fits (confidence_part c)
-confidence_fits (in-full d) =
+confidence_fits (in_full d) =
     let s = decimal_some d in
-    record { rises = λ at. rise_wide (omega arith) (le_refl _) (decimal_rises d (at + 1) (at + length (confidence_text (in-full d))) (omega arith)) }
+    record { rises = λ at. rise_wide (omega arith) (le_refl _) (decimal_rises d (at + 1) (at + length (confidence_text (in_full d))) (omega arith)) }
 confidence_fits (from_point_lem z) =
     let d = z.decimal in
     let h = places_some z in

@@ -17,7 +17,7 @@ use Rattle.rules.specs.Losses.{Lost, lost_formula, lost_name_lem, lost_map, Loss
 use Rattle.rules.specs.Isotopes.{Shift, shift_map, Specific, specific_map, Isotopes, no_isotope, plain_isotope, average_isotope, specific_isotopes, isotopes_map}
 use Rattle.rules.specs.Adducts.{Added, added_formula, electron, added_map, Item, item_map}
 use Rattle.rules.specs.Decimals.{Decimal}
-use Rattle.rules.specs.Confidences.{in-full, meant_decimal}
+use Rattle.rules.specs.Confidences.{in_full, meant_decimal}
 use Rattle.rules.specs.Annotations.{TableAnnotation, Annotation, annotation_map}
 use Rattle.rules.specs.Fields.{filled_annotation, Table, filled, filled_cut}
 use Rattle.rules.specs.Preferred.{shortened_annotation, shortened, shortened_cut, preferred_spelling}
@@ -55,7 +55,7 @@ pub some_back : {X Y : Type 0} (f : X → Y) (g : Y → X) → ((x : X) → g (f
 some_back f g gf s = λ i. record { first = gf s.first i; more = map_back f g gf s.more i }
 
 -- a confidence in full means its decimal
-pub confidence_back : (x : Opt Decimal) → opt_map meant_decimal (opt_map in-full x) ≡ x
+pub confidence_back : (x : Opt Decimal) → opt_map meant_decimal (opt_map in_full x) ≡ x
 confidence_back silent = refl
 confidence_back (written d) = refl
 
@@ -104,7 +104,7 @@ module _ {A B : Type 0} (f : A → B) (g : B → A) (gf : (x : A) → g (f x) �
   pub item_back : (v : Item A) → item_map g (item_map f v) ≡ v
   item_back v = λ i. record { sign = v.sign; count = gf v.count i; what = added_back v.what i }
 
-  pub annotation_back : (v : Annotation A Cleavage Decimal) → annotation_map g filled_cut meant_decimal (annotation_map f shortened_cut in-full v) ≡ v
+  pub annotation_back : (v : Annotation A Cleavage Decimal) → annotation_map g filled_cut meant_decimal (annotation_map f shortened_cut in_full v) ≡ v
   annotation_back v =
       λ i. record {
         marked = v.marked;

@@ -15,14 +15,14 @@ pub record ZeroPoint : Type 0 where
 
 -- a confidence as it is written: its decimal in full, or from the point on. In a table it is the decimal.
 pub data Confidence : Type 0 where
-  in-full : Decimal → Confidence
+  in_full : Decimal → Confidence
   from_point_lem : ZeroPoint → Confidence
 
 abbrev pub confidence_text : Confidence → List ℕ
-confidence_text (in-full d) = bytes "*" ++ decimal_text d
+confidence_text (in_full d) = bytes "*" ++ decimal_text d
 confidence_text (from_point_lem z) = bytes "*" ++ point_text z.decimal.places z.decimal.value
 
 -- the decimal that it means: a 0 that is left out is there
 abbrev pub meant_decimal : Confidence → Decimal
-meant_decimal (in-full d) = d
+meant_decimal (in_full d) = d
 meant_decimal (from_point_lem z) = z.decimal

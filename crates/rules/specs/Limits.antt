@@ -12,7 +12,7 @@ use Rattle.rules.specs.Ions.{SpelledIon, series, internal, immonium, precursor, 
 use Rattle.rules.specs.Losses.{sign_text, Lost, lost_formula, lost_name_lem, Loss, loss_text}
 use Rattle.rules.specs.Isotopes.{Shift, shift_text, Specific, specific_text, Isotopes, no_isotope, plain_isotope, average_isotope, specific_isotopes, isotopes_text}
 use Rattle.rules.specs.Adducts.{Added, added_formula, electron, added_text, Item, item_text, adduct_text}
-use Rattle.rules.specs.Confidences.{Confidence, in-full, from_point_lem, confidence_text}
+use Rattle.rules.specs.Confidences.{Confidence, in_full, from_point_lem, confidence_text}
 use Rattle.rules.specs.Annotations.{SpelledAnnotation, Deviation, flag_text, analyte_text, charge_text, deviation_text, annotation_text}
 use Rattle.rules.specs.Lines.{Spelling, next_text}
 
@@ -175,7 +175,7 @@ deviation_part d = part (deviation_text d) (λ at. marks_of at (bare (bytes "/")
 
 -- the first digit stands behind `*`, or behind `*.`
 abbrev pub confidence_mark : Confidence → ℕ → List Mark
-confidence_mark (in-full d) at = decimal_mark d (at + 1)
+confidence_mark (in_full d) at = decimal_mark d (at + 1)
 confidence_mark (from_point_lem z) at = decimal_mark z.decimal (at + 2)
 
 abbrev pub confidence_part : Confidence → Part

@@ -9,7 +9,7 @@ use Rattle.rules.specs.Formulas.{Written}
 use Rattle.rules.specs.Ions.{Letters, Cleavage}
 use Rattle.rules.specs.Losses.{Sign, minus, plus, Loss, lost_text, lost_map}
 use Rattle.rules.specs.Adducts.{Item, added_text, added_map}
-use Rattle.rules.specs.Confidences.{in-full}
+use Rattle.rules.specs.Confidences.{in_full}
 use Rattle.rules.specs.Annotations.{TableAnnotation, SpelledAnnotation, annotation_map}
 use Rattle.rules.specs.Lines.{Spelling, line_text}
 
@@ -61,7 +61,7 @@ item_le x y = lex_le (item_key x) (item_key y)
 
 -- an annotation of a table, each 1 and each yb left out, and its confidence in full
 abbrev pub shortened_annotation : TableAnnotation → SpelledAnnotation
-shortened_annotation a = annotation_map shortened shortened_cut in-full a
+shortened_annotation a = annotation_map shortened shortened_cut in_full a
 
 abbrev pub preferred_spelling : List TableAnnotation → Spelling
 preferred_spelling t = map shortened_annotation t

@@ -34,14 +34,14 @@ module _ (cs ls zs es ys : List ℕ) where
   abbrev parts : List ℕ
   parts = cs ++ (ls ++ (zs ++ (es ++ ys)))
 
-  in-first : (i : ℕ) → i < length cs → get_or parts i 0 ≡ get_or cs i 0
-  in-first i h = get_or-append cs (ls ++ (zs ++ (es ++ ys))) 0 i h
+  in_first : (i : ℕ) → i < length cs → get_or parts i 0 ≡ get_or cs i 0
+  in_first i h = get_or-append cs (ls ++ (zs ++ (es ++ ys))) 0 i h
 
-  in-second : (i : ℕ) → i < length ls → get_or parts (length cs + i) 0 ≡ get_or ls i 0
-  in-second i h = get_or-append-add cs (ls ++ (zs ++ (es ++ ys))) i 0 ∙ get_or-append ls (zs ++ (es ++ ys)) 0 i h
+  in_second : (i : ℕ) → i < length ls → get_or parts (length cs + i) 0 ≡ get_or ls i 0
+  in_second i h = get_or-append-add cs (ls ++ (zs ++ (es ++ ys))) i 0 ∙ get_or-append ls (zs ++ (es ++ ys)) 0 i h
 
-  in-fourth : (i : ℕ) → i < length es → get_or parts (length cs + (length ls + (length zs + i))) 0 ≡ get_or es i 0
-  in-fourth i h =
+  in_fourth : (i : ℕ) → i < length es → get_or parts (length cs + (length ls + (length zs + i))) 0 ≡ get_or es i 0
+  in_fourth i h =
       get_or-append-add cs (ls ++ (zs ++ (es ++ ys))) (length ls + (length zs + i)) 0 ∙ get_or-append-add ls (zs ++ (es ++ ys)) (length zs + i) 0
       ∙ get_or-append-add zs (es ++ ys) i 0 ∙ get_or-append es ys 0 i h
 
@@ -95,7 +95,7 @@ made p = filled p (size_is second_lines)
 
 class_at : (l : LineEdition) (b : ℕ) → b < 256 → get_or (machine_bytes l) b 0 ≡ get_or classes b 0
 class_at l b h =
-    ap (λ (m : List ℕ). get_or m b 0) (laid_out l) ∙ in-first classes (all_rows l) no_rows accepts no_marks b (omega (arith, classes_length))
+    ap (λ (m : List ℕ). get_or m b 0) (laid_out l) ∙ in_first classes (all_rows l) no_rows accepts no_marks b (omega (arith, classes_length))
 
 row_at : (l : LineEdition) (q c : ℕ) → q < states → c < kinds → get_or (all_rows l) (q * kinds + c) 0 ≡ get_or (get_or (own_rows l) q []) c 0
 unfolding all_rows own_rows rows
@@ -107,14 +107,14 @@ cell_at l q c h g =
     let e : rows_at + q * kinds + c ≡ length classes + (q * kinds + c) = omega (arith, classes_length) in
     ap (λ (m : List ℕ). get_or m (rows_at + q * kinds + c) 0) (laid_out l)
     ∙ ap (λ (i : ℕ). get_or (parts classes (all_rows l) no_rows accepts no_marks) i 0) e
-    ∙ in-second classes (all_rows l) no_rows accepts no_marks (q * kinds + c) (omega (arith, rows_length l)) ∙ row_at l q c h g
+    ∙ in_second classes (all_rows l) no_rows accepts no_marks (q * kinds + c) (omega (arith, rows_length l)) ∙ row_at l q c h g
 
 mark_at : (l : LineEdition) (q : ℕ) → q < states → get_or (machine_bytes l) (ends_at + q) 0 ≡ get_or accepts q 0
 mark_at l q h =
     let e : ends_at + q ≡ length classes + (length (all_rows l) + (length no_rows + q)) = omega (arith, classes_length, rows_length l, none_length) in
     ap (λ (m : List ℕ). get_or m (ends_at + q) 0) (laid_out l)
     ∙ ap (λ (i : ℕ). get_or (parts classes (all_rows l) no_rows accepts no_marks) i 0) e
-    ∙ in-fourth classes (all_rows l) no_rows accepts no_marks q (omega (arith, accepts_length))
+    ∙ in_fourth classes (all_rows l) no_rows accepts no_marks q (omega (arith, accepts_length))
 
 -- by the byte's class
 step_at : (l : LineEdition) (q b : ℕ) → q < states → b < 256 → get_or classes b 0 < kinds → step_by (machine_bytes l) q b ≡ get_or (get_or (own_rows l) q []) (get_or classes b 0) 0

@@ -12,7 +12,7 @@ use Rattle.lang.proofs.Means.{Means, opt_re, means_many, means_opt, means_pair, 
 use Rattle.rules.specs.Bytes.{bytes}
 use Rattle.rules.specs.Numbers.{From}
 use Rattle.rules.specs.Decimals.{Decimal, point_text, decimal_text}
-use Rattle.rules.specs.Confidences.{ZeroPoint, Confidence, in-full, from_point_lem, confidence_text}
+use Rattle.rules.specs.Confidences.{ZeroPoint, Confidence, in_full, from_point_lem, confidence_text}
 use Rattle.rules.specs.Formulas.{Written}
 use Rattle.rules.specs.Ions.{Letters, Ion, SpelledIon, series, internal, immonium, precursor, reference, named, composed, smiles, unknown}
 use Rattle.rules.specs.Annotations.{Annotation, SpelledAnnotation, Deviation, flag_text, analyte_text, charge_text, deviation_text, annotation_text}
@@ -57,11 +57,11 @@ abbrev WrittenConfidence : Type 0
 WrittenConfidence = Unit {0} × (Decimal ⊎ ZeroPoint)
 
 confidence_to : Confidence → WrittenConfidence
-confidence_to (in-full d) = (tt, inl d)
+confidence_to (in_full d) = (tt, inl d)
 confidence_to (from_point_lem z) = (tt, inr z)
 
 confidence_from : WrittenConfidence → Confidence
-confidence_from (u, inl d) = in-full d
+confidence_from (u, inl d) = in_full d
 confidence_from (u, inr z) = from_point_lem z
 
 from_text : (p : WrittenConfidence) → bytes "*" ++ either decimal_text (λ z. point_text z.decimal.places z.decimal.value) p.1 ≡ confidence_text (confidence_from p)
@@ -73,7 +73,7 @@ means_confidence : Means Confidence confidence_text confidence_re
 unfolding confidence_to confidence_from
 means_confidence =
     means_as (means_pair (means_word (bytes "*")) (means_alt means_decimal means_point)) confidence_to confidence_from
-    (elim [ in-full d ↦ refl | from_point_lem z ↦ refl ]) (elim [ in-full d ↦ refl | from_point_lem z ↦ refl ]) from_text
+    (elim [ in_full d ↦ refl | from_point_lem z ↦ refl ]) (elim [ in_full d ↦ refl | from_point_lem z ↦ refl ]) from_text
 
 -- ---- annotations and lines, whose internal ions have letters of some kind
 
@@ -143,23 +143,23 @@ module _ {Cut : Type 0} (up : Cut → Letters) {r : Re} (letters : Means Cut (λ
 
 -- ---- the second edition
 
-lettered-same : (x : SpelledIon) → lettered (λ c. c) x ≡ x
-lettered-same (series s n t) = refl
-lettered-same (internal c m n t) = refl
-lettered-same (immonium a m) = refl
-lettered-same precursor = refl
-lettered-same (reference n) = refl
-lettered-same (named t) = refl
-lettered-same (composed f) = refl
-lettered-same (smiles t) = refl
-lettered-same (unknown n) = refl
+lettered_same : (x : SpelledIon) → lettered (λ c. c) x ≡ x
+lettered_same (series s n t) = refl
+lettered_same (internal c m n t) = refl
+lettered_same (immonium a m) = refl
+lettered_same precursor = refl
+lettered_same (reference n) = refl
+lettered_same (named t) = refl
+lettered_same (composed f) = refl
+lettered_same (smiles t) = refl
+lettered_same (unknown n) = refl
 
 annotation_same : (a : SpelledAnnotation) → lettered_in (λ c. c) a ≡ a
 annotation_same a =
     λ i. record {
       marked = a.marked;
       analyte = a.analyte;
-      ion = lettered-same a.ion i;
+      ion = lettered_same a.ion i;
       losses = a.losses;
       isotopes = a.isotopes;
       adduct = a.adduct;

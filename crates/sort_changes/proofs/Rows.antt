@@ -48,6 +48,8 @@ rising_map f before (a ∷ l) = ap₂ ◌&&◌ (leads_map f before a l) (rising_
 
 each_unmap : {X A B : Type 0} (R : X → B → Type 0) (f : A → B) (ys : List X) (xs : List A) → Each R ys (map f xs) → Each (λ y a. R y (f a)) ys xs
 each_unmap R f [] [] none = none
+each_unmap R f [] (x ∷ xs) e = elim e [ ]
+each_unmap R f (y ∷ ys) [] e = elim e [ ]
 each_unmap R f (y ∷ ys) (x ∷ xs) (next r e) = next r (each_unmap R f ys xs e)
 
 flat_flat : {A B C : Type 0} (g : B → List C) (h : A → List B) (xs : List A) → flat (λ x. flat g (h x)) xs ≡ flat g (flat h xs)

@@ -53,9 +53,9 @@ module _ {A : Type 0} {before : A → A → Bool} (o : Order before) where
 
 module _ {A B : Type 0} (R : A → B → Type 0) (f : A → A → Bool) (g : B → B → Bool)
     (alike : (a c : A) (b d : B) → R a b → R c d → f a c ≡ g b d) where
-  insert-both : {a : A} {b : B} {s : List A} {t : List B} → R a b → Each R s t → Each R (insert f a s) (insert g b t)
-  insert-both r none = next r none
-  insert-both {a} {b} r (next {a = c} {b = d} {l = s} {m = t} q w) = by (insert-both r w) (f a c) (g b d) (alike a c b d r q)
+  insert_both : {a : A} {b : B} {s : List A} {t : List B} → R a b → Each R s t → Each R (insert f a s) (insert g b t)
+  insert_both r none = next r none
+  insert_both {a} {b} r (next {a = c} {b = d} {l = s} {m = t} q w) = by (insert_both r w) (f a c) (g b d) (alike a c b d r q)
     where
       by : Each R (insert f a s) (insert g b t) → (x y : Bool) → x ≡ y
           → Each R (elim x [ true ↦ a ∷ c ∷ s | false ↦ c ∷ insert f a s ]) (elim y [ true ↦ b ∷ d ∷ t | false ↦ d ∷ insert g b t ])
@@ -66,7 +66,7 @@ module _ {A B : Type 0} (R : A → B → Type 0) (f : A → A → Bool) (g : B �
 
   fed_into_both : {s : List A} {t : List B} {xs : List A} {ys : List B} → Each R s t → Each R xs ys → Each R (fed_into f s xs) (fed_into g t ys)
   fed_into_both w none = w
-  fed_into_both {s = s} {t = t} w (next {a = a} {b = b} r q) = fed_into_both {s = insert f a s} {t = insert g b t} (insert-both r w) q
+  fed_into_both {s = s} {t = t} w (next {a = a} {b = b} r q) = fed_into_both {s = insert f a s} {t = insert g b t} (insert_both r w) q
 
   pub fed_both : {xs : List A} {ys : List B} → Each R xs ys → Each R (fed_into f [] xs) (fed_into g [] ys)
   fed_both q = fed_into_both none q

@@ -76,9 +76,9 @@ ends_insert {used} before {x} h (next_ends {x = y} {xs = l} g e) = by (before x 
     by false ih = next_ends g ih
 
 module _ {used : ℕ} {keys more : List ℕ} (c : Common used keys more) where
-  insert-kept : {x : Slot} {l : List Slot} → EndsBy used x → AllEndBy used l → insert (slot_le keys) x l ≡ insert (slot_le more) x l
-  insert-kept h none_ends = refl
-  insert-kept {x} h (next_ends {x = y} {xs = l} g e) = by (slot_le keys x y) (slot_le more x y) (le_kept c x y h g) (insert-kept h e)
+  insert_kept : {x : Slot} {l : List Slot} → EndsBy used x → AllEndBy used l → insert (slot_le keys) x l ≡ insert (slot_le more) x l
+  insert_kept h none_ends = refl
+  insert_kept {x} h (next_ends {x = y} {xs = l} g e) = by (slot_le keys x y) (slot_le more x y) (le_kept c x y h g) (insert_kept h e)
     where
       by : (a b : Bool) → a ≡ b → insert (slot_le keys) x l ≡ insert (slot_le more) x l
           → ◌≡◌ {A = List Slot} (elim a [ true ↦ x ∷ y ∷ l | false ↦ y ∷ insert (slot_le keys) x l ])
@@ -91,7 +91,7 @@ module _ {used : ℕ} {keys more : List ℕ} (c : Common used keys more) where
   fed_kept : {s xs : List Slot} → AllEndBy used s → AllEndBy used xs → fed_into (slot_le keys) s xs ≡ fed_into (slot_le more) s xs
   fed_kept d none_ends = refl
   fed_kept {s} d (next_ends {x = x} {xs = xs} h e) =
-      fed_kept {s = insert (slot_le keys) x s} (ends_insert (slot_le keys) h d) e ∙ ap (λ (l : List Slot). fed_into (slot_le more) l xs) (insert-kept h d)
+      fed_kept {s = insert (slot_le keys) x s} (ends_insert (slot_le keys) h d) e ∙ ap (λ (l : List Slot). fed_into (slot_le more) l xs) (insert_kept h d)
 
   pub feed_kept : {xs : List Slot} → AllEndBy used xs → feed keys xs ≡ feed more xs
   feed_kept e = fed_kept none_ends e

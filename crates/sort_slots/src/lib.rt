@@ -21,7 +21,7 @@ pub struct Slot {
 }
 
 // The first n of the slots; there are as many as there may be losses, and of adduct items there may be fewer.
-#[derive(Drop)]
+#[derive(Clone, Copy)]
 pub struct Slots {
     pub n: usize,
     pub at: [Slot; MAX_LOSSES],

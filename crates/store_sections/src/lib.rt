@@ -13,7 +13,7 @@ use layout::{
 };
 
 // Where the next byte of each section goes.
-#[derive(Drop)]
+#[derive(Clone, Copy)]
 pub struct Cursors {
     pub annotations: usize,
     pub losses: usize,

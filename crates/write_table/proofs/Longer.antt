@@ -19,7 +19,7 @@ use Rattle.rules.specs.Isotopes.{Shift, shift_text, shift_map, Specific, specifi
 use Rattle.rules.specs.Isotopes.{Isotopes, no_isotope, plain_isotope, average_isotope, specific_isotopes, isotopes_text, isotopes_map}
 use Rattle.rules.specs.Adducts.{Added, added_formula, electron, added_text, added_map, Item, item_text, item_map, adduct_text}
 use Rattle.rules.specs.Decimals.{Decimal}
-use Rattle.rules.specs.Confidences.{Confidence, in-full, confidence_text, meant_decimal}
+use Rattle.rules.specs.Confidences.{Confidence, in_full, confidence_text, meant_decimal}
 use Rattle.rules.specs.Annotations.{TableAnnotation, SpelledAnnotation, flag_text, analyte_text, charge_text, deviation_text, annotation_text}
 use Rattle.rules.specs.Lines.{Spelling, line_text, next_text}
 use Rattle.rules.specs.Preferred.{shortened_annotation, shortened, preferred_spelling, preferred, shortened_cut}
@@ -74,17 +74,17 @@ length_mapped text g [] = refl
 length_mapped text g (y ∷ m) = omega (arith, length-append (text (g y)) (flat text (map g m)), length_mapped text g m)
 
 module _ {A B : Type 0} (text : A → List ℕ) (f : A → B) (g : B → A) (h : (x : A) → NoLonger (text (g (f x))) (text x)) where
-  in-turn : (l : List A) → NoLonger (flat text (map g (map f l))) (flat text l)
-  in-turn [] = as_long
-  in-turn (x ∷ l) = joined (text (g (f x))) (text x) (h x) (in-turn l)
+  in_turn : (l : List A) → NoLonger (flat text (map g (map f l))) (flat text l)
+  in_turn [] = as_long
+  in_turn (x ∷ l) = joined (text (g (f x))) (text x) (h x) (in_turn l)
 
   rearranged : (l : List A) (m : List B) → Perm (map f l) m → NoLonger (flat text (map g m)) (flat text l)
   rearranged l m p =
       let w : B → ℕ = λ y. length (text (g y)) in
-      record { le = omega (arith, length_mapped text g m, perm_total w p, length_mapped text g (map f l), (in-turn l).le) }
+      record { le = omega (arith, length_mapped text g m, perm_total w p, length_mapped text g (map f l), (in_turn l).le) }
 
   one_or_more : (s : Some A) → NoLonger (text (g (f s.first)) ++ flat text (map g (map f s.more))) (text s.first ++ flat text s.more)
-  one_or_more s = joined (text (g (f s.first))) (text s.first) (h s.first) (in-turn s.more)
+  one_or_more s = joined (text (g (f s.first))) (text s.first) (h s.first) (in_turn s.more)
 
 -- ---- what has free counts, filled and then shortened
 
@@ -182,7 +182,7 @@ said_adduct (x ∷ l) (y ∷ m) p =
 -- ---- annotations and lines
 
 -- a confidence, whose 0 may have been left out
-said_confidence : (x : Opt Confidence) → Longer 1 (opt_text confidence_text (opt_map in-full (opt_map meant_decimal x))) (opt_text confidence_text x)
+said_confidence : (x : Opt Confidence) → Longer 1 (opt_text confidence_text (opt_map in_full (opt_map meant_decimal x))) (opt_text confidence_text x)
 said_confidence silent = record { le = omega arith }
 said_confidence (written c) = record { le = full_longer c }
 
@@ -197,7 +197,7 @@ said_annotation {a} {b} s =
     (behind (adduct_text (map (item_map shortened) b.adduct)) (adduct_text a.adduct) (said_adduct a.adduct b.adduct e.adduct)
     (behind (opt_text charge_text b.charge) (opt_text charge_text a.charge) (alike (opt_text charge_text) e.charge)
     (behind (opt_text deviation_text b.deviation) (opt_text deviation_text a.deviation) (alike (opt_text deviation_text) e.deviation)
-    (subst (λ (c : Opt Decimal). Longer 1 (opt_text confidence_text (opt_map in-full c)) (opt_text confidence_text a.confidence)) e.confidence
+    (subst (λ (c : Opt Decimal). Longer 1 (opt_text confidence_text (opt_map in_full c)) (opt_text confidence_text a.confidence)) e.confidence
     (said_confidence a.confidence)))))))))
 
 -- each after its comma, and one byte more for each at most

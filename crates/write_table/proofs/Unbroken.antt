@@ -17,7 +17,7 @@ use Rattle.rules.specs.Losses.{sign_text, Lost, lost_formula, lost_name_lem, los
 use Rattle.rules.specs.Isotopes.{Shift, Specific, Isotopes, no_isotope, plain_isotope, average_isotope, specific_isotopes, shift_text, specific_text, isotopes_text}
 use Rattle.rules.specs.Isotopes.{shift_map, specific_map, isotopes_map}
 use Rattle.rules.specs.Adducts.{Added, added_formula, electron, added_map, Item, item_text, adduct_text, item_map}
-use Rattle.rules.specs.Confidences.{in-full}
+use Rattle.rules.specs.Confidences.{in_full}
 use Rattle.rules.specs.Annotations.{TableAnnotation, Deviation, flag_text, annotation_text}
 use Rattle.rules.specs.Lines.{next_text}
 use Rattle.rules.specs.Preferred.{shortened_annotation, shortened, preferred_spelling, shortened_cut}
@@ -184,10 +184,10 @@ deviation_ok : (d : Deviation) → DeviationWithin d → Unbroken (deviation_par
 deviation_ok d h =
     record { ok = λ at. parts (also (bare_ok (bytes "/")) (also (bare_ok (flag_text (bytes "-") d.minus)) (also (decimal_ok d.size h) end))) at }
 
-confidence_ok : (d : Decimal) → DecimalWithin d → Unbroken (confidence_part (in-full d))
+confidence_ok : (d : Decimal) → DecimalWithin d → Unbroken (confidence_part (in_full d))
 confidence_ok d h = record { ok = λ at. kept_more _ [] (not_refused (fits d) h) kept_none }
 
-full_ok : (x : Opt Decimal) → IfThere DecimalWithin x → Unbroken (opt_part confidence_part (opt_map in-full x))
+full_ok : (x : Opt Decimal) → IfThere DecimalWithin x → Unbroken (opt_part confidence_part (opt_map in_full x))
 full_ok silent w = bare_ok []
 full_ok (written d) w = confidence_ok d w
 

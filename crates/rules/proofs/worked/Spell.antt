@@ -19,7 +19,7 @@ use Rattle.rules.specs.Ions.{SpelledIon, series, internal, immonium, precursor, 
 use Rattle.rules.specs.Losses.{Sign, lost_formula, lost_name_lem, Loss}
 use Rattle.rules.specs.Isotopes.{Specific, Isotopes, no_isotope, plain_isotope, average_isotope, specific_isotopes}
 use Rattle.rules.specs.Adducts.{added_formula, electron, Item}
-use Rattle.rules.specs.Confidences.{begins_zero_point, Confidence, in-full, from_point_lem}
+use Rattle.rules.specs.Confidences.{begins_zero_point, Confidence, in_full, from_point_lem}
 use Rattle.rules.specs.Annotations.{SpelledAnnotation, Deviation}
 
 infixl 70 ◌with◌
@@ -229,7 +229,7 @@ off minus size unit a =
 
 abbrev pub confidence : Decimal → SpelledAnnotation → SpelledAnnotation
 confidence d a =
-    annotation a.marked a.analyte a.ion a.losses a.isotopes a.adduct a.charge a.deviation (written (in-full d))
+    annotation a.marked a.analyte a.ion a.losses a.isotopes a.adduct a.charge a.deviation (written (in_full d))
 
 -- without its 0: whole part 0, and a point
 abbrev pub from_point : (d : Decimal) → T (begins_zero_point d) → SpelledAnnotation → SpelledAnnotation

@@ -1,0 +1,6 @@
+-- `print_ion::print_braced` meets its contract: letter and braces, one put after the other. Assumes nothing.
+use Rattle.put_bytes.proofs.Putting.{put_then}
+use Rattle.print_ion.proofs.print_braced.Goals as goal
+
+pub returns : goal.returns
+returns c = put_then c.put8-a.ensures c.put_enclosed.ensures

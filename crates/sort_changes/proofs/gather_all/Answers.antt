@@ -1,0 +1,24 @@
+-- `sort_changes::gather_all` meets its contract: in its loop what was gathered, and what is left, make the whole. Assumes nothing.
+use Rattle.sort_changes.proofs.Gathers.{begin, same_long, moves, turn, ends}
+use native.Mathlib.Omega.{arith}
+use mathlib.Core.Path.{sym, ◌∙◌}
+use Prim.Native.Nat.{◌-◌}
+use Rattle.sort_changes.proofs.gather_all.Goals as goal
+
+pub none-empty-requires : goal.none-empty-requires
+none-empty-requires c = tt
+
+pub loop-keys-init : goal.loop-keys-init
+loop-keys-init c = begin c.none-empty.ensures
+
+pub loop-keys-smaller : goal.loop-keys-smaller
+loop-keys-smaller c = omega (arith, moves c.loop-keys.invariant c.rest.ensures (sym c.begins_change.ensures ∙ c.loop-keys-test.true) c.gather_one-more.ensures)
+
+pub loop-keys-preserved : goal.loop-keys-preserved
+loop-keys-preserved c = turn c.loop-keys.invariant c.rest.ensures (sym c.begins_change.ensures ∙ c.loop-keys-test.true) c.gather_one-more.ensures
+
+pub shape_of-keys : goal.shape_of-keys
+shape_of-keys c = same_long c.loop-keys.invariant
+
+pub returns : goal.returns
+returns c = ends c.loop-keys.invariant c.rest.ensures (sym c.begins_change.ensures ∙ c.loop-keys-test.false)
