@@ -2,7 +2,7 @@
 // A line that goes on past the end of the buffer is moved to its front before more is read, so that every line stands in one piece.
 // Which bytes the system hands over no contract can say. What becomes of them is stated: which lines are found (`Next`), which parts
 // of lines (`NextPart`). Where input cannot be read or output cannot be written the stream stops, and keeps which of the two it was.
-ghost use Rattle.std.specs.Prelude.{◌≡◌, length};
+ghost use Rattle.std.specs.Prelude.{◌≡◌, false, None, Some, IsSome, IfErr, length};
 ghost use Rattle.std.specs.Io.{ReadsAtMost};
 ghost use Rattle.io_lines.specs.Streams.{begun, stopped_by, waiting_of, line_of, settled, sum_of, left, part_of, looked_at, Roomed};
 ghost use Rattle.io_lines.specs.Refills.{came_of, read_on, Brought, Behind, Refilled};
@@ -30,12 +30,16 @@ pub struct System {
 
 impl System {
     // Before the first read.
-    pub fn begin(rt: HostRuntime) -> System {
+    pub fn begin(rt: HostRuntime) -> System
+        ensures { result.refused ≡ None }
+    {
         System { rt, refused: None }
     }
 
     // The system's word for what it refused last.
-    pub fn refused(&self) -> Option<io::Error> {
+    pub fn refused(&self) -> Option<io::Error>
+        ensures { result ≡ self.now.refused }
+    {
         self.refused
     }
 
@@ -46,7 +50,8 @@ impl System {
 
     // One read of standard input.
     fn read(&mut self, part: &mut [u8]) -> io::Result<usize>
-        ensures { ReadsAtMost result part.new }
+        ensures bound { ReadsAtMost result part.new }
+        ensures word { IfErr result (λ e. self.new.refused ≡ Some e) }
     {
         let got = self.rt.stdin().read(part);
         if let Err(e) = got {
@@ -56,7 +61,9 @@ impl System {
     }
 
     // All of the bytes go to standard output; whether the system took them.
-    pub fn write(&mut self, bytes: &[u8]) -> bool {
+    pub fn write(&mut self, bytes: &[u8]) -> bool
+        ensures { result ≡ false → IsSome self.new.refused }
+    {
         if let Err(e) = Print::write_all(&self.rt, bytes) {
             self.refused = Some(e);
             return false;
@@ -315,6 +322,8 @@ pub fn room(system: &mut System, out: &[u8], s: Stream, need: usize) -> Stream
 }
 
 // What waits is written; whether the system took it.
-pub fn flush(system: &mut System, out: &[u8], waiting: usize) -> bool {
+pub fn flush(system: &mut System, out: &[u8], waiting: usize) -> bool
+    ensures { result ≡ false → IsSome system.new.refused }
+{
     system.write(first_of(out, waiting))
 }

@@ -31,13 +31,28 @@ const ANSWER: usize = 64 + 2 * MAX_STORED_ROW;
 
 // All lines, of an edition, for the program of this name. Where they are sized, each begins with the length of its output, a number of at most 21,392, and a blank; else the output
 // is as long as any stored row needs.
-pub fn answer_lines(rt: &HostRuntime, name: &[u8], lines: Lines, input: Input, sized: bool) -> ExitCode {
+pub fn answer_lines(
+    rt: &HostRuntime,
+    name: &[u8],
+    lines: Lines,
+    input: Input,
+    sized: bool,
+) -> ExitCode {
     let machine = scan_line::machine(lines);
     let mut buf = [0u8; BUFFER];
     let mut out = [0u8; BUFFER];
     let mut table = [0u8; MAX_STORED_ROW];
     let mut system = System::begin(*rt);
-    all(&mut system, name, input, &machine, &mut buf, &mut out, &mut table, sized)
+    all(
+        &mut system,
+        name,
+        input,
+        &machine,
+        &mut buf,
+        &mut out,
+        &mut table,
+        sized,
+    )
 }
 
 // Line after line, until none comes. A proved loop has to end, so it counts down from a number that no run uses up.

@@ -33,7 +33,15 @@ pub fn relabel_lines(rt: &HostRuntime, name: &[u8], lines: Lines, input: Input) 
     let mut buf = [0u8; BUFFER];
     let mut out = [0u8; BUFFER];
     let mut system = System::begin(*rt);
-    all(&mut system, name, lines, input, &machine, &mut buf, &mut out)
+    all(
+        &mut system,
+        name,
+        lines,
+        input,
+        &machine,
+        &mut buf,
+        &mut out,
+    )
 }
 
 // Line after line, until none comes. A proved loop has to end, so it counts down from a number that no run uses up.

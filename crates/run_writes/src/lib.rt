@@ -53,7 +53,14 @@ pub enum Form {
 
 // All tables, by lines of an edition, for the program of this name. The output has as many bytes as are answered at most; or, where tables are sized, as many as a number says that
 // stands before each, with a blank behind it, if these are fewer.
-pub fn answer_tables(rt: &HostRuntime, name: &[u8], lines: Lines, task: Task, form: Form, sized: bool) -> ExitCode {
+pub fn answer_tables(
+    rt: &HostRuntime,
+    name: &[u8],
+    lines: Lines,
+    task: Task,
+    form: Form,
+    sized: bool,
+) -> ExitCode {
     let machine = scan_line::machine(lines);
     let mut buf = [0u8; BUFFER];
     let mut out = [0u8; WAITING];

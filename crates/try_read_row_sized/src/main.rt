@@ -21,5 +21,11 @@ mxa3:6.
     ) {
         return status;
     }
-    run_reads::answer_lines(&rt, b"try_read_row_sized", asked_lines(&rt), Input::Rows, true)
+    run_reads::answer_lines(
+        &rt,
+        b"try_read_row_sized",
+        asked_lines(&rt),
+        Input::Rows,
+        true,
+    )
 }

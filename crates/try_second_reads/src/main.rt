@@ -19,5 +19,11 @@ With --second, lines are those of the second edition, in which an internal ion m
     ) {
         return status;
     }
-    run_reads::answer_lines(&rt, b"try_second_reads", asked_lines(&rt), Input::Lines, false)
+    run_reads::answer_lines(
+        &rt,
+        b"try_second_reads",
+        asked_lines(&rt),
+        Input::Lines,
+        false,
+    )
 }
