@@ -25,7 +25,7 @@ use slices::first_of;
 pub const LINE: usize = 65536;
 
 // What is wanted of a stored table: its line; or, of one of edition 1, the table of edition 2 of the same line.
-#[derive(Drop)]
+#[derive(Clone, Copy)]
 pub enum Wanted {
     Line,
     Table,
