@@ -173,7 +173,7 @@ impl MadeDecimal {
 }
 
 // What a part begins with, read as a decimal, and how many bytes it has.
-#[derive(Drop)]
+#[derive(Clone, Copy)]
 pub struct DecimalRead {
     pub made: MadeDecimal,
     pub len: usize,
