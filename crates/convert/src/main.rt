@@ -1,9 +1,11 @@
 // Each line of standard input is a stored table of edition 1 in hexadecimal digits, and is answered by the table of edition 2 of the same line.
 use run_program::{asked_lines, was_asked};
 use run_writes::{Form, Task, answer_tables};
+use std::process::ExitCode;
 
-fn main() {
-    if was_asked(
+fn main(rt: HostRuntime) -> ExitCode {
+    if let Some(status) = was_asked(
+        &rt,
         b"convert",
         b"convert turns each stored table of edition 1 into the table of edition 2 of the same mzPAF line.
 
@@ -16,13 +18,14 @@ With --second nothing changes: a table of edition 1 has no letters.
 ",
         true,
     ) {
-        return;
+        return status;
     }
     answer_tables(
+        &rt,
         b"convert",
-        asked_lines(),
+        asked_lines(&rt),
         Task::ConvertTable,
         Form::Digits,
         false,
-    );
+    )
 }

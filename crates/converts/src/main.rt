@@ -1,9 +1,11 @@
 // Each line of standard input is a stored table of edition 1 in hexadecimal digits, converted into an output that is as long as a table may be.
 use run_program::{asked_lines, was_asked};
 use run_writes::{Form, Task, answer_tables};
+use std::process::ExitCode;
 
-fn main() {
-    if was_asked(
+fn main(rt: HostRuntime) -> ExitCode {
+    if let Some(status) = was_asked(
+        &rt,
         b"converts",
         b"converts turns each stored table of edition 1 into one of edition 2, with an output that is as long as a table may be.
 
@@ -16,13 +18,14 @@ With --second nothing changes: a table of edition 1 has no letters.
 ",
         true,
     ) {
-        return;
+        return status;
     }
     answer_tables(
+        &rt,
         b"converts",
-        asked_lines(),
+        asked_lines(&rt),
         Task::ConvertTable,
         Form::Fields,
         false,
-    );
+    )
 }

@@ -1,8 +1,10 @@
 // The published examples (docs/EXAMPLES.md), relabelled: standard input has one a line.
 use run_program::{Input, asked_lines, was_asked};
+use std::process::ExitCode;
 
-fn main() {
-    if was_asked(
+fn main(rt: HostRuntime) -> ExitCode {
+    if let Some(status) = was_asked(
+        &rt,
         b"examples",
         b"examples spells each mzPAF line in its preferred form, as relabel does: its stored input has the published examples.
 
@@ -16,7 +18,7 @@ With --second, lines are those of the second edition, in which an internal ion m
 ",
         true,
     ) {
-        return;
+        return status;
     }
-    run_relabel::relabel_lines(b"examples", asked_lines(), Input::Lines);
+    run_relabel::relabel_lines(&rt, b"examples", asked_lines(&rt), Input::Lines)
 }

@@ -1,21 +1,14 @@
 -- What a read brings, and the buffer after it: what was left, half a buffer of it at most, and behind it what came. Assumes nothing.
 use Prim.Native.Nat.{ℕ, ◌+◌, ◌-◌, ◌≤◌, ◌<◌, min}
 use mathlib.Core.Path.{◌≡◌, refl, sym, ap, ◌∙◌, subst}
-use mathlib.Core.Bool.{true, false}
 use mathlib.Core.List.{List, ◌++◌}
 use native.Mathlib.Omega.{arith}
 use native.Mathlib.Nat.{zero-add}
 use native.Mathlib.Decide.{dec_le}
 use lib.Dec.{ltb}
-use lib.IntN.{ℤ, pos, negsuc}
-use lib.Signed.{lt_z}
-use mir.Syntax.{w64}
-use mir.Val.{SFits, to_z, of_z}
-use mir.ValLaws.{to_z-of_z}
 use lib.ListN.{length, take, drop, length-take, length-drop, length-append}
 use lib.Seq.{take_all, take_at, take-take, take-add, take-paste, length-paste, paste, length-take-le}
-use borrow.Author.Tests.{ltb-true}
-use Rattle.io.specs.Counts.{clamp_len}
+use Rattle.std.specs.Prelude.{Result, Ok, Err}
 use Rattle.io_parts.specs.Feeds.{Kept}
 use Rattle.io_lines.specs.declared.Stream.{Stream}
 use Rattle.io_lines.specs.declared.Came.{Came}
@@ -25,30 +18,12 @@ use Rattle.io_lines.specs.Streams.{sum_of, left}
 use Rattle.io_lines.specs.Refills.{came_of, read_on, Brought, Behind, half, reading, Refilled, more, stops}
 use Rattle.io_lines.proofs.Looks.{take_least}
 
--- what a number says that a read answered
-below_zero : (z : ℤ) (m : ℕ) → lt_z z (pos 0) ≡ true → Fault ≡ came_of z m
-below_zero (pos k) m e = absurd (omega (arith, ltb-true k 0 e))
-below_zero (negsuc k) m e = refl
+-- what a read says that the system answered
+came_inside : {E : Type 0} (z : Result ℕ E) (m n : ℕ) → came_of z m ≡ Bytes n → n ≤ m
+came_inside (Ok k) m n e = let f : min k m ≡ n = cc in omega arith
+came_inside (Err x) m n e = let z : ◌≡◌ {A = ℕ} 0 1 = cc in absurd (omega arith)
 
-from_zero : (z : ℤ) (m : ℕ) {n : ℕ} → lt_z z (pos 0) ≡ false → n ≡ clamp_len z m → Bytes n ≡ came_of z m
-from_zero (pos k) m e f = ap Bytes f
-from_zero (negsuc k) m e f = let z : ◌≡◌ {A = ℕ} 0 1 = cc in absurd (omega arith)
-
--- its test is of the bits that hold it
-module _ (z : ℤ) (m : ℕ) (fits : SFits w64 z) where
-  pub refused : lt_z (to_z w64 (of_z w64 z)) (pos 0) ≡ true → Fault ≡ came_of z m
-  refused e = below_zero z m (ap (λ (y : ℤ). lt_z y (pos 0)) (sym (to_z-of_z w64 z fits)) ∙ e)
-
-  pub handed : {n : ℕ} → lt_z (to_z w64 (of_z w64 z)) (pos 0) ≡ false → n ≡ clamp_len (to_z w64 (of_z w64 z)) m → Bytes n ≡ came_of z m
-  handed e f =
-      let q = to_z-of_z w64 z fits in
-      from_zero z m (ap (λ (y : ℤ). lt_z y (pos 0)) (sym q) ∙ e) (f ∙ ap (λ (y : ℤ). clamp_len y m) q)
-
-came_inside : (z : ℤ) (m n : ℕ) → came_of z m ≡ Bytes n → n ≤ m
-came_inside (pos k) m n e = let f : min k m ≡ n = cc in omega arith
-came_inside (negsuc k) m n e = let z : ◌≡◌ {A = ℕ} 0 1 = cc in absurd (omega arith)
-
-pub brought : (d e : List ℕ) (z : ℤ) {r : Came} → length e ≡ length d → r ≡ came_of z (length e) → Brought d e r
+pub brought : {E : Type 0} (d e : List ℕ) (z : Result ℕ E) {r : Came} → length e ≡ length d → r ≡ came_of z (length e) → Brought d e r
 brought d e z same q = record { same = same; inside = λ n f. omega (arith, came_inside z (length e) n (sym q ∙ f)) }
 
 -- a read into the part behind the bytes that are held

@@ -1,5 +1,5 @@
 -- What a read brings, and what stands in the buffer then. Assumes nothing.
-use Rattle.std.specs.Prelude.{ℕ, ◌-◌, ◌/◌, ◌≤◌, min, ◌≡◌, false, List, ◌++◌, ltb, ℤ, pos, negsuc, length, take}
+use Rattle.std.specs.Prelude.{ℕ, ◌-◌, ◌/◌, ◌≤◌, min, ◌≡◌, false, List, ◌++◌, ltb, Result, Ok, Err, length, take}
 use Rattle.io_lines.specs.declared.Stream.{Stream}
 use Rattle.io_lines.specs.declared.Came.{Came}
 use Rattle.io_lines.specs.declared.Came.TheVariants.{Bytes, Fault}
@@ -7,10 +7,10 @@ use Rattle.io_lines.specs.declared.Failed.{Failed}
 use Rattle.io_lines.specs.declared.Failed.TheVariants.{Reading, Writing}
 use Rattle.io_lines.specs.Streams.{stopped_by, sum_of, left}
 
--- what the system's answer to a read into `most` bytes says: how many came, or, below 0, that it refused
-abbrev pub came_of : ℤ → ℕ → Came
-came_of (pos k) most = Bytes (min k most)
-came_of (negsuc k) most = Fault
+-- what the system's answer to a read into `most` bytes says: how many came, or that it refused
+abbrev pub came_of : {E : Type 0} → Result ℕ E → ℕ → Came
+came_of (Ok k) most = Bytes (min k most)
+came_of (Err e) most = Fault
 
 -- the stream after a read behind the bytes that were held: at its end where nothing came, and stopped where it was refused
 abbrev pub read_on : Stream → ℕ → Came → Stream

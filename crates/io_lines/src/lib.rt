@@ -2,24 +2,78 @@
 // A line that goes on past the end of the buffer is moved to its front before more is read, so that every line stands in one piece.
 // Which bytes the system hands over no contract can say. What becomes of them is stated: which lines are found (`Next`), which parts
 // of lines (`NextPart`). Where input cannot be read or output cannot be written the stream stops, and keeps which of the two it was.
-ghost use Rattle.std.specs.Prelude.{◌≡◌, length};
+ghost use Rattle.std.specs.Prelude.{◌≡◌, false, None, Some, IsSome, IfErr, length};
+ghost use Rattle.std.specs.Io.{ReadsAtMost};
 ghost use Rattle.io_lines.specs.Streams.{begun, stopped_by, waiting_of, line_of, settled, sum_of, left, part_of, looked_at, Roomed};
 ghost use Rattle.io_lines.specs.Refills.{came_of, read_on, Brought, Behind, Refilled};
 ghost use Rattle.io_lines.specs.Found.{Next, NextPart};
 
 use io_parts::{behind, keep, line_end};
-use libc::{STDIN_FILENO, STDOUT_FILENO};
+use slices::{first_of, within};
+use std::io;
+use std::io::{Print, Read};
 
 // What the system refused, if anything.
-#[derive(Drop)]
+#[derive(Clone, Copy)]
 pub enum Failed {
     Nothing,
     Reading,
     Writing,
 }
 
+// Standard input, output and error, and the system's word for what it refused last of the first two, if anything.
+#[derive(Clone, Copy)]
+pub struct System {
+    rt: HostRuntime,
+    refused: Option<io::Error>,
+}
+
+impl System {
+    // Before the first read.
+    pub fn begin(rt: HostRuntime) -> System
+        ensures { result.refused ≡ None }
+    {
+        System { rt, refused: None }
+    }
+
+    // The system's word for what it refused last.
+    pub fn refused(&self) -> Option<io::Error>
+        ensures { result ≡ self.now.refused }
+    {
+        self.refused
+    }
+
+    // A text goes to standard error, as far as the system takes it.
+    pub fn tell(&self, text: &[u8]) {
+        let _ = Print::write_all(&self.rt.stderr(), text);
+    }
+
+    // One read of standard input.
+    fn read(&mut self, part: &mut [u8]) -> io::Result<usize>
+        ensures bound { ReadsAtMost result part.new }
+        ensures word { IfErr result (λ e. self.new.refused ≡ Some e) }
+    {
+        let got = self.rt.stdin().read(part);
+        if let Err(e) = got {
+            self.refused = Some(e);
+        }
+        got
+    }
+
+    // All of the bytes go to standard output; whether the system took them.
+    pub fn write(&mut self, bytes: &[u8]) -> bool
+        ensures { result ≡ false → IsSome self.new.refused }
+    {
+        if let Err(e) = Print::write_all(&self.rt, bytes) {
+            self.refused = Some(e);
+            return false;
+        }
+        true
+    }
+}
+
 // How far the lines were taken.
-#[derive(Drop)]
+#[derive(Clone, Copy)]
 pub struct Stream {
     // Whether there is a line, or a part of one; whether a line feed ended it; where it stands in the buffer; how many bytes it has.
     pub found: bool,
@@ -131,7 +185,7 @@ impl Stream {
 
 // The next line, or none where the input is over. Answers that wait are written before more is read, so that whoever types lines is
 // answered at once. A proved loop has to end, so it counts down from a number that no run uses up.
-pub fn next_line(buf: &mut [u8], out: &[u8], s: Stream) -> Stream
+pub fn next_line(system: &mut System, buf: &mut [u8], out: &[u8], s: Stream) -> Stream
     ensures { Next buf.old s buf.new result }
 {
     let mut t = look(buf, s);
@@ -140,7 +194,7 @@ pub fn next_line(buf: &mut [u8], out: &[u8], s: Stream) -> Stream
         if is_settled(t) {
             return t;
         }
-        let more = refill(buf, out, t);
+        let more = refill(system, buf, out, t);
         t = look(buf, more);
         turns -= 1;
     }
@@ -149,14 +203,14 @@ pub fn next_line(buf: &mut [u8], out: &[u8], s: Stream) -> Stream
 
 // The next part of a line, up to its line feed or to the end of what was read, for whoever takes lines of any length; none where the
 // input is over.
-pub fn next_part(buf: &mut [u8], out: &[u8], s: Stream) -> Stream
+pub fn next_part(system: &mut System, buf: &mut [u8], out: &[u8], s: Stream) -> Stream
     ensures { NextPart buf.old s buf.new result }
 {
     let t = part(buf, s);
     if is_settled(t) {
         return t;
     }
-    let more = refill(buf, out, t);
+    let more = refill(system, buf, out, t);
     part(buf, more)
 }
 
@@ -198,48 +252,48 @@ fn part(buf: &[u8], s: Stream) -> Stream
 
 // More is read behind what stands in the buffer of the line that goes on. No more than half of the buffer is kept, so that there is
 // room to read: of a longer line further bytes are passed over, and so many at least come.
-fn refill(buf: &mut [u8], out: &[u8], s: Stream) -> Stream
+fn refill(system: &mut System, buf: &mut [u8], out: &[u8], s: Stream) -> Stream
     ensures { Refilled buf.old s buf.new result }
 {
-    if !flush(out, s.waiting) {
+    if !flush(system, out, s.waiting) {
         return Stream::stopped(Failed::Writing);
     }
     let held = keep(buf, s.next, behind(s.filled, s.next, buf.len() / 2));
-    let came = read_behind(buf, held);
+    let came = read_behind(system, buf, held);
     s.after(held, came)
 }
 
 // What came of a read: so many bytes, none at the end of the input, or that the system refused it.
-#[derive(Drop)]
+#[derive(Clone, Copy)]
 enum Came {
     Bytes(usize),
     Fault,
 }
 
-fn read_behind(buf: &mut [u8], held: usize) -> Came
+fn read_behind(system: &mut System, buf: &mut [u8], held: usize) -> Came
     ensures { Behind buf.old held buf.new result }
 {
     if held < buf.len() {
-        return read_some(&mut buf[held..]);
+        return read_some(system, &mut buf[held..]);
     }
     Came::Bytes(0)
 }
 
-fn read_some(part: &mut [u8]) -> Came
+fn read_some(system: &mut System, part: &mut [u8]) -> Came
     ensures { Brought part.old part.new result }
 {
-    let got = libc::read(STDIN_FILENO, part);
+    let got = system.read(part);
     came_of(got, part)
 }
 
-// What a read says that answered a number: one below 0 is a refusal.
-fn came_of(got: isize, part: &[u8]) -> Came
+// What a read says.
+fn came_of(got: io::Result<usize>, part: &[u8]) -> Came
     ensures { result ≡ came_of got (length part.now) }
 {
-    if got < 0 {
+    let Ok(n) = got else {
         return Came::Fault;
-    }
-    Came::Bytes(io::count(got, part))
+    };
+    Came::Bytes(within(n, part.len()))
 }
 
 // A sum of places, or the largest where it would not fit.
@@ -253,7 +307,7 @@ fn sum_of(a: usize, b: usize) -> usize
 }
 
 // The stream, whose next answer, of no more than `need` bytes, goes where the answers that wait end. They are written first where it might not fit.
-pub fn room(out: &[u8], s: Stream, need: usize) -> Stream
+pub fn room(system: &mut System, out: &[u8], s: Stream, need: usize) -> Stream
     ensures { Roomed (length out.now) need s result }
 {
     if s.waiting < out.len() {
@@ -261,13 +315,15 @@ pub fn room(out: &[u8], s: Stream, need: usize) -> Stream
             return s;
         }
     }
-    if flush(out, s.waiting) {
+    if flush(system, out, s.waiting) {
         return s.answered(0);
     }
     Stream::stopped(Failed::Writing)
 }
 
 // What waits is written; whether the system took it.
-pub fn flush(out: &[u8], waiting: usize) -> bool {
-    io::write_all(STDOUT_FILENO, slices::first_of(out, waiting))
+pub fn flush(system: &mut System, out: &[u8], waiting: usize) -> bool
+    ensures { result ≡ false → IsSome system.new.refused }
+{
+    system.write(first_of(out, waiting))
 }

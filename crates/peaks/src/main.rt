@@ -1,8 +1,10 @@
 // The relabel program for peak lists, document 02, M-101.
 use run_program::{Input, asked_lines, was_asked};
+use std::process::ExitCode;
 
-fn main() {
-    if was_asked(
+fn main(rt: HostRuntime) -> ExitCode {
+    if let Some(status) = was_asked(
+        &rt,
         b"peaks",
         b"peaks spells each row of a peak list in its preferred form.
 
@@ -17,7 +19,7 @@ mxa3:6.
 ",
         true,
     ) {
-        return;
+        return status;
     }
-    run_relabel::relabel_lines(b"peaks", asked_lines(), Input::Rows);
+    run_relabel::relabel_lines(&rt, b"peaks", asked_lines(&rt), Input::Rows)
 }

@@ -1,8 +1,10 @@
 // Each line of standard input, read into an output that is as long as any line needs.
 use run_program::{Input, asked_lines, was_asked};
+use std::process::ExitCode;
 
-fn main() {
-    if was_asked(
+fn main(rt: HostRuntime) -> ExitCode {
+    if let Some(status) = was_asked(
+        &rt,
         b"reads",
         b"reads makes a table of each mzPAF line, with an output that is as long as any line needs.
 
@@ -15,7 +17,7 @@ With --second, lines are those of the second edition, in which an internal ion m
 ",
         true,
     ) {
-        return;
+        return status;
     }
-    run_reads::answer_lines(b"reads", asked_lines(), Input::Lines, false);
+    run_reads::answer_lines(&rt, b"reads", asked_lines(&rt), Input::Lines, false)
 }

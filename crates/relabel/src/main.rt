@@ -1,8 +1,10 @@
 // The relabel program of document 01.
 use run_program::{Input, asked_lines, was_asked};
+use std::process::ExitCode;
 
-fn main() {
-    if was_asked(
+fn main(rt: HostRuntime) -> ExitCode {
+    if let Some(status) = was_asked(
+        &rt,
         b"relabel",
         b"relabel spells each mzPAF line in its preferred form.
 
@@ -16,7 +18,7 @@ With --second, lines are those of the second edition, in which an internal ion m
 ",
         true,
     ) {
-        return;
+        return status;
     }
-    run_relabel::relabel_lines(b"relabel", asked_lines(), Input::Lines);
+    run_relabel::relabel_lines(&rt, b"relabel", asked_lines(&rt), Input::Lines)
 }

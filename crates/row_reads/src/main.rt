@@ -1,8 +1,10 @@
 // Each row of standard input, read into an output that is as long as any row needs.
 use run_program::{Input, asked_lines, was_asked};
+use std::process::ExitCode;
 
-fn main() {
-    if was_asked(
+fn main(rt: HostRuntime) -> ExitCode {
+    if let Some(status) = was_asked(
+        &rt,
         b"row_reads",
         b"row_reads makes a stored row of each row of a peak list, with an output that is as long as any row needs.
 
@@ -17,7 +19,7 @@ mxa3:6.
 ",
         true,
     ) {
-        return;
+        return status;
     }
-    run_reads::answer_lines(b"row_reads", asked_lines(), Input::Rows, false);
+    run_reads::answer_lines(&rt, b"row_reads", asked_lines(&rt), Input::Rows, false)
 }

@@ -1,9 +1,11 @@
 // Each line of standard input is a stored row in hexadecimal digits, written into an output that is as long as a row may be.
 use run_program::{asked_lines, was_asked};
 use run_writes::{Form, Task, answer_tables};
+use std::process::ExitCode;
 
-fn main() {
-    if was_asked(
+fn main(rt: HostRuntime) -> ExitCode {
+    if let Some(status) = was_asked(
+        &rt,
         b"row_writes",
         b"row_writes spells each stored row as a row of a peak list, with an output that is as long as a row may be.
 
@@ -17,13 +19,14 @@ mxa3:6.
 ",
         true,
     ) {
-        return;
+        return status;
     }
     answer_tables(
+        &rt,
         b"row_writes",
-        asked_lines(),
+        asked_lines(&rt),
         Task::WriteRow,
         Form::Fields,
         false,
-    );
+    )
 }

@@ -9,7 +9,7 @@ ghost use Rattle.run_reads.specs.Reads.{read_as, ReadInto};
 
 use answers::Answer;
 use io_answers::{behind_size, put_answer, size_in};
-use io_lines::{Stream, next_line, room};
+use io_lines::{Stream, System, next_line, room};
 use layout::ROW_HEAD_SIZE;
 use limits::MAX_TABLE;
 use read_line::read_by;
@@ -17,9 +17,13 @@ use read_row::read_row_by;
 use run_program::{Input, finish};
 use scan_line::Lines;
 use slices::part;
+use std::process::ExitCode;
 
 // The bytes of the stored row of a row that is read.
 const MAX_STORED_ROW: usize = ROW_HEAD_SIZE + MAX_TABLE;
+
+// The bytes of input that are held, and those of answers that wait.
+const BUFFER: usize = 65536;
 
 // The longest answer: three numbers of at most 20 digits, each with a blank; the stored row, which is longer than
 // any table that is read; a line feed.
@@ -27,16 +31,33 @@ const ANSWER: usize = 64 + 2 * MAX_STORED_ROW;
 
 // All lines, of an edition, for the program of this name. Where they are sized, each begins with the length of its output, a number of at most 21,392, and a blank; else the output
 // is as long as any stored row needs.
-pub fn answer_lines(name: &[u8], lines: Lines, input: Input, sized: bool) {
+pub fn answer_lines(
+    rt: &HostRuntime,
+    name: &[u8],
+    lines: Lines,
+    input: Input,
+    sized: bool,
+) -> ExitCode {
     let machine = scan_line::machine(lines);
-    let mut buf = io::large_buffer();
-    let mut out = io::large_buffer();
+    let mut buf = [0u8; BUFFER];
+    let mut out = [0u8; BUFFER];
     let mut table = [0u8; MAX_STORED_ROW];
-    all(name, input, &machine, &mut buf, &mut out, &mut table, sized);
+    let mut system = System::begin(*rt);
+    all(
+        &mut system,
+        name,
+        input,
+        &machine,
+        &mut buf,
+        &mut out,
+        &mut table,
+        sized,
+    )
 }
 
 // Line after line, until none comes. A proved loop has to end, so it counts down from a number that no run uses up.
 fn all(
+    system: &mut System,
     name: &[u8],
     input: Input,
     machine: &[u8],
@@ -44,22 +65,23 @@ fn all(
     out: &mut [u8],
     table: &mut [u8],
     sized: bool,
-) {
-    let mut s = next_line(buf, out, Stream::begin());
+) -> ExitCode {
+    let mut s = next_line(system, buf, out, Stream::begin());
     let mut turns = u64::MAX;
     while turns > 0 {
         if !s.found {
-            finish(name, out, s);
-            return;
+            return finish(system, name, out, s);
         }
-        let said = one_line(input, machine, buf, out, table, s, sized);
-        s = next_line(buf, out, said);
+        let said = one_line(system, input, machine, buf, out, table, s, sized);
+        s = next_line(system, buf, out, said);
         turns -= 1;
     }
+    ExitCode::FAILURE
 }
 
 // The line that was found is answered, behind the answers that wait.
 fn one_line(
+    system: &mut System,
     input: Input,
     machine: &[u8],
     buf: &[u8],
@@ -70,7 +92,7 @@ fn one_line(
 ) -> Stream
     ensures { Answered input machine.now (take s.len (drop s.from buf.now)) sized s table.old table.new out.old out.new result }
 {
-    let t = room(out, s, ANSWER);
+    let t = room(system, out, s, ANSWER);
     let line = part(buf, s.from, s.len);
     let a = read_one(input, machine, line, table, sized);
     let end = put_answer(out, t.waiting, a, table);

@@ -14,7 +14,7 @@ ghost use Rattle.run_relabel.specs.AnswerPut.{AnswerPut};
 
 use answers::Answer;
 use io_answers::put_refusal;
-use io_lines::{Stream, next_line, room};
+use io_lines::{Stream, System, next_line, room};
 use limits::{MAX_ANNOTATIONS, MAX_ROW};
 use lines::relabel_by;
 use put_bytes::put8;
@@ -22,34 +22,56 @@ use respell_row::relabel_row_by;
 use run_program::{Input, finish};
 use scan_line::Lines;
 use slices::{advance, part};
+use std::process::ExitCode;
+
+// The bytes of input that are held, and those of answers that wait.
+const BUFFER: usize = 65536;
 
 // All lines of standard input, or all rows, by lines of an edition, for the program of this name.
-pub fn relabel_lines(name: &[u8], lines: Lines, input: Input) {
+pub fn relabel_lines(rt: &HostRuntime, name: &[u8], lines: Lines, input: Input) -> ExitCode {
     let machine = scan_line::machine(lines);
-    let mut buf = io::large_buffer();
-    let mut out = io::large_buffer();
-    all(name, lines, input, &machine, &mut buf, &mut out);
+    let mut buf = [0u8; BUFFER];
+    let mut out = [0u8; BUFFER];
+    let mut system = System::begin(*rt);
+    all(
+        &mut system,
+        name,
+        lines,
+        input,
+        &machine,
+        &mut buf,
+        &mut out,
+    )
 }
 
 // Line after line, until none comes. A proved loop has to end, so it counts down from a number that no run uses up.
-fn all(name: &[u8], lines: Lines, input: Input, machine: &[u8], buf: &mut [u8], out: &mut [u8])
+fn all(
+    system: &mut System,
+    name: &[u8],
+    lines: Lines,
+    input: Input,
+    machine: &[u8],
+    buf: &mut [u8],
+    out: &mut [u8],
+) -> ExitCode
     requires { (machine.now ≡ machine_bytes (lines_in lines)) × (max_row + 1 ≤ length out.old) }
 {
-    let mut s = next_line(buf, out, Stream::begin());
+    let mut s = next_line(system, buf, out, Stream::begin());
     let mut turns = u64::MAX;
     while turns > 0 {
         if !s.found {
-            finish(name, out, s);
-            return;
+            return finish(system, name, out, s);
         }
-        let said = one_line(lines, input, machine, buf, out, s);
-        s = next_line(buf, out, said);
+        let said = one_line(system, lines, input, machine, buf, out, s);
+        s = next_line(system, buf, out, said);
         turns -= 1;
     }
+    ExitCode::FAILURE
 }
 
 // The line that was found is answered, behind the answers that wait; a line feed ends its own.
 fn one_line(
+    system: &mut System,
     lines: Lines,
     input: Input,
     machine: &[u8],
@@ -60,7 +82,7 @@ fn one_line(
     requires { (machine.now ≡ machine_bytes (lines_in lines)) × (max_row + 1 ≤ length out.old) }
     ensures { Answered (lines_in lines) input (take s.len (drop s.from buf.now)) s out.old out.new result }
 {
-    let t = room(out, s, MAX_ROW + 1);
+    let t = room(system, out, s, MAX_ROW + 1);
     let line = part(buf, s.from, s.len);
     let a = spell(lines, input, machine, line, out, t.waiting);
     let end = put_answer(out, t.waiting, a);

@@ -12,13 +12,14 @@ ghost use Rattle.run_writes.specs.Answered.{most_of, answer_as, hex_of, answer_t
 use answers::{Answer, refuse};
 use io_answers::{behind_size, put_answer, put_briefly, size_in};
 use io_hex::{is_hex, put_unhexed};
-use io_lines::{Stream, next_line, room};
+use io_lines::{Stream, System, next_line, room};
 use layout::ROW_HEAD_SIZE;
 use limits::{MAX_ANY_TABLE, MAX_ROW};
 use put_bytes::clear;
 use run_program::finish;
 use scan_line::Lines;
 use slices::{first_of, part};
+use std::process::ExitCode;
 use write_row::write_row_by;
 use write_table::{convert_by, write_by};
 
@@ -35,7 +36,7 @@ const ANSWER: usize = 64 + 2 * MAX_ANY_TABLE;
 const WAITING: usize = 2 * ANSWER;
 
 // What is done with stored bytes: a table is written as its line, a row as its text, or a table of edition 1 is converted to edition 2.
-#[derive(Drop)]
+#[derive(Clone, Copy)]
 pub enum Task {
     WriteTable,
     WriteRow,
@@ -44,7 +45,7 @@ pub enum Task {
 
 // How an answer is shown: by its number, place and length and what it speaks of, `-` where that is nothing; or by what it speaks of alone, and a refusal
 // by `!`, its number and its place.
-#[derive(Drop)]
+#[derive(Clone, Copy)]
 pub enum Form {
     Fields,
     Digits,
@@ -52,14 +53,23 @@ pub enum Form {
 
 // All tables, by lines of an edition, for the program of this name. The output has as many bytes as are answered at most; or, where tables are sized, as many as a number says that
 // stands before each, with a blank behind it, if these are fewer.
-pub fn answer_tables(name: &[u8], lines: Lines, task: Task, form: Form, sized: bool) {
+pub fn answer_tables(
+    rt: &HostRuntime,
+    name: &[u8],
+    lines: Lines,
+    task: Task,
+    form: Form,
+    sized: bool,
+) -> ExitCode {
     let machine = scan_line::machine(lines);
     let mut buf = [0u8; BUFFER];
     let mut out = [0u8; WAITING];
     let mut table = [0u8; TABLE];
     let mut line = [0u8; MAX_ANY_TABLE];
     let most = most_of(task);
+    let mut system = System::begin(*rt);
     all(
+        &mut system,
         name,
         task,
         form,
@@ -69,7 +79,7 @@ pub fn answer_tables(name: &[u8], lines: Lines, task: Task, form: Form, sized: b
         &mut table,
         &mut line[..most],
         sized,
-    );
+    )
 }
 
 // How many bytes are answered at most. A line or a row is not given the room of a table, since clearing that costs more than writing most of them.
@@ -85,6 +95,7 @@ fn most_of(task: Task) -> usize
 
 // Table after table, until none comes. A proved loop has to end, so it counts down from a number that no run uses up.
 fn all(
+    system: &mut System,
     name: &[u8],
     task: Task,
     form: Form,
@@ -94,22 +105,23 @@ fn all(
     table: &mut [u8],
     line: &mut [u8],
     sized: bool,
-) {
-    let mut s = next_line(buf, out, Stream::begin());
+) -> ExitCode {
+    let mut s = next_line(system, buf, out, Stream::begin());
     let mut turns = u64::MAX;
     while turns > 0 {
         if !s.found {
-            finish(name, out, s);
-            return;
+            return finish(system, name, out, s);
         }
-        let said = one_table(task, form, machine, buf, out, table, line, s, sized);
-        s = next_line(buf, out, said);
+        let said = one_table(system, task, form, machine, buf, out, table, line, s, sized);
+        s = next_line(system, buf, out, said);
         turns -= 1;
     }
+    ExitCode::FAILURE
 }
 
 // The table that was found is answered, behind the answers that wait.
 fn one_table(
+    system: &mut System,
     task: Task,
     form: Form,
     machine: &[u8],
@@ -122,7 +134,7 @@ fn one_table(
 ) -> Stream
     ensures { Answered form (answer_to task machine.now sized (take s.len (drop s.from buf.now)) (length table.old) (length line.old)) s out.old out.new result }
 {
-    let t = room(out, s, ANSWER);
+    let t = room(system, out, s, ANSWER);
     let asked = part(buf, s.from, s.len);
     let a = answer_one(task, machine, asked, table, line, sized);
     let end = put_told(form, out, t.waiting, a, line);

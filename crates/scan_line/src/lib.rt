@@ -14,7 +14,7 @@ use crate::tables::{
 use put_bytes::put_words;
 
 // The editions of lines: document 01's, and that of document 02 (M-113), in which an internal ion may have letters behind its `m`.
-#[derive(Drop)]
+#[derive(Clone, Copy)]
 pub enum Lines {
     First,
     Second,
@@ -142,7 +142,7 @@ fn ends(machine: &[u8], q: usize) -> bool
 
 // How far a scan has come, after some bytes of a line, which may come in parts: the machine's state, how many brackets more are open inside a name
 // than it says, and how many bytes begin a shape.
-#[derive(Drop)]
+#[derive(Clone, Copy)]
 pub struct Progress {
     pub state: usize,
     pub depth: usize,

@@ -5,18 +5,23 @@ ghost use Rattle.std.specs.Prelude.{◌≡◌, List, ℕ, length, take, drop};
 ghost use Rattle.put_bytes.specs.Puts.{Put};
 ghost use Rattle.shapes.specs.Shown.{place_text, verdict_text, is_begun, Shown, Parted, Last};
 
-use io_lines::{Stream, next_part, room};
+use io_lines::{Stream, System, next_part, room};
 use numbers::put_number;
 use put_bytes::{put_run, put8};
 use run_program::{asked_lines, finish, was_asked};
 use scan_line::{Progress, Verdict};
 use slices::part;
+use std::process::ExitCode;
+
+// The bytes of input that are held, and those of answers that wait.
+const BUFFER: usize = 65536;
 
 // The longest answer: a number, a blank, a place of 20 digits, a line feed.
 const ANSWER: usize = 23;
 
-fn main() {
-    if was_asked(
+fn main(rt: HostRuntime) -> ExitCode {
+    if let Some(status) = was_asked(
+        &rt,
         b"shapes",
         b"shapes says of each line whether it has the shape of an mzPAF line: limits and rules play no part.
 
@@ -32,48 +37,62 @@ With --second, lines are those of the second edition, in which an internal ion m
 ",
         false,
     ) {
-        return;
+        return status;
     }
-    let machine = scan_line::machine(asked_lines());
-    let mut buf = io::large_buffer();
-    let mut out = io::large_buffer();
-    all(b"shapes", &machine, &mut buf, &mut out);
+    let machine = scan_line::machine(asked_lines(&rt));
+    let mut buf = [0u8; BUFFER];
+    let mut out = [0u8; BUFFER];
+    let mut system = System::begin(rt);
+    all(&mut system, b"shapes", &machine, &mut buf, &mut out)
 }
 
 // Part after part, until none comes. A proved loop has to end, so it counts down from a number that no run uses up.
-fn all(name: &[u8], machine: &[u8], buf: &mut [u8], out: &mut [u8]) {
+fn all(
+    system: &mut System,
+    name: &[u8],
+    machine: &[u8],
+    buf: &mut [u8],
+    out: &mut [u8],
+) -> ExitCode {
     let mut p = Progress::begin();
-    let mut s = next_part(buf, out, Stream::begin());
+    let mut s = next_part(system, buf, out, Stream::begin());
     let mut turns = u64::MAX;
     while turns > 0 {
         if !s.found {
-            let end = last(machine, out, s, p);
-            finish(name, out, end);
-            return;
+            let end = last(system, machine, out, s, p);
+            return finish(system, name, out, end);
         }
-        let w = one_part(machine, buf, out, s, p);
+        let w = one_part(system, machine, buf, out, s, p);
         p = w.scan;
         let said = w.stream;
-        s = next_part(buf, out, said);
+        s = next_part(system, buf, out, said);
         turns -= 1;
     }
+    ExitCode::FAILURE
 }
 
 // The scan of the line that goes on, and the stream, in which answers wait.
-#[derive(Drop)]
+#[derive(Clone, Copy)]
 struct Work {
     scan: Progress,
     stream: Stream,
 }
 
 // The part that was found, which may be the last of its line.
-fn one_part(machine: &[u8], buf: &[u8], out: &mut [u8], s: Stream, p: Progress) -> Work
+fn one_part(
+    system: &mut System,
+    machine: &[u8],
+    buf: &[u8],
+    out: &mut [u8],
+    s: Stream,
+    p: Progress,
+) -> Work
     ensures { Parted machine.now (take s.len (drop s.from buf.now)) s p out.old out.new result }
 {
     let bytes = part(buf, s.from, s.len);
     let scan = p.over(machine, bytes);
     if s.fed {
-        let stream = answer(machine, out, s, scan);
+        let stream = answer(system, machine, out, s, scan);
         let fresh = Progress::begin();
         return Work {
             scan: fresh,
@@ -84,11 +103,11 @@ fn one_part(machine: &[u8], buf: &[u8], out: &mut [u8], s: Stream, p: Progress) 
 }
 
 // A last line without line feed.
-fn last(machine: &[u8], out: &mut [u8], s: Stream, p: Progress) -> Stream
+fn last(system: &mut System, machine: &[u8], out: &mut [u8], s: Stream, p: Progress) -> Stream
     ensures { Last machine.now s p out.old out.new result }
 {
     if is_begun(p) {
-        return answer(machine, out, s, p);
+        return answer(system, machine, out, s, p);
     }
     s
 }
@@ -104,10 +123,10 @@ fn is_begun(p: Progress) -> bool
 }
 
 // The answer for a line, behind those that wait.
-fn answer(machine: &[u8], out: &mut [u8], s: Stream, p: Progress) -> Stream
+fn answer(system: &mut System, machine: &[u8], out: &mut [u8], s: Stream, p: Progress) -> Stream
     ensures { Shown machine.now p s out.old out.new result }
 {
-    let t = room(out, s, ANSWER);
+    let t = room(system, out, s, ANSWER);
     let v = p.verdict(machine);
     let end = put_verdict(out, t.waiting, v, p.at);
     t.answered(end)

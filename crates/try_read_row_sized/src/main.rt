@@ -1,8 +1,10 @@
 // Each line of standard input has the form `N ROW`, and ROW is read into an output of N bytes.
 use run_program::{Input, asked_lines, was_asked};
+use std::process::ExitCode;
 
-fn main() {
-    if was_asked(
+fn main(rt: HostRuntime) -> ExitCode {
+    if let Some(status) = was_asked(
+        &rt,
         b"try_read_row_sized",
         b"try_read_row_sized makes a stored row of each row of a peak list, with an output of the length that is asked for.
 
@@ -17,7 +19,13 @@ mxa3:6.
 ",
         true,
     ) {
-        return;
+        return status;
     }
-    run_reads::answer_lines(b"try_read_row_sized", asked_lines(), Input::Rows, true);
+    run_reads::answer_lines(
+        &rt,
+        b"try_read_row_sized",
+        asked_lines(&rt),
+        Input::Rows,
+        true,
+    )
 }

@@ -1,8 +1,10 @@
 // Each line of standard input has the form `N LINE`, and LINE is read into an output of N bytes.
 use run_program::{Input, asked_lines, was_asked};
+use std::process::ExitCode;
 
-fn main() {
-    if was_asked(
+fn main(rt: HostRuntime) -> ExitCode {
+    if let Some(status) = was_asked(
+        &rt,
         b"try_read_sized",
         b"try_read_sized makes a table of each mzPAF line, with an output of the length that is asked for.
 
@@ -16,7 +18,7 @@ With --second, lines are those of the second edition, in which an internal ion m
 ",
         true,
     ) {
-        return;
+        return status;
     }
-    run_reads::answer_lines(b"try_read_sized", asked_lines(), Input::Lines, true);
+    run_reads::answer_lines(&rt, b"try_read_sized", asked_lines(&rt), Input::Lines, true)
 }

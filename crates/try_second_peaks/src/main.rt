@@ -1,8 +1,10 @@
 // Rows whose lines are of the second edition, relabelled: standard input has one a line, and the stored run has the argument `--second`.
 use run_program::{Input, asked_lines, was_asked};
+use std::process::ExitCode;
 
-fn main() {
-    if was_asked(
+fn main(rt: HostRuntime) -> ExitCode {
+    if let Some(status) = was_asked(
+        &rt,
         b"try_second_peaks",
         b"try_second_peaks spells each row of a peak list in its preferred form, as peaks does: its stored input has lines of the second edition.
 
@@ -16,7 +18,7 @@ With --second, lines of annotations are those of the second edition, in which an
 ",
         true,
     ) {
-        return;
+        return status;
     }
-    run_relabel::relabel_lines(b"try_second_peaks", asked_lines(), Input::Rows);
+    run_relabel::relabel_lines(&rt, b"try_second_peaks", asked_lines(&rt), Input::Rows)
 }

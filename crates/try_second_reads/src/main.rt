@@ -1,8 +1,10 @@
 // Lines of the second edition, read: standard input has one a line, and the stored run has the argument `--second`.
 use run_program::{Input, asked_lines, was_asked};
+use std::process::ExitCode;
 
-fn main() {
-    if was_asked(
+fn main(rt: HostRuntime) -> ExitCode {
+    if let Some(status) = was_asked(
+        &rt,
         b"try_second_reads",
         b"try_second_reads makes a table of each mzPAF line, as reads does: its stored input has lines of the second edition.
 
@@ -15,7 +17,13 @@ With --second, lines are those of the second edition, in which an internal ion m
 ",
         true,
     ) {
-        return;
+        return status;
     }
-    run_reads::answer_lines(b"try_second_reads", asked_lines(), Input::Lines, false);
+    run_reads::answer_lines(
+        &rt,
+        b"try_second_reads",
+        asked_lines(&rt),
+        Input::Lines,
+        false,
+    )
 }

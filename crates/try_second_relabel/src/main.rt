@@ -1,8 +1,10 @@
 // Lines of the second edition, relabelled: standard input has one a line, and the stored run has the argument `--second`.
 use run_program::{Input, asked_lines, was_asked};
+use std::process::ExitCode;
 
-fn main() {
-    if was_asked(
+fn main(rt: HostRuntime) -> ExitCode {
+    if let Some(status) = was_asked(
+        &rt,
         b"try_second_relabel",
         b"try_second_relabel spells each mzPAF line in its preferred form, as relabel does: its stored input has lines of the second edition.
 
@@ -15,7 +17,7 @@ With --second, lines are those of the second edition, in which an internal ion m
 ",
         true,
     ) {
-        return;
+        return status;
     }
-    run_relabel::relabel_lines(b"try_second_relabel", asked_lines(), Input::Lines);
+    run_relabel::relabel_lines(&rt, b"try_second_relabel", asked_lines(&rt), Input::Lines)
 }

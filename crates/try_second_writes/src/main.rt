@@ -1,9 +1,11 @@
 // Stored tables, in hexadecimal digits, written as lines of the second edition: standard input has one a line, and the stored run has the argument `--second`.
 use run_program::{asked_lines, was_asked};
 use run_writes::{Form, Task, answer_tables};
+use std::process::ExitCode;
 
-fn main() {
-    if was_asked(
+fn main(rt: HostRuntime) -> ExitCode {
+    if let Some(status) = was_asked(
+        &rt,
         b"try_second_writes",
         b"try_second_writes spells each stored table as an mzPAF line, as writes does: its stored input has tables with letters.
 
@@ -16,13 +18,14 @@ With --second, lines are those of the second edition, in which an internal ion m
 ",
         true,
     ) {
-        return;
+        return status;
     }
     answer_tables(
+        &rt,
         b"try_second_writes",
-        asked_lines(),
+        asked_lines(&rt),
         Task::WriteTable,
         Form::Fields,
         false,
-    );
+    )
 }

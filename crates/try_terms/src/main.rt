@@ -13,23 +13,28 @@ ghost use Rattle.try_terms.specs.Lines.{number_said, decimal_said, symbol_said, 
 use elements::read_element;
 use faults::Fault;
 use io_answers::put_field;
-use io_lines::{Stream, next_line, room};
+use io_lines::{Stream, System, next_line, room};
 use numbers::{FirstByte, MadeDecimal, put_decimal, put_number, read_decimal, read_number};
 use put_bytes::{put_run, put8};
 use put_formula::{put_preferred, put_symbol};
 use read_formula::formula;
 use run_program::{finish, was_asked};
 use slices::{part, rest};
+use std::process::ExitCode;
+
+// The bytes of input that are held.
+const BUFFER: usize = 65536;
 
 // The longest answer: the bytes of a buffer, which a formula in preferred spelling does not exceed; four numbers of at most 20 digits,
 // each with a blank; a line feed.
-const ANSWER: usize = 65536 + 128;
+const ANSWER: usize = BUFFER + 128;
 
 // Room for two of them.
 const ANSWERS: usize = 2 * ANSWER;
 
-fn main() {
-    if was_asked(
+fn main(rt: HostRuntime) -> ExitCode {
+    if let Some(status) = was_asked(
+        &rt,
         b"try_terms",
         b"try_terms reads numbers, decimals, element symbols and formulas, each from the beginning of a text.
 
@@ -45,33 +50,34 @@ the text were read; a limit's number is 4 (a number past its bound), 5 (too many
 ",
         false,
     ) {
-        return;
+        return status;
     }
-    let mut buf = io::large_buffer();
+    let mut buf = [0u8; BUFFER];
     let mut out = [0u8; ANSWERS];
-    all(b"try_terms", &mut buf, &mut out);
+    let mut system = System::begin(rt);
+    all(&mut system, b"try_terms", &mut buf, &mut out)
 }
 
 // Line after line, until none comes. A proved loop has to end, so it counts down from a number that no run uses up.
-fn all(name: &[u8], buf: &mut [u8], out: &mut [u8]) {
-    let mut s = next_line(buf, out, Stream::begin());
+fn all(system: &mut System, name: &[u8], buf: &mut [u8], out: &mut [u8]) -> ExitCode {
+    let mut s = next_line(system, buf, out, Stream::begin());
     let mut turns = u64::MAX;
     while turns > 0 {
         if !s.found {
-            finish(name, out, s);
-            return;
+            return finish(system, name, out, s);
         }
-        let said = one_line(buf, out, s);
-        s = next_line(buf, out, said);
+        let said = one_line(system, buf, out, s);
+        s = next_line(system, buf, out, said);
         turns -= 1;
     }
+    ExitCode::FAILURE
 }
 
 // The line that was found is answered, behind the answers that wait; a line feed ends its own.
-fn one_line(buf: &[u8], out: &mut [u8], s: Stream) -> Stream
+fn one_line(system: &mut System, buf: &[u8], out: &mut [u8], s: Stream) -> Stream
     ensures { Answered (take s.len (drop s.from buf.now)) s out.old out.new result }
 {
-    let t = room(out, s, ANSWER);
+    let t = room(system, out, s, ANSWER);
     let line = part(buf, s.from, s.len);
     let end = answer(line, out, t.waiting);
     t.answered(put8(out, end, b'\n'))

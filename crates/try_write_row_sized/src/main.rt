@@ -1,9 +1,11 @@
 // Each line of standard input has the form `N STORED`, and the stored row, in hexadecimal digits, is written into an output of N bytes.
 use run_program::{asked_lines, was_asked};
 use run_writes::{Form, Task, answer_tables};
+use std::process::ExitCode;
 
-fn main() {
-    if was_asked(
+fn main(rt: HostRuntime) -> ExitCode {
+    if let Some(status) = was_asked(
+        &rt,
         b"try_write_row_sized",
         b"try_write_row_sized spells each stored row as a row of a peak list, with an output of the length that is asked for.
 
@@ -18,13 +20,14 @@ mxa3:6.
 ",
         true,
     ) {
-        return;
+        return status;
     }
     answer_tables(
+        &rt,
         b"try_write_row_sized",
-        asked_lines(),
+        asked_lines(&rt),
         Task::WriteRow,
         Form::Fields,
         true,
-    );
+    )
 }

@@ -1,9 +1,11 @@
 // Each line of standard input has the form `N TABLE`, and the table, in hexadecimal digits, is written into an output of N bytes.
 use run_program::{asked_lines, was_asked};
 use run_writes::{Form, Task, answer_tables};
+use std::process::ExitCode;
 
-fn main() {
-    if was_asked(
+fn main(rt: HostRuntime) -> ExitCode {
+    if let Some(status) = was_asked(
+        &rt,
         b"try_write_sized",
         b"try_write_sized spells each stored table as an mzPAF line, with an output of the length that is asked for.
 
@@ -17,13 +19,14 @@ With --second, lines are those of the second edition, in which an internal ion m
 ",
         true,
     ) {
-        return;
+        return status;
     }
     answer_tables(
+        &rt,
         b"try_write_sized",
-        asked_lines(),
+        asked_lines(&rt),
         Task::WriteTable,
         Form::Fields,
         true,
-    );
+    )
 }

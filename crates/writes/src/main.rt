@@ -1,9 +1,11 @@
 // Each line of standard input is a stored table in hexadecimal digits, written into an output that is as long as a line may be.
 use run_program::{asked_lines, was_asked};
 use run_writes::{Form, Task, answer_tables};
+use std::process::ExitCode;
 
-fn main() {
-    if was_asked(
+fn main(rt: HostRuntime) -> ExitCode {
+    if let Some(status) = was_asked(
+        &rt,
         b"writes",
         b"writes spells each stored table as an mzPAF line, with an output that is as long as a line may be.
 
@@ -16,13 +18,14 @@ With --second, lines are those of the second edition, in which an internal ion m
 ",
         true,
     ) {
-        return;
+        return status;
     }
     answer_tables(
+        &rt,
         b"writes",
-        asked_lines(),
+        asked_lines(&rt),
         Task::WriteTable,
         Form::Fields,
         false,
-    );
+    )
 }

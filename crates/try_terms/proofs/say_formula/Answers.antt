@@ -1,0 +1,12 @@
+-- `try_terms::say_formula` meets its contract. Assumes nothing.
+use mathlib.Core.Path.{ap}
+use Rattle.put_bytes.proofs.Putting.{put_then, put_as}
+use Rattle.read_formula.specs.declared.FormulaRead.{FormulaRead}
+use Rattle.try_terms.specs.Lines.{units_text}
+use Rattle.try_terms.proofs.say_formula.Goals as goal
+
+pub returns : goal.returns
+returns c =
+    let fault = put_then c.put_field-r.ensures (put_then c.put_field-t.ensures c.put_preferred.ensures) in
+    put_as (put_then c.put_field-p.ensures (put_then c.put_field-q.ensures fault))
+    (ap (λ (f : FormulaRead). units_text f c.args.text.now) c.formula-f.ensures)
