@@ -1,4 +1,6 @@
 // How many there are of each kind in a line or in a table: document 01, "The stored table", in the order of its sections.
+#![tactic(auto)]
+
 ghost use Rattle.std.specs.Prelude.{◌≡◌};
 ghost use Rattle.counts.specs.Sums.{sum, no_counts, plus};
 

@@ -1,6 +1,6 @@
 -- Document 02, M-113: where the letters of internal ions stand in a line, and what first-edition reading answers to a line that has some, and to one
 -- that has none. Assumes nothing.
-use Rattle.std.specs.Prelude.{ℕ, ◌+◌, ◌≡◌, true, false, cond, List, [], ◌∷◌, ◌↔◌, leb, length}
+use Rattle.std.specs.Prelude.{ℕ, ◌+◌, ◌≡◌, true, false, cond, [], ◌∷◌, ◌↔◌, leb, length}
 use Rattle.lang.specs.Parts.{Opt, silent, written, opt_text}
 use Rattle.rules.specs.Bytes.{bytes}
 use Rattle.rules.specs.Annotations.{SpelledAnnotation, flag_text, analyte_text, annotation_text}

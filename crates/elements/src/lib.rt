@@ -1,4 +1,6 @@
 // Element symbols and atomic numbers, each from the other.
+#![tactic(auto)]
+
 ghost use Rattle.std.specs.Prelude.{◌≡◌, drop};
 ghost use Rattle.lang.specs.Re.{in_c};
 ghost use Rattle.rules.specs.Bytes.{capital};

@@ -1,4 +1,6 @@
 // The first broken limit of a line, kept while its parts are read: document 01, "Numbers of refusal", 4 and 5.
+#![tactic(auto)]
+
 ghost use Rattle.std.specs.Prelude.{◌≡◌};
 ghost use Rattle.rules.specs.Limits.{number_mark, many_mark};
 ghost use Rattle.faults.specs.Faults.{numbered, join, after};

@@ -1,6 +1,8 @@
 // The stored table in numbers: how many bytes its records have, where their fields stand, and the order of its sections. Every other
 // crate takes them from here. That they are the definitions' numbers, which are reckoned from the fields of the records, is the
 // contract of the functions at the end.
+#![tactic(auto)]
+
 ghost use Rattle.std.specs.Prelude.{◌≡◌, [], ◌∷◌};
 ghost use Rattle.rules.specs.Stored.{header_size};
 ghost use Rattle.rules.specs.Rows.{row_head_size};

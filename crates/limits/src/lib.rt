@@ -1,5 +1,7 @@
 // The numbers that bound a line, one constant for each, in the order of document 01; readers and printers take them from here. That
 // they are the definitions' numbers is the contract of the functions at the end.
+#![tactic(auto)]
+
 ghost use Rattle.std.specs.Prelude.{◌≡◌, [], ◌∷◌};
 ghost use Rattle.rules.specs.Limits.{max_line, max_annotations, max_losses, max_isotopes, max_items, max_units, max_text};
 ghost use Rattle.rules.specs.Limits.{max_position, max_count, max_charge, max_places, max_digits};

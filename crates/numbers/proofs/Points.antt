@@ -14,7 +14,6 @@ use Rattle.lang.proofs.Lits.{one_eq}
 use Rattle.lang.proofs.Tests.{is_t}
 use Rattle.lang.specs.Parts.{first_in}
 use Rattle.rules.specs.Bytes.{digit}
-use Rattle.rules.specs.Decimals.{whole}
 use Rattle.rules.specs.Limits.{max_places, max_digits}
 use Rattle.numbers.specs.declared.Digits.{Digits}
 use Rattle.numbers.specs.declared.Decimal.{Decimal}

@@ -1,4 +1,6 @@
 // Numbers and decimals: read from the front of a part, and written.
+#![tactic(auto)]
+
 ghost use Rattle.std.specs.Prelude.{◌≡◌, ◌≤◌, ◌*◌, ◌+◌, ◌-◌, min};
 ghost use Rattle.lang.specs.Re.{in_c};
 ghost use Rattle.rules.specs.Bytes.{digit};

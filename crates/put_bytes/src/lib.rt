@@ -1,5 +1,7 @@
 // Bytes put at a cursor. A place past the output writes nothing and still counts, so that a writer learns how long its text is, and
 // the cursor stops at the largest place, so that no sum is too large for any output and any text.
+#![tactic(auto)]
+
 ghost use Rattle.std.specs.Prelude.{◌+◌, ◌≡◌, ◌∷◌, [], ◌++◌, leb, length, replicate};
 ghost use Rattle.lang.specs.Parts.{flat};
 ghost use Rattle.rules.specs.Stored.{little};

@@ -8,7 +8,7 @@ use Rattle.lang.specs.Parts.{Opt, silent, written}
 use Rattle.lang.specs.Mark.{In, here, later, Kept, marks_of}
 use Rattle.lang.proofs.Lits.{in→}
 use Rattle.rules.specs.Numbers.{Number}
-use Rattle.rules.specs.Formulas.{Written, FormulaUnit}
+use Rattle.rules.specs.Formulas.{FormulaUnit}
 use Rattle.rules.specs.Ions.{Cleavage, SpelledIon, TableIon, series, internal, immonium, precursor, reference, named, composed, smiles, unknown, ion_map}
 use Rattle.rules.specs.Fields.{filled, filled_cut}
 use Rattle.rules.specs.Limits.{max_position, opt_part, number_part, formula_part, ion_parts}

@@ -15,7 +15,7 @@ use Rattle.rules.specs.Annotations.{TableAnnotation}
 use Rattle.rules.specs.Fields.{Table}
 use Rattle.rules.specs.Stored.{little, Field, stores, unit_record, loss_record}
 use Rattle.rules.specs.Stored.{isotope_record, specific_record, isotope_records, item_record, common_fields, annotation_record}
-use Rattle.rules.specs.Stored.{annotation_units, annotation_texts, section, sections, header_size, counts, body, header, stored}
+use Rattle.rules.specs.Stored.{annotation_units, annotation_texts, section, sections, header_size, body, header, stored}
 use Rattle.rules.specs.Layout.{common_width, added_width, annotation_width, loss_width, isotope_width, item_width, unit_width}
 use Rattle.rules.specs.Editions.{Edition, ed1, ed2}
 use Rattle.rules.proofs.Totals.{total, length_flat, length_flat_each, in_none, in_map, in_flat}

@@ -1,6 +1,6 @@
 -- The test for sequences and its count, run over the text of a sequence, part by part: a name changes the phase at its end alone, and counts
 -- for nothing. Assumes nothing.
-use Prim.Native.Nat.{ℕ, zero, suc, ◌+◌, ◌-◌, ◌≤◌}
+use Prim.Native.Nat.{ℕ, zero, suc, ◌+◌, ◌≤◌}
 use mathlib.Core.Path.{◌≡◌, refl, sym, ap, ap₂, ◌∙◌, subst}
 use mathlib.Core.Bool.{Bool, true, false, cond, not, ◌&&◌, ◌||◌}
 use mathlib.Core.List.{List, [], ◌∷◌, ◌++◌, append_assoc, append-nil}
@@ -15,7 +15,7 @@ use Rattle.lang.proofs.Machine.{all_b}
 use Rattle.lang.proofs.Names.{cover}
 use Rattle.lang.proofs.Tests.{t_is, is_t}
 use Rattle.lang.proofs.Unique.{low_c}
-use Rattle.rules.specs.Bytes.{bytes, capital}
+use Rattle.rules.specs.Bytes.{capital}
 use Rattle.rules.specs.Texts.{name_brackets, Name, is_name, bracket_text}
 use Rattle.rules.specs.Sequences.{Residue, Sequence, residue_text, front_text, back_text, sequence_text, Phase, nothing, front_name, front_dash, residue, back_dash, back_name, leads, depth_behind, phase_behind, count_behind, Reading, read_from, reading, is_sequence, residues}
 

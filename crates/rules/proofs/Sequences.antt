@@ -1,6 +1,6 @@
 -- The test for sequences is the rule. Where it passes, what it takes from a phase on is what is left of a sequence there (`Left`), byte by byte
 -- from the end; that it passes the text of a sequence is proved beside the count (Residues). Assumes nothing.
-use Prim.Native.Nat.{ℕ, zero, suc, ◌+◌, ◌-◌}
+use Prim.Native.Nat.{ℕ, zero, suc, ◌-◌}
 use mathlib.Core.Path.{◌≡◌, refl, sym, ap, ap₂, ◌∙◌, subst}
 use mathlib.Core.Bool.{Bool, true, false, cond}
 use mathlib.Core.List.{List, [], ◌∷◌, ◌++◌, append_assoc, append-nil}
@@ -15,7 +15,7 @@ use Rattle.lang.proofs.Ranges.{in_range}
 use Rattle.lang.proofs.Tests.{t_is, is_t}
 use Rattle.rules.specs.Bytes.{bytes, capital}
 use Rattle.rules.specs.Texts.{name_brackets, Name, is_name, bracket_text}
-use Rattle.rules.specs.Sequences.{Residue, residue_text, back_text, IsSequence, Phase, nothing, front_name, front_dash, residue, back_dash, back_name, broken, leads, depth_behind, outside_names, behind_closing, phase_behind, count_behind, read_from, is_sequence, residues}
+use Rattle.rules.specs.Sequences.{Residue, residue_text, back_text, IsSequence, Phase, nothing, front_name, front_dash, residue, back_dash, back_name, broken, leads, depth_behind, outside_names, behind_closing, phase_behind, count_behind, read_from, is_sequence}
 use Rattle.rules.proofs.Residues.{opens, closes, plain, sequence_passes}
 
 -- ---- what is left of a sequence in each phase

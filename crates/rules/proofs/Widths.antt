@@ -1,7 +1,6 @@
 -- Where a field stands is the same for every thing of its sort, and a record has the bytes that its width says. Assumes nothing.
 use Prim.Native.Nat.{ℕ}
 use mathlib.Core.Path.{◌≡◌, refl}
-use mathlib.Core.List.{List, [], ◌∷◌}
 use Rattle.rules.specs.Numbers.{Number}
 use Rattle.rules.specs.Formulas.{FormulaUnit, plain, labelled}
 use Rattle.rules.specs.Losses.{Loss}

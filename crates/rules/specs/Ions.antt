@@ -1,5 +1,5 @@
 -- Document 01, "Shape of a line": the nine kinds of ion (4.4); document 02, M-113: the letters of an internal ion. Assumes nothing.
-use Rattle.std.specs.Prelude.{ℕ, ◌+◌, List, [], ◌∷◌, ◌++◌, map}
+use Rattle.std.specs.Prelude.{ℕ, List, [], ◌∷◌, ◌++◌, map}
 use Prim.Native.String.{String}
 use Rattle.lang.specs.Re.{Byte}
 use Rattle.lang.specs.Parts.{Opt, opt_text, Listed, word_of}

@@ -1,5 +1,5 @@
 -- Document 02, M-101, M-112 and M-113: what reading, writing and converting a row answer, and every byte of the output. Assumes nothing.
-use Rattle.std.specs.Prelude.{ℕ, ◌+◌, ◌-◌, ◌<◌, ◌≤◌, ◌≡◌, Bool, true, false, not, ◌&&◌, List, [], ◌∷◌, ◌++◌, T, eqb, length}
+use Rattle.std.specs.Prelude.{ℕ, ◌+◌, ◌-◌, ◌<◌, ◌≤◌, ◌≡◌, Bool, true, not, ◌&&◌, List, [], ◌∷◌, ◌++◌, T, eqb, length}
 use Rattle.rules.specs.Decimals.{Decimal, decimal_text}
 use Rattle.rules.specs.Lines.{within}
 use Rattle.rules.specs.Limits as Limits
@@ -8,7 +8,7 @@ use Rattle.rules.specs.Preferred.{preferred, preferred_spelling}
 use Rattle.rules.specs.Stored.{stores}
 use Rattle.rules.specs.Answers.{Answer, refuses, Delivers, Reads, ReadsForm, Sound, Holds}
 use Rattle.rules.specs.Editions.{Edition, ed1, current, LineEdition}
-use Rattle.rules.specs.Rows.{tab, Row, preferred_row, row_head_size, row_head, stored_row}
+use Rattle.rules.specs.Rows.{tab, Row, preferred_row, row_head_size, row_head}
 
 -- a row is at most 4,160 bytes
 abbrev pub max_row : ℕ

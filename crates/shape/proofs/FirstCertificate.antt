@@ -10,7 +10,7 @@ use Rattle.rules.specs.Elements.{symbols}
 use Rattle.rules.specs.Texts.{name_brackets}
 use Rattle.shape.specs.Tables.{flats, classes, reps, accepts, words}
 use Rattle.shape.proofs.Grammar.{symbol_re}
-use Rattle.shape.proofs.TableMachine.{machine1, rows1, words1}
+use Rattle.shape.proofs.TableMachine.{machine1, words1}
 use Rattle.shape.proofs.FirstRows.{all_rows_lem}
 
 all_bytes_lem : T (all_b (byte_t machine1) 256)

@@ -10,15 +10,15 @@ use native.Mathlib.Decide.{dec_le}
 use lib.Dec.{T, T_prop, eqb, leb, leb→le, le→leb}
 use borrow.Author.Tests.{eq-eqb}
 use lib.ListN.{length}
-use Rattle.lang.specs.Re.{Rng, in_c, Re, seq, Tree, text}
+use Rattle.lang.specs.Re.{Rng, in_c, Re, Tree, text}
 use Rattle.lang.specs.Digits.{value_from}
 use Rattle.lang.specs.Parts.{Such, all}
 use Rattle.lang.proofs.Deriv.{and_0, and_1, and_i}
 use Rattle.lang.proofs.Tests.{is_t}
 use Rattle.lang.proofs.Lits.{one_eq, in→, →in}
 use Rattle.lang.proofs.Means.{Means, opt_re, means_one, means_pair, means_as}
-use Rattle.lang.proofs.Names.{head_re, head_enc, head_dec}
-use Rattle.rules.specs.Bytes.{bytes, ◌to◌, digit}
+use Rattle.lang.proofs.Names.{head_enc, head_dec}
+use Rattle.rules.specs.Bytes.{◌to◌, digit}
 use Rattle.rules.specs.Numbers.{digits, From, Number, number_text}
 use Rattle.rules.specs.Decimals.{Decimal, whole, last_digits, point_text, decimal_text}
 use Rattle.rules.specs.Confidences.{ZeroPoint}
@@ -26,7 +26,7 @@ use Rattle.rules.proofs.Digits.{value_le, digits_small, one_number, leading, rea
 use Rattle.rules.proofs.Fractions.{whole_from, last_from, value_back, last_length, last_digits_lem}
 use Rattle.rules.proofs.Confidences.{zero_point_path, whole_zero, places_some}
 use Rattle.rules.proofs.Shortened.{from_path}
-use Rattle.shape.proofs.Grammar.{number_re, two_re, nat_re, point_re, decimal_re, word}
+use Rattle.shape.proofs.Grammar.{number_re, two_re, nat_re, point_re, decimal_re}
 
 -- n has a tree, and a tree has an n of at least m
 abbrev Tree-of : Re → ℕ → Type 0

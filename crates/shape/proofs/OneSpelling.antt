@@ -1,10 +1,9 @@
 -- No line has two spellings, and the machine of each edition of lines begins where every shape of it does. Assumes nothing.
 use Prim.Native.Nat.{ℕ}
-use mathlib.Core.Path.{◌≡◌, refl, sym, ap, ◌∙◌}
+use mathlib.Core.Path.{◌≡◌, refl, ap, ◌∙◌}
 use mathlib.Core.List.{List}
 use mathlib.Core.Logic.{◌↔◌, inl}
 use native.Mathlib.Omega.{arith}
-use lib.Dec.{T}
 use Rattle.lang.proofs.Same.{LA}
 use Rattle.lang.proofs.Certify.{Certified, res}
 use Rattle.lang.proofs.Deep.{one_tree}

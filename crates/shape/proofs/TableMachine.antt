@@ -2,7 +2,7 @@
 use Prim.Native.Nat.{ℕ, min}
 use mathlib.Core.List.{List, [], ◌∷◌, map}
 use lib.ListN.{take}
-use Rattle.lang.specs.Re.{Re, eps}
+use Rattle.lang.specs.Re.{eps}
 use Rattle.lang.proofs.Certify.{Tables}
 use Rattle.rules.specs.Editions.{LineEdition, first_lines, second_lines}
 use Rattle.rules.specs.Texts.{name_brackets}

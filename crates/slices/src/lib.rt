@@ -1,5 +1,7 @@
 // Parts of a line or of a table: what is left of them, what they begin with, the bytes and numbers that stand at a place. Every part is
 // looked at no further than it goes, so that nothing is asked of a caller.
+#![tactic(auto)]
+
 ghost use Rattle.std.specs.Prelude.{◌≡◌, ◌∷◌, [], ◌+◌, ◌-◌, min, get_or, take, drop};
 ghost use Rattle.lang.specs.Re.{rng};
 ghost use Rattle.rules.specs.Texts.{first_in, starts_with};

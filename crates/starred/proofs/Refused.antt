@@ -10,7 +10,7 @@ use lib.ListN.{length, get_or}
 use Rattle.lang.specs.Parts.{silent, written}
 use Rattle.lang.proofs.Machine.{all_b, all→}
 use Rattle.rules.specs.Bytes.{bytes}
-use Rattle.rules.specs.Lines.{Spelling, all_unlettered, Judged, misshapen}
+use Rattle.rules.specs.Lines.{Spelling, all_unlettered, Judged}
 use Rattle.rules.specs.Limits.{max_line, line_marks}
 use Rattle.rules.specs.Editions.{LineEdition, first_lines, second_lines, current}
 use Rattle.rules.specs.House.{first_foreign}

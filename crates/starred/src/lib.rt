@@ -1,1 +1,3 @@
+#![tactic(auto)]
+
 // Document 01's starred lines: no code.

@@ -1,5 +1,7 @@
 // Texts and names: which bytes they are made of, where one ends, and whether bytes are a name. Document 01, "Shape of a line"; the brackets
 // inside a name: document 02, M-100.
+#![tactic(auto)]
+
 ghost use Rattle.std.specs.Prelude.{◌<◌, ◌≡◌, true};
 ghost use Rattle.lang.specs.Re.{in_c};
 ghost use Rattle.rules.specs.Bytes.{text_byte};

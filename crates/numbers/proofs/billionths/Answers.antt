@@ -1,6 +1,5 @@
 -- `numbers::billionths` meets its contract: in its loop ten times for each place left, up to the largest, makes the whole. Assumes nothing.
 use Rattle.numbers.proofs.Shares.{begin, turn, ends}
-use Prim.Native.Nat.{◌-◌}
 use borrow.Author.Rules.{rules}
 use Rattle.numbers.proofs.billionths.Goals as goal
 

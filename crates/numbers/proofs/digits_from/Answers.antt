@@ -2,7 +2,6 @@
 use Rattle.numbers.proofs.Walks.{range, begin, turn, stops, ends}
 use borrow.Author.Tests.{not-true, not-false}
 use native.Mathlib.Omega.{arith}
-use Prim.Native.Nat.{◌-◌}
 use mathlib.Core.Path.{sym, ◌∙◌}
 use borrow.Author.Rules.{rules}
 use Rattle.numbers.proofs.digits_from.Goals as goal

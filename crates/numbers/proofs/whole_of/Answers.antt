@@ -2,7 +2,6 @@
 use Rattle.numbers.proofs.Written.{whole_turn, whole_end}
 use Rattle.rules.specs.Decimals.{whole}
 use mathlib.Core.Path.{refl}
-use Prim.Native.Nat.{◌-◌}
 use borrow.Author.Rules.{rules}
 use Rattle.numbers.proofs.whole_of.Goals as goal
 

@@ -2,7 +2,6 @@
 use Rattle.put_bytes.proofs.Clearing.{clear_more, clear_none}
 use lib.ListN.{length-set}
 use mathlib.Core.Path.{refl, ◌∙◌}
-use Prim.Native.Nat.{◌-◌}
 use native.Mathlib.Omega.{arith}
 use Rattle.put_bytes.proofs.clear_from.Goals as goal
 

@@ -2,7 +2,6 @@
 use Rattle.put_bytes.proofs.Putting.{put_in, put_over}
 use Rattle.put_bytes.proofs.PutLoop.{begin, more, ends, run_more}
 use lib.ListN.{drop_of_length-le}
-use Prim.Native.Nat.{◌-◌}
 use mathlib.Core.Path.{refl}
 use native.Mathlib.Omega.{arith}
 use Rattle.put_bytes.proofs.fill.Goals as goal

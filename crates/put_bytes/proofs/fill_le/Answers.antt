@@ -3,7 +3,6 @@ use Rattle.put_bytes.proofs.Putting.{put_in, put_over}
 use Rattle.put_bytes.proofs.PutLoop.{begin, more, ends, little_more, little_none}
 use Rattle.rules.proofs.Lengths.{little_length}
 use lib.ListN.{length}
-use Prim.Native.Nat.{◌-◌}
 use native.Mathlib.Nat.{sub-zero}
 use native.Mathlib.Omega.{arith}
 use Rattle.put_bytes.proofs.fill_le.Goals as goal

@@ -1,6 +1,5 @@
 -- `put_bytes::put_le_far` meets its contract: the bytes that are left make the whole. Assumes nothing.
 use Rattle.put_bytes.proofs.PutLoop.{begin, more, ends, little_more, little_none}
-use Prim.Native.Nat.{◌-◌}
 use native.Mathlib.Nat.{sub-zero}
 use native.Mathlib.Omega.{arith}
 use Rattle.put_bytes.proofs.put_le_far.Goals as goal

@@ -1,7 +1,6 @@
 -- `put_bytes::put_run_far` meets its contract: the bytes that are left make the whole. Assumes nothing.
 use Rattle.put_bytes.proofs.PutLoop.{begin, more, ends, run_more}
 use lib.ListN.{drop_of_length-le}
-use Prim.Native.Nat.{◌-◌}
 use mathlib.Core.Path.{refl}
 use native.Mathlib.Omega.{arith}
 use Rattle.put_bytes.proofs.put_run_far.Goals as goal

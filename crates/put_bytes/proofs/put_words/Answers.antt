@@ -1,6 +1,5 @@
 -- `put_bytes::put_words` meets its contract: the words that are left make the whole. Assumes nothing.
 use Rattle.put_bytes.proofs.PutLoop.{begin, more, ends, words_more, words_none}
-use Prim.Native.Nat.{◌-◌}
 use mathlib.Core.Path.{refl}
 use native.Mathlib.Omega.{arith}
 use Rattle.put_bytes.proofs.put_words.Goals as goal

@@ -1,5 +1,4 @@
 -- `texts::name_end` meets its contract: all bytes before a place go on with a name, until one does not. Assumes nothing.
-use Prim.Native.Nat.{◌-◌}
 use mathlib.Core.Path.{sym, ◌∙◌}
 use native.Mathlib.Omega.{arith}
 use borrow.Author.Tests.{not-false}

@@ -1,5 +1,4 @@
 -- `texts::text_len` meets its contract: all bytes before a place are of a text, until one is not. Assumes nothing.
-use Prim.Native.Nat.{◌-◌}
 use Rattle.texts.proofs.LeadingLoop.{begin, stops, turn, ends}
 use Rattle.texts.proofs.text_len.Goals as goal
 
