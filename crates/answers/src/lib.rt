@@ -1,5 +1,7 @@
 // What a call answers, and how a line is handed over. Document 01, "Numbers of refusal": a line to be written is tested against 1 and 8, and
 // an output holds the result and zeros behind it, or zeros.
+#![tactic(auto)]
+
 ghost use Rattle.std.specs.Prelude.{◌≡◌, length};
 ghost use Rattle.answers.specs.Delivered.{answered, refused_of, line_over, closed_over};
 ghost use Rattle.answers.specs.Behind.{capped};

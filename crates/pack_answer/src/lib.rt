@@ -1,5 +1,7 @@
 // An answer handed to a caller who has it in bytes. Document 02, M-108: number, place and length are packed in a lent buffer, two bytes
 // each, the lowest first, and the number is returned; with fewer than six bytes for them both buffers are cleared and 8 is returned.
+#![tactic(auto)]
+
 ghost use Rattle.std.specs.Prelude.{◌≡◌, length};
 ghost use Rattle.put_bytes.specs.Puts.{Put};
 ghost use Rattle.answers.specs.Delivered.{answered};

@@ -1,5 +1,7 @@
 // A sign and a count in preferred spelling, as a loss, an adduct item or an isotope begins with. Document 01, "One table, several
 // spellings".
+#![tactic(auto)]
+
 ghost use Rattle.put_bytes.specs.Puts.{Put};
 ghost use Rattle.print_count.specs.Heads.{sign_bytes, count_text, head_text};
 

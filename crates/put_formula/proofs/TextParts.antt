@@ -1,9 +1,8 @@
 -- The pieces of a unit's text, and the words of a record. Assumes nothing.
-use Prim.Native.Nat.{ℕ, ◌+◌, ◌*◌, ◌<◌, ◌≤◌}
-use mathlib.Core.Path.{◌≡◌, refl, sym, ap, ap₂, ◌∙◌}
+use Prim.Native.Nat.{ℕ, ◌<◌, ◌≤◌}
+use mathlib.Core.Path.{◌≡◌, sym, ap, ap₂, ◌∙◌}
 use mathlib.Core.List.{List, [], ◌∷◌, ◌++◌, append-nil}
-use native.Mathlib.Omega.{arith}
-use lib.ListN.{length, get_or, take, get_or-eq_default}
+use lib.ListN.{take}
 use borrow.Author.Tests.{eq-eqb, ne_eqb, le-leb, lt-leb}
 use Rattle.rules.specs.Numbers.{digits}
 use Rattle.elements.specs.declared.Letters.{Letters}
@@ -12,7 +11,6 @@ use Rattle.read_formula.specs.declared.UnitRead.{UnitRead}
 use Rattle.read_formula.specs.declared.UnitSpan.{UnitSpan}
 use Rattle.read_formula.specs.Units.{span_of, unit_of}
 use Rattle.read_formula.specs.Formulas.{unit_size}
-use Rattle.slices.specs.Numbers.{u16_at}
 use Rattle.put_formula.specs.Preferred.{symbol_text, plain_text, labelled_text, preferred_unit, kept_of, kept_unit}
 
 -- ---- symbols

@@ -1,5 +1,5 @@
 -- The records of units. Assumes nothing.
-use Rattle.std.specs.Prelude.{ℕ, ◌+◌, ◌*◌, List, [], ◌∷◌, get_or, drop}
+use Rattle.std.specs.Prelude.{ℕ, List, [], ◌∷◌, drop}
 use Rattle.rules.specs.Stored.{u16, stores}
 use Rattle.rules.specs.Layout.{unit_width, unit_element_at, atom_count_at}
 use Rattle.slices.specs.Numbers.{u16_at}

@@ -1,4 +1,6 @@
 // Units stored and printed: from the rest of a line to records and to preferred text, and from records to preferred text.
+#![tactic(auto)]
+
 ghost use Rattle.std.specs.Prelude.{◌≡◌, ◌+◌, min};
 ghost use Rattle.put_bytes.specs.Puts.{Put};
 ghost use Rattle.put_formula.specs.Records.{record_of, records_of, stored_unit};

@@ -16,7 +16,6 @@ use Rattle.lang.proofs.Deriv.{and_0, and_1}
 use Rattle.rules.specs.Bytes.{bytes, ◌to◌, digit}
 use Rattle.rules.specs.Texts.{first_in, starts_with, braced_text}
 use Rattle.rules.specs.Numbers.{number_text}
-use Rattle.rules.specs.Formulas.{Written}
 use Rattle.rules.specs.Ions.{series, internal, immonium, precursor, reference, named, composed, smiles, unknown, ion_text, SpelledIon}
 
 -- `?` and all letters

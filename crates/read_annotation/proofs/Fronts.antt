@@ -8,7 +8,6 @@ use lib.ListN.{length, drop, length-append}
 use Rattle.lang.specs.Parts.{Opt, opt_text}
 use Rattle.lang.specs.Mark.{marks_of}
 use Rattle.rules.specs.Bytes.{bytes}
-use Rattle.rules.specs.Formulas.{Written}
 use Rattle.rules.specs.Ions.{ion_text, SpelledIon}
 use Rattle.rules.specs.Annotations.{flag_text, analyte_text}
 use Rattle.rules.specs.Limits.{opt_part, analyte_part, ion_parts}

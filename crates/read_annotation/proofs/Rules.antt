@@ -1,7 +1,7 @@
 -- The rules for one annotation, of what is read of spelled parts within their limits. Assumes nothing.
 use Prim.Native.Nat.{ℕ, ◌-◌, ◌^◌, min}
 use mathlib.Core.Path.{◌≡◌, refl, ap}
-use mathlib.Core.Bool.{Bool, true, false, cond, not, ◌||◌}
+use mathlib.Core.Bool.{Bool, true, false, not, ◌||◌}
 use mathlib.Core.List.{[], ◌∷◌}
 use native.Mathlib.Nat.{zero-mul}
 use native.Mathlib.Omega.{arith}

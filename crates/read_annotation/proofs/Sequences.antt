@@ -11,7 +11,6 @@ use borrow.Author.Tests.{le-leb}
 use Rattle.lang.specs.Parts.{silent, written}
 use Rattle.lang.specs.Mark.{Kept, here, later, marks_of}
 use Rattle.rules.specs.Texts.{Text, is_text}
-use Rattle.rules.specs.Formulas.{Written}
 use Rattle.rules.specs.Sequences.{residues}
 use Rattle.rules.specs.Editions.{ed2}
 use Rattle.rules.specs.Ions.{series, internal, immonium, precursor, reference, named, composed, smiles, unknown, ion_text, SpelledIon}

@@ -1,5 +1,5 @@
 -- What is measured of an annotation that is spelled. Assumes nothing.
-use Prim.Native.Nat.{ℕ, ◌+◌, ◌-◌, ◌≤◌, min}
+use Prim.Native.Nat.{ℕ, ◌-◌, ◌≤◌, min}
 use mathlib.Core.Path.{◌≡◌, refl, sym, ap, ap₂, ◌∙◌, subst}
 use mathlib.Core.Bool.{Bool, ◌&&◌, ◌||◌}
 use mathlib.Core.List.{List, ◌++◌, map}
@@ -9,7 +9,6 @@ use lib.ListN.{length, length-append, length-map}
 use Rattle.lang.specs.Parts.{opt_text, flat}
 use Rattle.lang.specs.Mark.{Kept, here, later, marks_of}
 use Rattle.rules.specs.Bytes.{bytes}
-use Rattle.rules.specs.Formulas.{Written}
 use Rattle.rules.specs.Ions.{ion_text, ion_map, SpelledIon}
 use Rattle.rules.specs.Losses.{loss_text, loss_map}
 use Rattle.rules.specs.Isotopes.{isotopes_text, isotopes_map}

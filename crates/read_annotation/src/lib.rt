@@ -1,4 +1,6 @@
 // One annotation, read from the rest of a line and measured: what each part hands on is the rest of the line behind it.
+#![tactic(auto)]
+
 ghost use Rattle.std.specs.Prelude.{◌≡◌};
 ghost use Rattle.rules.specs.Bytes.{bytes};
 ghost use Rattle.rules.specs.Texts.{starts_with};

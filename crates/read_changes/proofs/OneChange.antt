@@ -7,7 +7,6 @@ use native.Mathlib.Omega.{arith}
 use lib.ListN.{length, drop, length-append}
 use Rattle.lang.specs.Parts.{Opt, silent, written, opt_text}
 use Rattle.lang.specs.Mark.{Mark}
-use Rattle.rules.specs.Bytes.{bytes}
 use Rattle.rules.specs.Numbers.{From, number_text}
 use Rattle.rules.specs.Losses.{sign_text}
 use Rattle.rules.specs.Preferred.{sign_rank}

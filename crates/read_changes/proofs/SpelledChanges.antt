@@ -26,7 +26,7 @@ use Rattle.read_changes.specs.Rows.{Sums, sums, change_size, count_change, chang
 use Rattle.read_changes.proofs.Walks.{held_within}
 use Rattle.read_changes.proofs.Measures.{change_long, change_stored}
 use Rattle.read_changes.proofs.ChangeLoop.{size_moves}
-use Rattle.read_changes.proofs.Spelled.{What, what_kind, what_size, of_lost, of_loss, loss_text_lem, loss_marks_lem, of_added, of_item, item_text_lem, item_marks_lem}
+use Rattle.read_changes.proofs.Spelled.{what_kind, what_size, of_lost, of_loss, loss_text_lem, loss_marks_lem, of_added, of_item, item_text_lem, item_marks_lem}
 use Rattle.read_changes.proofs.Sums.{row_first, row_ends, row_read}
 pub use Rattle.read_changes.proofs.Spelled.{Spelled, change_text, change_marks}
 pub use Rattle.read_changes.proofs.OneChange.{change_read, change_read_lem}

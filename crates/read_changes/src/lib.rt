@@ -1,5 +1,7 @@
 // Losses and adduct items, read from the rest of a line and measured. Both are a sign, a count, and a formula, a name or `e`; a loss has
 // no `e` and an adduct item no name, which the shape of the line has settled.
+#![tactic(auto)]
+
 ghost use Rattle.std.specs.Prelude.{◌≡◌};
 ghost use Rattle.read_changes.specs.Changes.{head_fault, change_with, content_of, change_of, units_in, text_in};
 ghost use Rattle.read_changes.specs.Rows.{changes_of};

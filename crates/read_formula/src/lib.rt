@@ -1,4 +1,6 @@
 // Units and formulas, read from the rest of a line and measured: how many bytes, which numbers, the first broken limit.
+#![tactic(auto)]
+
 ghost use Rattle.std.specs.Prelude.{◌≡◌, ◌∷◌, [], ◌+◌, ◌-◌, min, take, drop};
 ghost use Rattle.lang.specs.Re.{rng};
 ghost use Rattle.rules.specs.Limits.{number_mark, many_mark};

@@ -1,6 +1,6 @@
 -- What is read of the letters of an internal ion that are spelled, or left out, where a digit follows. Assumes nothing.
 use Prim.Native.Nat.{ℕ, ◌+◌, ◌-◌, ◌*◌, ◌≤◌}
-use mathlib.Core.Path.{◌≡◌, refl, ap}
+use mathlib.Core.Path.{◌≡◌, refl}
 use mathlib.Core.Bool.{Bool, true, false, cond, not, ◌&&◌}
 use mathlib.Core.List.{List, [], ◌∷◌, ◌++◌, map}
 use native.Mathlib.Omega.{arith}
@@ -17,7 +17,6 @@ use Rattle.rules.specs.Texts.{first_in}
 use Rattle.rules.specs.Ions.{cleavage_names, Cleavage, Letters}
 use Rattle.rules.specs.Fields.{filled_cut}
 use Rattle.rules.specs.Stored.{held_cut}
-use Rattle.read_ion.specs.declared.CutRead.{CutRead}
 use Rattle.read_ion.specs.Cuts.{place_in, held_of, cut_of}
 
 -- no place is past the third

@@ -6,7 +6,6 @@ use lib.ListN.{length}
 use Rattle.lang.specs.Parts.{Opt, silent, written, opt_text, items, word_of}
 use Rattle.lang.specs.Mark.{Mark}
 use Rattle.rules.specs.Numbers.{Number, number_text}
-use Rattle.rules.specs.Formulas.{Written}
 use Rattle.rules.specs.Ions.{SpelledIon, series, internal, immonium, precursor, reference, named, composed, smiles, unknown, ion_text}
 use Rattle.rules.specs.Fields.{filled_cut}
 use Rattle.rules.specs.Stored.{bytes_of, held_cut}

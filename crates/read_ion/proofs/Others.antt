@@ -8,7 +8,7 @@ use Rattle.lang.specs.Re.{Byte}
 use Rattle.lang.specs.Parts.{Opt, silent, written, opt_text, items}
 use Rattle.lang.specs.Mark.{marks_of}
 use Rattle.lang.proofs.Deriv.{and_0}
-use Rattle.rules.specs.Bytes.{bytes, capital}
+use Rattle.rules.specs.Bytes.{capital}
 use Rattle.rules.specs.Numbers.{Number, number_text}
 use Rattle.rules.specs.Texts.{is_name, Text, Name, Modification, braced_text, bracket_text}
 use Rattle.rules.specs.Formulas.{Written, Formula, formula_text}

@@ -8,7 +8,7 @@ use lib.Dec.{T, eqb, ltb→lt}
 use lib.ListN.{drop, get_or}
 use borrow.Author.Tests.{ne_eqb}
 use Rattle.lang.specs.Parts.{silent, written, opt_text, word_of}
-use Rattle.lang.proofs.Tests.{is_t, not_t}
+use Rattle.lang.proofs.Tests.{not_t}
 use Rattle.lang.proofs.Machine.{all→}
 use Rattle.lang.proofs.Ranges.{in_range}
 use Rattle.rules.specs.Bytes.{bytes, digit}

@@ -1,4 +1,6 @@
 // The ion that the rest of a line begins with, of nine kinds, measured. Document 01, "Shape of a line".
+#![tactic(auto)]
+
 ghost use Rattle.std.specs.Prelude.{◌≡◌, get_or};
 ghost use Rattle.rules.specs.Bytes.{bytes};
 ghost use Rattle.rules.specs.Texts.{starts_with};

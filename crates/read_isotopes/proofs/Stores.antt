@@ -7,7 +7,6 @@ use lib.ListN.{length}
 use Rattle.lang.specs.Parts.{silent, written, items, flat}
 use Rattle.lang.specs.Mark.{In, here, later, Kept}
 use Rattle.lang.specs.Walk.{walked, folded}
-use Rattle.rules.specs.Bytes.{bytes}
 use Rattle.rules.specs.Elements.{atomic_number}
 use Rattle.rules.specs.Formulas.{Written}
 use Rattle.rules.specs.Losses.{sign_text}

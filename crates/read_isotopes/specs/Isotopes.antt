@@ -1,5 +1,5 @@
 -- The isotope that bytes begin with: sign, count, `i`, and nothing, `A`, or nucleon number and symbol. Assumes nothing.
-use Rattle.std.specs.Prelude.{ℕ, ◌+◌, ◌-◌, min, cond, List, length, drop}
+use Rattle.std.specs.Prelude.{ℕ, ◌+◌, min, cond, List, length, drop}
 use Rattle.rules.specs.Bytes.{bytes, digit}
 use Rattle.rules.specs.Texts.{starts_with, first_in}
 use Rattle.rules.specs.Limits.{max_isotopes}

@@ -1,4 +1,6 @@
 // Isotopes, read from the rest of a line: measured, stored, and spelled anew.
+#![tactic(auto)]
+
 ghost use Rattle.std.specs.Prelude.{◌≡◌};
 ghost use Rattle.put_bytes.specs.Puts.{Put};
 ghost use Rattle.read_isotopes.specs.Isotopes.{isotope_of};

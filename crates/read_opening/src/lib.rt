@@ -1,4 +1,6 @@
 // What a part of an annotation opens with: a sign and a count, a text in braces, a name in brackets.
+#![tactic(auto)]
+
 ghost use Rattle.std.specs.Prelude.{◌≡◌, ◌∷◌, [], ◌+◌, min};
 ghost use Rattle.rules.specs.Bytes.{bytes};
 ghost use Rattle.rules.specs.Texts.{starts_with};

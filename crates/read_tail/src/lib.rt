@@ -1,4 +1,6 @@
 // The parts of an annotation behind its adduct, read from the rest of a line and measured: charge, deviation, confidence.
+#![tactic(auto)]
+
 ghost use Rattle.std.specs.Prelude.{◌≡◌};
 ghost use Rattle.rules.specs.Bytes.{bytes};
 ghost use Rattle.rules.specs.Texts.{starts_with};

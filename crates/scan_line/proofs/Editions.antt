@@ -1,13 +1,13 @@
 -- How bytes that step as the machine of an edition of lines does move: to the same state, or both nowhere. Assumes nothing.
 use Prim.Native.Nat.{ℕ, ◌+◌, ◌-◌, ◌<◌, ◌≤◌, min}
-use mathlib.Core.Path.{◌≡◌, refl, sym, ap, ◌∙◌}
+use mathlib.Core.Path.{◌≡◌, refl, ap}
 use mathlib.Core.Bool.{Bool, true, false, cond, ◌&&◌}
 use mathlib.Core.List.{List}
 use native.Mathlib.Omega.{arith}
 use lib.Dec.{ltb}
 use Rattle.lang.specs.Re.{in_c}
-use Rattle.lang.specs.Scan.{counted, moved}
-use Rattle.lang.proofs.Certify.{step, deep}
+use Rattle.lang.specs.Scan.{moved}
+use Rattle.lang.proofs.Certify.{step}
 use Rattle.lang.proofs.Deep.{move}
 use Rattle.rules.specs.Editions.{LineEdition, first_lines, second_lines}
 use Rattle.rules.specs.Texts.{name_brackets}

@@ -7,7 +7,6 @@ use native.Mathlib.Omega.{arith}
 use lib.Dec.{T, leb, leb→le, le→leb, ltb, ltb→lt, lt→ltb}
 use Rattle.lang.proofs.Deriv.{and_0, and_1, and_i}
 use Rattle.shape.specs.Tables.{deeps, flats}
-use Rattle.scan_line.specs.declared.Stand.{Stand}
 use Rattle.scan_line.specs.Steps.{deep_at, step_by, move_by, stand_of}
 
 module _ (m : List ℕ) (q d b : ℕ) where

@@ -1,5 +1,7 @@
 // The shape of a line, decided by one walk of a table machine. Document 01, "Numbers of refusal", 2 and 3.
 // The machine is made once, by `machine`, and lent to whatever scans by it: a constant would be made anew by each function that names it.
+#![tactic(auto)]
+
 ghost use Rattle.std.specs.Prelude.{◌≡◌, ◌+◌, ◌<◌, ◌≤◌, ◌^◌, length};
 ghost use Rattle.shape.specs.Tables.{states, deeps, flats, size};
 ghost use Rattle.scan_line.specs.Lines.{lines_in};

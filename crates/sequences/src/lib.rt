@@ -1,4 +1,6 @@
 // Sequences: whether a text is one, and how many residues it has. Document 02, M-105.
+#![tactic(auto)]
+
 ghost use Rattle.std.specs.Prelude.{◌<◌, ◌≡◌};
 ghost use Rattle.lang.specs.Re.{in_c};
 ghost use Rattle.rules.specs.Bytes.{capital, name_byte};

@@ -14,7 +14,7 @@ use Rattle.rules.specs.Fields.{filled}
 use Rattle.rules.specs.Stored.{u8, u16, stores, lost_kind, lost_units, lost_name, loss_record, added_kind, added_units, item_record}
 use Rattle.rules.specs.Layout.{loss_section, item_section, text_section}
 use Rattle.store_sections.specs.Pages.{bytes_of}
-use Rattle.read_changes.proofs.Spelled.{What, what_kind, what_size, of_lost, of_loss, loss_text_lem, of_added, of_item, item_text_lem}
+use Rattle.read_changes.proofs.Spelled.{what_kind, what_size, of_lost, of_loss, loss_text_lem, of_added, of_item, item_text_lem}
 use Rattle.read_changes.proofs.Sums.{EndsChanges}
 use Rattle.sort_changes.specs.Events.{change_events}
 use Rattle.sort_changes.proofs.SlotHolds.{what_units, what_key, count_value, change_key, change_record}

@@ -1,4 +1,6 @@
 // Losses, or adduct items, in preferred order: read from the rest of a line into slots, and from the slots stored, or spelled anew.
+#![tactic(auto)]
+
 ghost use Rattle.put_bytes.specs.Puts.{Put};
 ghost use Rattle.store_sections.specs.Pages.{Ran};
 ghost use Rattle.sort_changes.specs.Keys.{key_text};

@@ -1,4 +1,6 @@
 // The losses or adduct items of an annotation, as many as there may be, in preferred order. Document 01, "One table, several spellings".
+#![tactic(auto)]
+
 ghost use Rattle.std.specs.Prelude.{◌≡◌, ◌||◌, cond, [], ◌∷◌, ◌<◌};
 ghost use Rattle.lang.specs.Order.{lex_le};
 ghost use Rattle.rules.specs.Limits.{max_losses};

@@ -1,4 +1,6 @@
 // The page of a stored table: six sections, each with a cursor of its own, and the header that says where they begin.
+#![tactic(auto)]
+
 ghost use Rattle.std.specs.Prelude.{◌≡◌};
 ghost use Rattle.put_bytes.specs.Puts.{Put};
 ghost use Rattle.store_sections.specs.Pages.{at, moved};

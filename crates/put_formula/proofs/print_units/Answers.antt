@@ -4,7 +4,6 @@ use Rattle.put_formula.proofs.UnitLoop.{chain_begins, chain_turn, chain_ends}
 use Rattle.put_formula.specs.Preferred.{preferred_unit}
 use Rattle.put_formula.specs.Records.{stored_unit}
 use mathlib.Core.Path.{ap, ◌∙◌}
-use Prim.Native.Nat.{◌-◌}
 use native.Mathlib.Omega.{arith}
 use Rattle.put_formula.proofs.print_units.Goals as goal
 

@@ -5,7 +5,7 @@ use Rattle.put_formula.specs.Preferred.{kept_unit}
 use Rattle.read_formula.specs.Formulas.{unit_size}
 use lib.ListN.{length, drop}
 use mathlib.Core.Path.{ap, ◌∙◌}
-use Prim.Native.Nat.{ℕ, ◌+◌, ◌-◌, min}
+use Prim.Native.Nat.{ℕ, ◌+◌, min}
 use native.Mathlib.Omega.{arith}
 use Rattle.put_formula.proofs.put_preferred.Goals as goal
 

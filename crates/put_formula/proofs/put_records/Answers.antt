@@ -6,7 +6,7 @@ use Rattle.read_formula.specs.Units.{unit_of}
 use Rattle.read_formula.specs.declared.UnitRead.{UnitRead}
 use lib.ListN.{length}
 use mathlib.Core.Path.{ap, ◌∙◌}
-use Prim.Native.Nat.{◌+◌, ◌-◌, min}
+use Prim.Native.Nat.{◌+◌, min}
 use native.Mathlib.Omega.{arith}
 use Rattle.put_formula.proofs.put_records.Goals as goal
 

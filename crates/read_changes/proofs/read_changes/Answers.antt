@@ -1,6 +1,5 @@
 -- `read_changes::read_changes` meets its contract: in its loop those passed, and those left, make the row. Assumes nothing.
 use mathlib.Core.Path.{refl, sym, ◌∙◌}
-use Prim.Native.Nat.{◌-◌}
 use native.Mathlib.Omega.{arith}
 use Rattle.read_changes.proofs.ChangeLoop.{begin, moves, turn, ends}
 use Rattle.read_changes.proofs.read_changes.Goals as goal

@@ -1,6 +1,5 @@
 -- `read_formula::formula` meets its contract: in its loop the units passed, and those left, make the whole. Assumes nothing.
 use mathlib.Core.Path.{sym, ◌∙◌}
-use Prim.Native.Nat.{◌-◌}
 use native.Mathlib.Omega.{arith}
 use Rattle.read_formula.proofs.UnitLoop.{begin, moves, turn, ends}
 use Rattle.read_formula.proofs.formula.Goals as goal

@@ -1,6 +1,5 @@
 -- `read_isotopes::isotopes` meets its contract: in its loop those passed, and those left, make the row. Assumes nothing.
 use Rattle.read_isotopes.proofs.IsotopeLoops.{begin, moves, counts, counted_all}
-use Prim.Native.Nat.{◌-◌}
 use native.Mathlib.Omega.{arith}
 use mathlib.Core.Path.{sym, ◌∙◌}
 use Rattle.read_isotopes.proofs.isotopes.Goals as goal

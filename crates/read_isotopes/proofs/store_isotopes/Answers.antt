@@ -2,7 +2,6 @@
 use Rattle.read_isotopes.proofs.IsotopeLoops.{moves, puts_none, files, filed_all}
 use Rattle.faults.specs.Faults.{fault}
 use Rattle.put_bytes.proofs.Putting.{put_length}
-use Prim.Native.Nat.{◌-◌}
 use native.Mathlib.Omega.{arith}
 use mathlib.Core.Path.{sym, ◌∙◌}
 use Rattle.read_isotopes.proofs.store_isotopes.Goals as goal

@@ -1,5 +1,4 @@
 -- `sequences::read_sequence` meets its contract: the loop is the walk, byte by byte. Assumes nothing.
-use Prim.Native.Nat.{◌-◌}
 use mathlib.Core.Path.{refl}
 use native.Mathlib.Omega.{arith}
 use Rattle.sequences.proofs.Walks.{begin, turn, left_open, ends}

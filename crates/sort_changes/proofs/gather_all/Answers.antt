@@ -2,7 +2,6 @@
 use Rattle.sort_changes.proofs.Gathers.{begin, same_long, moves, turn, ends}
 use native.Mathlib.Omega.{arith}
 use mathlib.Core.Path.{sym, ◌∙◌}
-use Prim.Native.Nat.{◌-◌}
 use Rattle.sort_changes.proofs.gather_all.Goals as goal
 
 pub none-empty-requires : goal.none-empty-requires

@@ -1,7 +1,6 @@
 -- `sort_changes::put_slots` meets its contract: in its loop the slots left to store make the whole, eight at most. Assumes nothing.
 use native.Mathlib.Omega.{arith}
 use borrow.Author.Rules.{rules}
-use Prim.Native.Nat.{◌-◌}
 use Rattle.sort_changes.proofs.Steps.{slots_begin, slots_turn, slots_all, slots_full}
 use Rattle.sort_changes.proofs.put_slots.Goals as goal
 

@@ -1,7 +1,6 @@
 -- `sort_changes::spell_slots` meets its contract. Assumes nothing.
 use native.Mathlib.Omega.{arith}
 use borrow.Author.Rules.{rules}
-use Prim.Native.Nat.{◌-◌}
 use Rattle.sort_changes.proofs.Spells.{spelling_begin, spelling_turn, spelling_all, spelling_full}
 use Rattle.sort_changes.proofs.spell_slots.Goals as goal
 

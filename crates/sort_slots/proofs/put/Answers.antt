@@ -1,7 +1,6 @@
 -- `sort_slots::put` meets its contract: in its loop the places done, and the slot carried on, make the insertion. Assumes nothing.
 use Rattle.sort_slots.proofs.OneWalk.{begin, turn, finish}
 use native.Mathlib.Omega.{arith}
-use Prim.Native.Nat.{◌-◌}
 use Rattle.sort_slots.proofs.put.Goals as goal
 
 pub loop-i-init : goal.loop-i-init

@@ -1,6 +1,5 @@
 -- `sort_slots::texts_before` meets its contract: in its loop the bytes passed are alike, so those left decide. Assumes nothing.
 use Rattle.sort_slots.proofs.Compare.{level, differ, step, shorter, alike}
-use Prim.Native.Nat.{◌-◌}
 use Rattle.sort_slots.proofs.texts_before.Goals as goal
 
 pub loop-i-init : goal.loop-i-init

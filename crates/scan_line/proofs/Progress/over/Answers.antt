@@ -1,6 +1,5 @@
 -- `scan_line::Progress::over` meets its contract: the loop is the walk. Assumes nothing.
 use Rattle.scan_line.proofs.Walks.{stays_few, stays_dead, stays_deep, stays_full, begin, stopped, turn, ends}
-use Prim.Native.Nat.{◌-◌}
 use native.Mathlib.Omega.{arith}
 use Rattle.scan_line.proofs.Progress.over.Goals as goal
 
