@@ -48,8 +48,8 @@ convert_row_back {room = room} (ConvertsRow.held r h x m) e = moved_back r h roo
 
 -- ---- an output that is never too short: two bytes more for each annotation
 
-moved_enough : {bytes : List ℕ} (r : Row) (h : HoldsRow ed1 bytes r) (room : ℕ) {b a : Answer} → ReadsForm current (preferred_spelling r.table) (room - row_head_size) b
-    → length bytes + (max_annotations + max_annotations) ≤ room → {at : ℕ} → Moves (stores (row_head r.mz r.intensity)) at room b a → a.number ≡ 8 → ⊥
+moved_enough : {bytes : List ℕ} (r : Row) (h : HoldsRow ed1 bytes r) (room : ℕ) {b : Answer} → ReadsForm current (preferred_spelling r.table) (room - row_head_size) b
+    → length bytes + (max_annotations + max_annotations) ≤ room → {at : ℕ} {a : Answer} → Moves (stores (row_head r.mz r.intensity)) at room b a → a.number ≡ 8 → ⊥
 moved_enough r h room x g (done e) n = omega arith
 moved_enough r h room x g (no_room e) n =
     let l = length-append (stores (row_head r.mz r.intensity)) h.rest in

@@ -14,9 +14,10 @@ use Rattle.lang.specs.Order.{Each, none}
 use Rattle.rules.specs.Decimals.{Decimal, decimal_text}
 use Rattle.rules.specs.Fields.{Table, Says}
 use Rattle.rules.specs.Limits.{fits, max_line, max_annotations}
-use Rattle.rules.specs.Preferred.{preferred}
+use Rattle.rules.specs.Lines.{within}
+use Rattle.rules.specs.Preferred.{preferred, preferred_spelling}
 use Rattle.rules.specs.Stored.{stores, stored}
-use Rattle.rules.specs.Answers.{Answer, refuses, gives, no_room, done, Reads, Writes}
+use Rattle.rules.specs.Answers.{Answer, refuses, gives, Delivers, no_room, done, Reads, Writes}
 use Rattle.rules.specs.Largest.{max_table}
 use Rattle.rules.specs.Editions.{LineEdition, current}
 use Rattle.rules.specs.Rows.{tab, third_text, Row, preferred_third, preferred_row, row_head_size, row_head}
@@ -43,10 +44,13 @@ relabels_row_one {l} {room = room} (relabelled x n w) (relabelled {b = b} y m v)
 
 -- ---- room for the stored row
 
+moved_enough : {l : LineEdition} {head third : List ℕ} {at room : ℕ} {b a : Answer} → Reads l third (room - row_head_size) b → Moves head at room b a → max_stored_row ≤ room → a.number ≡ 8 → ⊥
+moved_enough r (Moves.done e) h n = omega arith
+moved_enough {third = third} r (Moves.no_room e) h n = read_enough third r (omega arith) e
+moved_enough r (Moves.refused d e) h n = e n
+
 third_enough : {l : LineEdition} {mz intensity : Decimal} {third : List ℕ} {at room : ℕ} {a : Answer} → ReadsThird l mz intensity third at room a → max_stored_row ≤ room → a.number ≡ 8 → ⊥
-third_enough (line r (Moves.done e)) h n = omega arith
-third_enough {third = third} (line r (Moves.no_room e)) h n = read_enough third r (omega arith) e
-third_enough (line r (Moves.refused d e)) h n = e n
+third_enough (line r m) h n = moved_enough r m h n
 
 intensity_enough : {l : LineEdition} {mz : Decimal} {bytes : List ℕ} {at room : ℕ} {a : Answer} → ReadsIntensity l mz bytes at room a → max_stored_row ≤ room → a.number ≡ 8 → ⊥
 intensity_enough (ReadsIntensity.bad x n) h e = omega arith
@@ -95,11 +99,11 @@ module _ (mz d : Decimal) (f : T (fits mz)) (g : T (fits d)) (row : List ℕ) wh
   abbrev meant : Table → Row
   meant t = record { mz = mz; intensity = d; table = t }
 
-  near_third : {l : LineEdition} {third : List ℕ} {at : ℕ} {a : Answer} → ReadsThird l mz d third at max_stored_row a → a.number ≡ 0
+  near_moved : {l : LineEdition} {third : List ℕ} {at : ℕ} {b a : Answer} → Reads l third (max_stored_row - row_head_size) b → Moves (stores (row_head mz d)) at max_stored_row b a → a.number ≡ 0
       → ((t : Table) → (third ≡ [] → t ≡ []) → (length (preferred t) ≤ max_line → length (preferred t) ≤ length third + max_annotations)
       → length (preferred t) ≤ max_line → length (preferred_row (meant t)) ≤ length row + max_annotations)
       → ReadNear row (take a.size a.out)
-  near_third {third} (line {b = b} r (Moves.done e)) n h =
+  near_moved {third} {b = b} r (Moves.done e) n h =
       let x = reads_table third max_table r e in
       let head = stores (row_head mz d) in
       let q : take (row_head_size + b.size) (head ++ b.out) ≡ head ++ stored current x.table =
@@ -109,8 +113,14 @@ module _ (mz d : Decimal) (f : T (fits mz)) (g : T (fits d)) (row : List ℕ) wh
         holds = record { mz = f; intensity = g; rest = stored current x.table; table = record { sound = x.sound; is = refl }; is = sym q };
         near = h x.table (λ z. said_nothing (no_annotations (x.text ∙ z) x.says)) (line_near third r e x);
       }
-  near_third (line r (Moves.no_room e)) n h = absurd (omega arith)
-  near_third (line r (Moves.refused e q)) n h = absurd (e n)
+  near_moved r (Moves.no_room e) n h = absurd (omega arith)
+  near_moved r (Moves.refused e q) n h = absurd (e n)
+
+  near_third : {l : LineEdition} {third : List ℕ} {at : ℕ} {a : Answer} → ReadsThird l mz d third at max_stored_row a → a.number ≡ 0
+      → ((t : Table) → (third ≡ [] → t ≡ []) → (length (preferred t) ≤ max_line → length (preferred t) ≤ length third + max_annotations)
+      → length (preferred t) ≤ max_line → length (preferred_row (meant t)) ≤ length row + max_annotations)
+      → ReadNear row (take a.size a.out)
+  near_third (line r m) n h = near_moved r m n h
 
   -- with a third column, and without
   near_tab : (third : List ℕ) → v ++ (tab ++ (w ++ (tab ++ third))) ≡ row → (t : Table) → length (preferred t) ≤ length third + max_annotations
@@ -163,25 +173,32 @@ relabel_row_enough {row = row} {room = room} (relabelled r n (WritesRow.fits u h
 
 -- ---- given again
 
+fits_again : {l : LineEdition} {bytes : List ℕ} {room room' : ℕ} (r : Row) → HoldsRow current bytes r → T (within l (preferred_spelling r.table)) → length (preferred r.table) ≤ max_line
+    → {a : Answer} → Delivers room (preferred_row r) a → a.number ≡ 0 → a.size ≤ room' → WritesRow l bytes room' (gives room' (take a.size a.out))
+fits_again r h i g (no_room d) e n = absurd (omega arith)
+fits_again {l} {bytes} {room} {room'} r h i g (done d) e n =
+    subst (λ (w : List ℕ). WritesRow l bytes room' (gives room' w)) (sym (take_given room (preferred_row r))) (WritesRow.fits r h i g (done n))
+
 writes_again : {l : LineEdition} {bytes : List ℕ} {room room' : ℕ} {a : Answer} → WritesRow l bytes room a → a.number ≡ 0 → a.size ≤ room'
     → WritesRow l bytes room' (gives room' (take a.size a.out))
 writes_again (WritesRow.no_row n) e l = absurd (omega arith)
 writes_again (WritesRow.old r h o) e l = absurd (omega arith)
 writes_again (WritesRow.lettered r h i) e n = absurd (omega arith)
 writes_again (WritesRow.long r h i g) e n = absurd (omega arith)
-writes_again (WritesRow.fits r h i g (no_room d)) e n = absurd (omega arith)
-writes_again {l} {bytes} {room} {room'} (WritesRow.fits r h i g (done d)) e n =
-    subst (λ (w : List ℕ). WritesRow l bytes room' (gives room' w)) (sym (take_given room (preferred_row r))) (WritesRow.fits r h i g (done n))
+writes_again (WritesRow.fits r h i g d) e n = fits_again r h i g d e n
 
 -- what was read has no more bytes than the output
-third_inside : {l : LineEdition} {mz intensity : Decimal} {third : List ℕ} {at room : ℕ} {a : Answer} → ReadsThird l mz intensity third at room a → a.number ≡ 0 → a.size ≤ room
-third_inside (line r (Moves.done e)) n =
+moved_inside : {l : LineEdition} {head third : List ℕ} {at room : ℕ} {b a : Answer} → Reads l third (room - row_head_size) b → Moves head at room b a → a.number ≡ 0 → a.size ≤ room
+moved_inside r (Moves.done e) n =
     let f = reads_fill r e in
     let x = f.some in
     let y = f.inside in
     omega arith
-third_inside (line r (Moves.no_room e)) n = absurd (omega arith)
-third_inside (line r (Moves.refused d e)) n = absurd (d n)
+moved_inside r (Moves.no_room e) n = absurd (omega arith)
+moved_inside r (Moves.refused d e) n = absurd (d n)
+
+third_inside : {l : LineEdition} {mz intensity : Decimal} {third : List ℕ} {at room : ℕ} {a : Answer} → ReadsThird l mz intensity third at room a → a.number ≡ 0 → a.size ≤ room
+third_inside (line r m) n = moved_inside r m n
 
 intensity_inside : {l : LineEdition} {mz : Decimal} {bytes : List ℕ} {at room : ℕ} {a : Answer} → ReadsIntensity l mz bytes at room a → a.number ≡ 0 → a.size ≤ room
 intensity_inside (ReadsIntensity.bad x n) e = absurd (omega arith)

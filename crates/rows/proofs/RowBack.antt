@@ -13,7 +13,7 @@ use Rattle.rules.specs.Limits.{fits, max_line}
 use Rattle.rules.specs.Fields.{Table, Says}
 use Rattle.rules.specs.Preferred.{preferred, preferred_spelling}
 use Rattle.rules.specs.Stored.{stores, stored}
-use Rattle.rules.specs.Answers.{Answer, gives, Delivers, no_room, done, Sound}
+use Rattle.rules.specs.Answers.{Reads, Answer, gives, Delivers, no_room, done, Sound}
 use Rattle.rules.specs.Rows.{tab, third_text, Row, SpellsRow, preferred_third, preferred_row, row_head_size, row_head, stored_row}
 use Rattle.rules.specs.RowAnswers.{max_row, lacks, at_tab, no_tab, Moves, ReadsThird, line, ReadsIntensity, ReadsRow, HoldsRow, WritesRow}
 use Rattle.rules.specs.Editions.{LineEdition, current}
@@ -129,10 +129,11 @@ pub no_annotations : {s : Spelling} {t : Table} → line_text s ≡ [] → Each 
 no_annotations {s} {t} e x = subst (λ (u : Spelling). Each Says u t) (one_spelling s [] e) x
 
 module _ {row : List ℕ} (mz intensity : Decimal) where
-  read_third : {l : LineEdition} {third : List ℕ} {at room : ℕ} {a : Answer} → ReadsThird l mz intensity third at room a → a.number ≡ 0
+  -- by what became of the line's answer
+  moved_third : {l : LineEdition} {third : List ℕ} {at room : ℕ} {b a : Answer} → Reads l third (room - row_head_size) b → Moves (stores (row_head mz intensity)) at room b a → a.number ≡ 0
       → ((s : Spelling) → line_text s ≡ third → T (within l s) → (t : Table) → Each Says s t → SpellsRow l (record { mz = mz; intensity = intensity; table = t }) row)
       → ReadRow l row room a
-  read_third {third} {room = room} (line r (Moves.done e)) n h =
+  moved_third {third} {room = room} r (Moves.done e) n h =
       let y = reads_table third (room - row_head_size) r e in
       let t = y.table in
       let head = stores (row_head mz intensity) in
@@ -143,8 +144,13 @@ module _ {row : List ℕ} (mz intensity : Decimal) where
             ap (λ (b : Answer). record { number = 0; place = 0; size = row_head_size + b.size; out = head ++ b.out }) y.is
             ∙ headed head (stored current t) room refl;
       }
-  read_third (line r (Moves.no_room e)) n h = absurd (omega arith)
-  read_third (line r (Moves.refused e f)) n h = absurd (e n)
+  moved_third r (Moves.no_room e) n h = absurd (omega arith)
+  moved_third r (Moves.refused e f) n h = absurd (e n)
+
+  read_third : {l : LineEdition} {third : List ℕ} {at room : ℕ} {a : Answer} → ReadsThird l mz intensity third at room a → a.number ≡ 0
+      → ((s : Spelling) → line_text s ≡ third → T (within l s) → (t : Table) → Each Says s t → SpellsRow l (record { mz = mz; intensity = intensity; table = t }) row)
+      → ReadRow l row room a
+  read_third (line r m) n h = moved_third r m n h
 
   -- a third column that is there, or is not
   with_third : {l : LineEdition} {third : List ℕ} → decimal_text mz ++ (tab ++ (decimal_text intensity ++ (tab ++ third))) ≡ row → (s : Spelling) → line_text s ≡ third → T (within l s) → (t : Table)

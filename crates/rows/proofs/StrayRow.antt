@@ -50,11 +50,11 @@ record StrayIn (l : LineEdition) (row : List ℕ) (place : ℕ) : Type 0 where
   two : answer.number ≡ 2
   at : place ≡ begin mz intensity + answer.place
 
-stray_third : {l : LineEdition} {row third : List ℕ} {room : ℕ} {a : Answer} (mz intensity : Decimal) → T (fits mz) → T (fits intensity)
-    → columns mz intensity ++ third ≡ row → ReadsThird l mz intensity third (begin mz intensity) room a → a.number ≡ 2 → StrayIn l row a.place
-stray_third mz intensity f g q (line r (Moves.done e)) n = absurd (omega arith)
-stray_third mz intensity f g q (line r (Moves.no_room e)) n = absurd (omega arith)
-stray_third {third = third} {room = room} mz intensity f g q (line {b = b} r (Moves.refused d e)) n =
+stray_moved : {l : LineEdition} {row third head : List ℕ} {room : ℕ} (mz intensity : Decimal) → T (fits mz) → T (fits intensity)
+    → columns mz intensity ++ third ≡ row → {b a : Answer} → Reads l third (room - row_head_size) b → Moves head (begin mz intensity) room b a → a.number ≡ 2 → StrayIn l row a.place
+stray_moved mz intensity f g q r (Moves.done e) n = absurd (omega arith)
+stray_moved mz intensity f g q r (Moves.no_room e) n = absurd (omega arith)
+stray_moved {third = third} {room = room} mz intensity f g q {b = b} r (Moves.refused d e) n =
     record {
       mz = mz;
       intensity = intensity;
@@ -69,16 +69,23 @@ stray_third {third = third} {room = room} mz intensity f g q (line {b = b} r (Mo
       at = refl;
     }
 
--- without a third column no byte is stray
-none_stray : {l : LineEdition} {mz intensity : Decimal} {at room : ℕ} {a : Answer} → ReadsThird l mz intensity [] at room a → a.number ≡ 2 → ⊥
-none_stray (line r (Moves.done e)) n = omega arith
-none_stray (line r (Moves.no_room e)) n = omega arith
-none_stray (line r (Moves.refused d e)) n = omega (arith, (two_is_stray r n).inside)
+stray_third : {l : LineEdition} {row third : List ℕ} {room : ℕ} {a : Answer} (mz intensity : Decimal) → T (fits mz) → T (fits intensity)
+    → columns mz intensity ++ third ≡ row → ReadsThird l mz intensity third (begin mz intensity) room a → a.number ≡ 2 → StrayIn l row a.place
+stray_third mz intensity f g q (line r m) n = stray_moved mz intensity f g q r m n
 
-stray_intensity : {l : LineEdition} {row bytes : List ℕ} {room : ℕ} {a : Answer} (mz : Decimal) → T (fits mz) → decimal_text mz ++ (tab ++ bytes) ≡ row
-    → ReadsIntensity l mz bytes (length (decimal_text mz) + 1) room a → a.number ≡ 2 → StrayIn l row a.place
+-- without a third column no byte is stray
+none_moved : {l : LineEdition} {head : List ℕ} {at room : ℕ} {b a : Answer} → Reads l [] (room - row_head_size) b → Moves head at room b a → a.number ≡ 2 → ⊥
+none_moved r (Moves.done e) n = omega arith
+none_moved r (Moves.no_room e) n = omega arith
+none_moved r (Moves.refused d e) n = omega (arith, (two_is_stray r n).inside)
+
+none_stray : {l : LineEdition} {mz intensity : Decimal} {at room : ℕ} {a : Answer} → ReadsThird l mz intensity [] at room a → a.number ≡ 2 → ⊥
+none_stray (line r m) n = none_moved r m n
+
+stray_intensity : {l : LineEdition} {row bytes : List ℕ} {room : ℕ} (mz : Decimal) → T (fits mz) → decimal_text mz ++ (tab ++ bytes) ≡ row
+    → {a : Answer} → ReadsIntensity l mz bytes (length (decimal_text mz) + 1) room a → a.number ≡ 2 → StrayIn l row a.place
 stray_intensity mz f q (ReadsIntensity.bad x n) e = absurd (omega arith)
-stray_intensity {l} {room = room} {a = a} mz f q (ReadsIntensity.good (at_tab column third n p) {intensity = d} g r) e =
+stray_intensity {l} {room = room} mz f q {a = a} (ReadsIntensity.good (at_tab column third n p) {intensity = d} g r) e =
     let w = decimal_text d in
     let z = columns_then mz d third ∙ ap (λ (x : List ℕ). decimal_text mz ++ (tab ++ x)) (ap (λ (x : List ℕ). x ++ (tab ++ third)) g.text ∙ p) ∙ q in
     stray_third mz d f g.bounds z
