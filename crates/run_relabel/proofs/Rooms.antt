@@ -9,7 +9,7 @@ use Rattle.rules.specs.Limits.{max_line, max_annotations}
 use Rattle.rules.specs.Editions.{LineEdition}
 use Rattle.rules.specs.Answers.{Answer, refuses, gives, Delivers, no_room, done, Writes}
 use Rattle.rules.specs.RowAnswers.{max_row, WritesRow}
-use Rattle.lines.specs.Relabels.{Relabels, refused, relabelled}
+use Rattle.lines.specs.Relabels.{refused, relabelled}
 use Rattle.lines.proofs.Back.{relabel_enough}
 use Rattle.rows.specs.Relabels.{RelabelsRow}
 use Rattle.rows.proofs.RelabelBack.{relabel_row_enough}
