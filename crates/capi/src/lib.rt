@@ -1,5 +1,5 @@
 // The calls from C. Document 02, M-108 and M-113: lines are those of the first edition, and by a lent machine those of the edition that it was
-// prepared for. A slice is handed over from C as a pointer and a length; include/mzpaf.h says the same to a C programmer.
+// prepared for. The crate capi_c hands them to C; include/mzpaf.h says the same to a C programmer.
 ghost use Rattle.std.specs.Prelude.{◌≡◌, length};
 ghost use Rattle.rules.specs.Answers.{Reads, Writes, Converts};
 ghost use Rattle.rules.specs.RowAnswers.{ReadsRow, WritesRow, ConvertsRow};
@@ -33,8 +33,7 @@ use write_table::{convert_by, write_by};
 // ---- lines and tables
 
 // The table that a line spells.
-#[unsafe(no_mangle)]
-pub extern "C" fn mzpaf_read(line: &[u8], out: &mut [u8], answer: &mut [u8]) -> u16
+pub fn mzpaf_read(line: &[u8], out: &mut [u8], answer: &mut [u8]) -> u16
     ensures { Hands (Reads first_lines line.now (length out.old)) (length out.old) (length answer.old) (handed result out.new answer.new) }
 {
     let a = read(line, out);
@@ -42,8 +41,7 @@ pub extern "C" fn mzpaf_read(line: &[u8], out: &mut [u8], answer: &mut [u8]) -> 
 }
 
 // The preferred line of a stored table.
-#[unsafe(no_mangle)]
-pub extern "C" fn mzpaf_write(table: &[u8], out: &mut [u8], answer: &mut [u8]) -> u16
+pub fn mzpaf_write(table: &[u8], out: &mut [u8], answer: &mut [u8]) -> u16
     ensures { Hands (Writes first_lines table.now (length out.old)) (length out.old) (length answer.old) (handed result out.new answer.new) }
 {
     let a = write(table, out);
@@ -51,8 +49,7 @@ pub extern "C" fn mzpaf_write(table: &[u8], out: &mut [u8], answer: &mut [u8]) -
 }
 
 // The table of edition 2 of the line that a stored table of edition 1 has. Document 02, M-112.
-#[unsafe(no_mangle)]
-pub extern "C" fn mzpaf_convert(table: &[u8], out: &mut [u8], answer: &mut [u8]) -> u16
+pub fn mzpaf_convert(table: &[u8], out: &mut [u8], answer: &mut [u8]) -> u16
     ensures { Hands (Converts table.now (length out.old)) (length out.old) (length answer.old) (handed result out.new answer.new) }
 {
     let a = convert(table, out);
@@ -60,8 +57,7 @@ pub extern "C" fn mzpaf_convert(table: &[u8], out: &mut [u8], answer: &mut [u8])
 }
 
 // The preferred spelling of a line.
-#[unsafe(no_mangle)]
-pub extern "C" fn mzpaf_relabel(line: &[u8], out: &mut [u8], answer: &mut [u8]) -> u16
+pub fn mzpaf_relabel(line: &[u8], out: &mut [u8], answer: &mut [u8]) -> u16
     ensures { Hands (Relabels first_lines line.now (length out.old)) (length out.old) (length answer.old) (handed result out.new answer.new) }
 {
     let a = relabel_line(line, out);
@@ -71,8 +67,7 @@ pub extern "C" fn mzpaf_relabel(line: &[u8], out: &mut [u8], answer: &mut [u8]) 
 // ---- rows of a peak list
 
 // The stored row that a row spells.
-#[unsafe(no_mangle)]
-pub extern "C" fn mzpaf_read_row(row: &[u8], out: &mut [u8], answer: &mut [u8]) -> u16
+pub fn mzpaf_read_row(row: &[u8], out: &mut [u8], answer: &mut [u8]) -> u16
     ensures { Hands (ReadsRow first_lines row.now (length out.old)) (length out.old) (length answer.old) (handed result out.new answer.new) }
 {
     let a = read_row(row, out);
@@ -80,8 +75,7 @@ pub extern "C" fn mzpaf_read_row(row: &[u8], out: &mut [u8], answer: &mut [u8]) 
 }
 
 // The preferred row of a stored row.
-#[unsafe(no_mangle)]
-pub extern "C" fn mzpaf_write_row(stored: &[u8], out: &mut [u8], answer: &mut [u8]) -> u16
+pub fn mzpaf_write_row(stored: &[u8], out: &mut [u8], answer: &mut [u8]) -> u16
     ensures { Hands (WritesRow first_lines stored.now (length out.old)) (length out.old) (length answer.old) (handed result out.new answer.new) }
 {
     let a = write_row(stored, out);
@@ -89,8 +83,7 @@ pub extern "C" fn mzpaf_write_row(stored: &[u8], out: &mut [u8], answer: &mut [u
 }
 
 // The stored row whose table is of edition 2, of a stored row whose table is of edition 1.
-#[unsafe(no_mangle)]
-pub extern "C" fn mzpaf_convert_row(stored: &[u8], out: &mut [u8], answer: &mut [u8]) -> u16
+pub fn mzpaf_convert_row(stored: &[u8], out: &mut [u8], answer: &mut [u8]) -> u16
     ensures { Hands (ConvertsRow stored.now (length out.old)) (length out.old) (length answer.old) (handed result out.new answer.new) }
 {
     let a = convert_row(stored, out);
@@ -98,8 +91,7 @@ pub extern "C" fn mzpaf_convert_row(stored: &[u8], out: &mut [u8], answer: &mut 
 }
 
 // The preferred spelling of a row.
-#[unsafe(no_mangle)]
-pub extern "C" fn mzpaf_relabel_row(row: &[u8], out: &mut [u8], answer: &mut [u8]) -> u16
+pub fn mzpaf_relabel_row(row: &[u8], out: &mut [u8], answer: &mut [u8]) -> u16
     ensures { Hands (RelabelsRow first_lines row.now (length out.old)) (length out.old) (length answer.old) (handed result out.new answer.new) }
 {
     let a = relabel_row(row, out);
@@ -109,8 +101,7 @@ pub extern "C" fn mzpaf_relabel_row(row: &[u8], out: &mut [u8], answer: &mut [u8
 // ---- by a lent machine: whoever has many lines, or lines of the second edition, prepares it once
 
 // The machine of an edition of lines, 1 or 2, put into a buffer. Any other number is 9; then 8 where the buffer is too short. Document 02, M-113.
-#[unsafe(no_mangle)]
-pub extern "C" fn mzpaf_prepare(lines: u16, machine: &mut [u8]) -> u16
+pub fn mzpaf_prepare(lines: u16, machine: &mut [u8]) -> u16
     ensures { prepared result machine.new ≡ prepared_of lines (length machine.old) }
 {
     if lines == 1 {
@@ -136,86 +127,49 @@ fn put_machine(lines: Lines, machine: &mut [u8]) -> u16
     0
 }
 
-#[unsafe(no_mangle)]
-pub extern "C" fn mzpaf_read_with(
-    machine: &[u8],
-    line: &[u8],
-    out: &mut [u8],
-    answer: &mut [u8],
-) -> u16
+pub fn mzpaf_read_with(machine: &[u8], line: &[u8], out: &mut [u8], answer: &mut [u8]) -> u16
     ensures { handed result out.new answer.new ≡ handed_of (length out.old) (read_of (scanned_by machine.now line.now) line.now (length out.old)) (length answer.old) }
 {
     let a = read_by(machine, line, out);
     hand_over(a, out, answer)
 }
 
-#[unsafe(no_mangle)]
-pub extern "C" fn mzpaf_write_with(
-    machine: &[u8],
-    table: &[u8],
-    out: &mut [u8],
-    answer: &mut [u8],
-) -> u16
+pub fn mzpaf_write_with(machine: &[u8], table: &[u8], out: &mut [u8], answer: &mut [u8]) -> u16
     ensures { handed result out.new answer.new ≡ handed_of (length out.old) (written_of machine.now table.now (length out.old)) (length answer.old) }
 {
     let a = write_by(machine, table, out);
     hand_over(a, out, answer)
 }
 
-#[unsafe(no_mangle)]
-pub extern "C" fn mzpaf_convert_with(
-    machine: &[u8],
-    table: &[u8],
-    out: &mut [u8],
-    answer: &mut [u8],
-) -> u16
+pub fn mzpaf_convert_with(machine: &[u8], table: &[u8], out: &mut [u8], answer: &mut [u8]) -> u16
     ensures { handed result out.new answer.new ≡ handed_of (length out.old) (converted_of machine.now table.now (length out.old)) (length answer.old) }
 {
     let a = convert_by(machine, table, out);
     hand_over(a, out, answer)
 }
 
-#[unsafe(no_mangle)]
-pub extern "C" fn mzpaf_relabel_with(
-    machine: &[u8],
-    line: &[u8],
-    out: &mut [u8],
-    answer: &mut [u8],
-) -> u16
+pub fn mzpaf_relabel_with(machine: &[u8], line: &[u8], out: &mut [u8], answer: &mut [u8]) -> u16
     ensures { handed result out.new answer.new ≡ handed_of (length out.old) (relabelled_of (scanned_by machine.now line.now) line.now (length out.old)) (length answer.old) }
 {
     let a = relabel_by(machine, line, out);
     hand_over(a, out, answer)
 }
 
-#[unsafe(no_mangle)]
-pub extern "C" fn mzpaf_read_row_with(
-    machine: &[u8],
-    row: &[u8],
-    out: &mut [u8],
-    answer: &mut [u8],
-) -> u16
+pub fn mzpaf_read_row_with(machine: &[u8], row: &[u8], out: &mut [u8], answer: &mut [u8]) -> u16
     ensures { handed result out.new answer.new ≡ handed_of (length out.old) (read_row_of machine.now row.now (length out.old)) (length answer.old) }
 {
     let a = read_row_by(machine, row, out);
     hand_over(a, out, answer)
 }
 
-#[unsafe(no_mangle)]
-pub extern "C" fn mzpaf_write_row_with(
-    machine: &[u8],
-    stored: &[u8],
-    out: &mut [u8],
-    answer: &mut [u8],
-) -> u16
+pub fn mzpaf_write_row_with(machine: &[u8], stored: &[u8], out: &mut [u8], answer: &mut [u8]) -> u16
     ensures { handed result out.new answer.new ≡ handed_of (length out.old) (write_row_of machine.now stored.now (length out.old)) (length answer.old) }
 {
     let a = write_row_by(machine, stored, out);
     hand_over(a, out, answer)
 }
 
-#[unsafe(no_mangle)]
-pub extern "C" fn mzpaf_convert_row_with(
+pub fn mzpaf_convert_row_with(
     machine: &[u8],
     stored: &[u8],
     out: &mut [u8],
@@ -227,13 +181,7 @@ pub extern "C" fn mzpaf_convert_row_with(
     hand_over(a, out, answer)
 }
 
-#[unsafe(no_mangle)]
-pub extern "C" fn mzpaf_relabel_row_with(
-    machine: &[u8],
-    row: &[u8],
-    out: &mut [u8],
-    answer: &mut [u8],
-) -> u16
+pub fn mzpaf_relabel_row_with(machine: &[u8], row: &[u8], out: &mut [u8], answer: &mut [u8]) -> u16
     ensures { handed result out.new answer.new ≡ handed_of (length out.old) (relabelled_row_of machine.now row.now (length out.old)) (length answer.old) }
 {
     let a = relabel_row_by(machine, row, out);

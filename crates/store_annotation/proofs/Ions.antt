@@ -5,7 +5,6 @@ use mathlib.Core.List.{List, ◌∷◌, ◌++◌, append-nil}
 use lib.ListN.{length, drop}
 use Rattle.lang.specs.Parts.{items, flat}
 use Rattle.lang.specs.Mark.{Kept, here, later, marks_of}
-use Rattle.rules.specs.Formulas.{Written}
 use Rattle.rules.specs.Ions.{series, internal, immonium, precursor, reference, named, composed, smiles, unknown, ion_text, ion_map, SpelledIon}
 use Rattle.rules.specs.Fields.{filled, filled_cut}
 use Rattle.rules.specs.Limits.{max_position, opt_part, number_part, formula_part, ion_parts}

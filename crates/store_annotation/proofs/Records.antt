@@ -6,7 +6,6 @@ use lib.ListN.{length}
 use Rattle.lang.specs.Mark.{Kept, here, later, marks_of}
 use Rattle.rules.specs.Numbers.{Number}
 use Rattle.rules.specs.Ions.{ion_text, ion_map, series, internal, immonium, precursor, reference, named, composed, smiles, unknown, SpelledIon}
-use Rattle.rules.specs.Formulas.{Written}
 use Rattle.rules.specs.Losses.{Loss}
 use Rattle.rules.specs.Isotopes.{isotopes_map}
 use Rattle.rules.specs.Adducts.{Item}

@@ -1,4 +1,6 @@
 // One annotation, of which the parts were read, stored at six cursors. Its limits were measured before: what its readers tell of them is not looked at.
+#![tactic(auto)]
+
 ghost use Rattle.std.specs.Prelude.{◌≡◌};
 ghost use Rattle.rules.specs.Editions.{ed2};
 ghost use Rattle.put_bytes.specs.Puts.{Put};
