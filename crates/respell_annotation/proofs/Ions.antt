@@ -13,7 +13,7 @@ use Rattle.lang.specs.Mark.{Kept, here, later, marks_of}
 use Rattle.rules.specs.Bytes.{bytes}
 use Rattle.rules.specs.Texts.{braced_text}
 use Rattle.rules.specs.Numbers.{number_text}
-use Rattle.rules.specs.Formulas.{Written, unit_text, unit_map}
+use Rattle.rules.specs.Formulas.{unit_text, unit_map}
 use Rattle.rules.specs.Ions.{cleavage_names, series, internal, immonium, precursor, reference, named, composed, smiles, unknown, ion_text, ion_map, SpelledIon}
 use Rattle.rules.specs.Fields.{filled, filled_cut}
 use Rattle.rules.specs.Preferred.{shortened, shortened_cut}

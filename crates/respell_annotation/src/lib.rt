@@ -1,5 +1,7 @@
 // An annotation in preferred spelling, from the bytes of a line and what was read of them: losses and adduct items are put in order, a 1
 // and a yb that may be left out are, a confidence gets the 0 before its point, and all else stays as it is. Document 01, "One table, several spellings".
+#![tactic(auto)]
+
 ghost use Rattle.std.specs.Prelude.{◌≡◌};
 ghost use Rattle.put_bytes.specs.Puts.{Put};
 ghost use Rattle.respell_annotation.specs.Kept.{has_one, is_kept};

@@ -1,5 +1,4 @@
 -- `respell_annotation::has_one` meets its contract: what is left to look at decides. Assumes nothing.
-use Prim.Native.Nat.{◌-◌}
 use mathlib.Core.Path.{refl}
 use borrow.Author.Rules.{rules}
 use Rattle.respell_annotation.proofs.Steps.{one_found, one_on, one_none}
