@@ -6,7 +6,7 @@ It knows the forms that stand there and no others; where it meets another it say
     NAME PARAMETERS = EXPRESSION    one clause; lines behind it that are indented go on with it
 
 An expression is a name with its arguments, `"a" to "z"`, a list `x ∷ y ∷ []`, a text in quotes, or one of them in parentheses. The words of lang that grammars are
-written in (`seq`, `litRe`, ..) are said once more below, under WORDS. Of the files of rules only the definitions that the grammar names are looked at.
+written in (`seq`, `lit_re`, ..) are said once more below, under WORDS. Of the files of rules only the definitions that the grammar names are looked at.
 
 A grammar is given as ('eps',), ('cls', ranges), ('seq', r, s), ('alt', r, s), ('star', r) or ('nest', brackets, depth); the ranges are pairs of numbers,
 and brackets are ('brackets', plain, opens, closes), three classes.
@@ -27,7 +27,7 @@ def stop(where, why):
 # ---- the words that grammars are written in: crates/lang, and of crates/rules/specs/Bytes.antt `bytes` and `to`
 
 def lit(w):
-    """litRe: a word, byte by byte"""
+    """lit_re: a word, byte by byte"""
     if not w:
         return ('eps',)
     first = ('cls', ((w[0], w[0]),))
@@ -35,7 +35,7 @@ def lit(w):
 
 
 def lits(ws):
-    """litsRe: one of several words"""
+    """lits_re: one of several words"""
     return ('alt', lit(ws[0]), lits(ws[1:])) if ws else ('cls', ())
 
 
@@ -44,7 +44,7 @@ def cls(ranges):
 
 
 def head(others, first):
-    """headRe: a byte of the second class, and any number of the first"""
+    """head_re: a byte of the second class, and any number of the first"""
     return ('seq', cls(first), ('star', cls(others)))
 
 
@@ -53,7 +53,7 @@ def brackets(plain, opens, closes):
 
 
 def nested(b, first):
-    """nestedRe: a byte of the class, or one that opens a bracket; and bytes behind it with which brackets pair up"""
+    """nested_re: a byte of the class, or one that opens a bracket; and bytes behind it with which brackets pair up"""
     return ('alt', ('seq', cls(first), ('nest', b, 0)), ('seq', cls(b[2]), ('nest', b, 1)))
 
 
@@ -96,13 +96,13 @@ WORDS = {
     'seq': ([is_re, is_re], lambda r, s: ('seq', r, s)),
     'alt': ([is_re, is_re], lambda r, s: ('alt', r, s)),
     'star': ([is_re], lambda r: ('star', r)),
-    'optRe': ([is_re], lambda r: ('alt', ('eps',), r)),
-    'litRe': ([is_word], lit),
-    'litsRe': ([is_words], lits),
-    'headRe': ([is_class, is_class], head),
+    'opt_re': ([is_re], lambda r: ('alt', ('eps',), r)),
+    'lit_re': ([is_word], lit),
+    'lits_re': ([is_words], lits),
+    'head_re': ([is_class, is_class], head),
     'brackets': ([is_class, is_class, is_class], brackets),
-    'pairedRe': ([is_brackets], lambda b: ('nest', b, 0)),
-    'nestedRe': ([is_brackets, is_class], nested),
+    'paired_re': ([is_brackets], lambda b: ('nest', b, 0)),
+    'nested_re': ([is_brackets, is_class], nested),
     'bytes': ([is_text], lambda s: list(s.encode('ascii'))),
     'map': ([callable, lambda v: isinstance(v, list)], lambda f, vs: [f(v) for v in vs]),
 }
@@ -228,7 +228,7 @@ class File:
         m = re.fullmatch(r'use ([^{}]*?)(?:\.\{(.*)\}| as \w+)', line)
         if not m:
             stop(where, 'a `use` in a form that is not known here')
-        source = re.fullmatch(r'Rattle·rules(?:·specs)?\.specs\.(\w+)', m[1])
+        source = re.fullmatch(r'Rattle\.rules\.specs\.(\w+)', m[1])
         for name in m[2].split(', ') if source and m[2] else []:
             self.taken[name] = f'crates/rules/specs/{source[1]}.antt'
 
@@ -296,7 +296,7 @@ class Grammar:
 def line_grammar():
     """The grammar of lines of the second edition, whose internal ions may have letters."""
     read, where = Grammar(), (GRAMMAR, 1)
-    line = read.named(GRAMMAR, where, 'lineRe', [read.named(GRAMMAR, where, 'lettersRe', [])])
+    line = read.named(GRAMMAR, where, 'line_re', [read.named(GRAMMAR, where, 'letters_re', [])])
     if not is_re(line):
-        stop((GRAMMAR, 1), 'lineRe is no grammar')
+        stop((GRAMMAR, 1), 'line_re is no grammar')
     return line

@@ -175,10 +175,10 @@ def tables_antt(classes, reps, rows, accepts, paths, deeps, flats):
         ('the states from this number on, and before the next, are deep: a bracket is open inside a name', 'deeps', deeps),
         ('to the states from this number on letters of an internal ion alone lead; those before are the first edition\'s', 'flats', flats),
         ('how many classes of bytes there are', 'kinds', len(reps)),
-        ("where the rows begin in the machine's bytes", 'rowsAt', rows_at),
-        ('where the marks of the states in which a line may end begin', 'endsAt', ends_at),
+        ("where the rows begin in the machine's bytes", 'rows_at', rows_at),
+        ('where the marks of the states in which a line may end begin', 'ends_at', ends_at),
         ("how many the machine's bytes are", 'size', size),
-        *[(f'where the machine has what follows `m{letter}`: a state that letters alone lead to', f'{letter}At', at) for letter, at in letters_at(classes, rows, flats)],
+        *[(f'where the machine has what follows `m{letter}`: a state that letters alone lead to', f'{letter}_at', at) for letter, at in letters_at(classes, rows, flats)],
     ]
     named = [
         ('the class of each byte', 'classes', 'List ℕ', antt_wrapped(classes)),
@@ -190,7 +190,7 @@ def tables_antt(classes, reps, rows, accepts, paths, deeps, flats):
          antt_wrapped(packed(machine_bytes(classes, rows, accepts)), 8)),
     ]
     out = ['-- The scan\'s tables. Made by tools/tables.py; nothing is trusted of it: proofs/Certificate.antt and proofs/Cells.antt test them. Assumes nothing.',
-           'use Prim.Native.Nat.{ℕ}', 'use mathlib.Core.List.{List, [], _∷_}']
+           'use Rattle.std.specs.Prelude.{ℕ, List, [], ◌∷◌}']
     for comment, name, value in numbers:
         out += ['', f'-- {comment}', f'abbrev pub {name} : ℕ', f'{name} = {value}']
     for comment, name, kind, value in named:
@@ -203,19 +203,19 @@ def rows_antt(n, which):
     machine, tables, more = ('machine', 'rows, words, states', []) if which == 2 else ('machine1', 'rows, words, flats', ['rows1', 'words1'])
     starts = range(0, n, CHUNK)
     out = [f'-- The rows of the machine of the {"second" if which == 2 else "first"} edition of lines, each tested: in chunks, since a test has its step limit. Made by tools/tables.py. Assumes nothing.',
-           'use Prim.Native.Nat.{ℕ, _+_}', 'use mathlib.Core.Bool.{Bool}', 'use lib.Dec.{T}',
-           'use Rattle·lang.proofs.Machine.{allB}', 'use Rattle·lang.proofs.Certify.{rowT, Below, none-yet, chunk}',
-           'use Rattle·rules.specs.Elements.{symbols}',
-           f'use Rattle·shape·specs.specs.Tables.{{classes, reps, {tables}}}',
-           'use Rattle·shape·proofs.proofs.Grammar.{symbolRe}',
-           f'use Rattle·shape·proofs.proofs.TableMachine.{{{", ".join([machine] + more)}}}', '',
-           'row : ℕ → Bool', f'unfolding {machine}', f'row q = rowT {machine} q']
+           'use Prim.Native.Nat.{ℕ, ◌+◌}', 'use mathlib.Core.Bool.{Bool}', 'use lib.Dec.{T}',
+           'use Rattle.lang.proofs.Machine.{all_b}', 'use Rattle.lang.proofs.Certify.{row_t, Below, none_yet, chunk}',
+           'use Rattle.rules.specs.Elements.{symbols}',
+           f'use Rattle.shape.specs.Tables.{{classes, reps, {tables}}}',
+           'use Rattle.shape.proofs.Grammar.{symbol_re}',
+           f'use Rattle.shape.proofs.TableMachine.{{{", ".join([machine] + more)}}}', '',
+           'row : ℕ → Bool', f'unfolding {machine}', f'row q = row_t {machine} q']
     for a in starts:
-        out += ['', f'rows{a} : T (allB (λ i. row ({a} + i)) {min(CHUNK, n - a)})', ' '.join(['unfolding row', machine, *more, 'words rows classes reps symbolRe symbols']), f'rows{a} = tt']
-    term = 'none-yet row'
+        out += ['', f'rows{a} : T (all_b (λ i. row ({a} + i)) {min(CHUNK, n - a)})', ' '.join(['unfolding row', machine, *more, 'words rows classes reps symbol_re symbols']), f'rows{a} = tt']
+    term = 'none_yet row'
     for a in starts:
         term = f'chunk row {a} {min(CHUNK, n - a)} ({term}) rows{a}'
-    out += ['', f'pub all-rows : Below (rowT {machine}) {tables.split()[-1]}', f'unfolding row {machine}', f'all-rows = {term}']
+    out += ['', f'pub all_rows_lem : Below (row_t {machine}) {tables.split()[-1]}', f'unfolding row {machine}', f'all_rows_lem = {term}']
     return '\n'.join(out) + '\n'
 
 
