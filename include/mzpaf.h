@@ -1,5 +1,5 @@
 /*
- * mzpaf.h: labels of peaks in mzPAF, read and written. Link target/staticlib/libcapi.a (`rt staticlib capi`), for Linux on x86-64;
+ * mzpaf.h: labels of peaks in mzPAF, read and written. Link target/staticlib/libcapi.a (`tools/build-c`), for Linux on x86-64;
  * besides it memcpy and memset of any C library are needed, and nothing else.
  *
  * Every call takes pointers with a length in bytes behind each, and returns a number: 0 where all went well, else why not.

@@ -1,7 +1,7 @@
 #!/usr/bin/env python3
 """Draws a peak list as a picture: a stick for each peak, its labels over it, and below it each refused row and why.
 
-    tools/draw.py LIST > picture.svg                        asks the program `peaks`, which must be built (rt check peaks)
+    tools/draw.py LIST > picture.svg                        asks the program `peaks`, which must be built (`rt run` in crates/peaks)
     tools/draw.py LIST --answers FILE > picture.svg         FILE holds what `peaks` printed for LIST
     tools/draw.py LIST --with COMMAND.. > picture.svg       asks another program; all words behind --with are the command
 
