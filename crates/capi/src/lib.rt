@@ -1,5 +1,7 @@
 // The calls from C. Document 02, M-108 and M-113: lines are those of the first edition, and by a lent machine those of the edition that it was
 // prepared for. The crate capi_c hands them to C; include/mzpaf.h says the same to a C programmer.
+#![tactic(auto)]
+
 ghost use Rattle.std.specs.Prelude.{◌≡◌, length};
 ghost use Rattle.rules.specs.Answers.{Reads, Writes, Converts};
 ghost use Rattle.rules.specs.RowAnswers.{ReadsRow, WritesRow, ConvertsRow};

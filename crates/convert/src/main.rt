@@ -1,4 +1,6 @@
 // Each line of standard input is a stored table of edition 1 in hexadecimal digits, and is answered by the table of edition 2 of the same line.
+#![tactic(auto)]
+
 use run_program::{asked_lines, was_asked};
 use run_writes::{Form, Task, answer_tables};
 use std::process::ExitCode;

@@ -1,4 +1,6 @@
 // The published examples (docs/EXAMPLES.md), relabelled: standard input has one a line.
+#![tactic(auto)]
+
 use run_program::{Input, asked_lines, was_asked};
 use std::process::ExitCode;
 

@@ -1,5 +1,7 @@
 // What a line of the input asks, where it begins with the length of its output; and what is answered, as a line of text: its number, place and length, and the table in hexadecimal digits, `-` where there is none; or
 // the digits alone, and for a refusal `!`, the number and the place.
+#![tactic(auto)]
+
 ghost use Rattle.std.specs.Prelude.{◌/◌, ◌%◌, ◌≡◌, true};
 ghost use Rattle.lang.specs.Parts.{flat};
 ghost use Rattle.put_bytes.specs.Puts.{Put};

@@ -1,4 +1,6 @@
 // Bytes read from hexadecimal digits, two for each byte, the high one first; `io_answers` puts them so. Capitals are digits too.
+#![tactic(auto)]
+
 ghost use Rattle.std.specs.Prelude.{◌≡◌};
 ghost use Rattle.put_bytes.specs.Puts.{Put};
 ghost use Rattle.io_hex.specs.Hexes.{hex_value, byte_of, spelled, unhexed};

@@ -2,6 +2,8 @@
 // A line that goes on past the end of the buffer is moved to its front before more is read, so that every line stands in one piece.
 // Which bytes the system hands over no contract can say. What becomes of them is stated: which lines are found (`Next`), which parts
 // of lines (`NextPart`). Where input cannot be read or output cannot be written the stream stops, and keeps which of the two it was.
+#![tactic(auto)]
+
 ghost use Rattle.std.specs.Prelude.{◌≡◌, false, None, Some, IsSome, IfErr, length};
 ghost use Rattle.std.specs.Io.{ReadsAtMost};
 ghost use Rattle.io_lines.specs.Streams.{begun, stopped_by, waiting_of, line_of, settled, sum_of, left, part_of, looked_at, Roomed};

@@ -1,4 +1,6 @@
 // Lines of input in a buffer: where a line feed stands, and what stays in the buffer of a line that goes on.
+#![tactic(auto)]
+
 ghost use Rattle.std.specs.Prelude.{◌-◌, min, ◌≡◌};
 ghost use Rattle.io_parts.specs.Feeds.{LineEnd, Kept};
 

@@ -1,5 +1,7 @@
 // The annotations of a line, measured one after the other: what is counted of them, and the first refusal by 4 to 7 or 11 that they give.
 // Document 01, "Numbers of refusal", and document 02, M-105: 4 and 5, the lowest place winning; then 11; 6; 7.
+#![tactic(auto)]
+
 ghost use Rattle.std.specs.Prelude.{◌≡◌, ◌||◌};
 ghost use Rattle.layout.specs.Editions.{edition_of};
 ghost use Rattle.measure_line.specs.Totals.{nothing, noted, summed, parts_at, added_by, add_next, totals_by};

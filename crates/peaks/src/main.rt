@@ -1,4 +1,6 @@
 // The relabel program for peak lists, document 02, M-101.
+#![tactic(auto)]
+
 use run_program::{Input, asked_lines, was_asked};
 use std::process::ExitCode;
 

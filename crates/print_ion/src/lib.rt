@@ -1,4 +1,6 @@
 // What stands before the losses of an annotation, prefix and ion, in preferred spelling, from the record of the annotation.
+#![tactic(auto)]
+
 ghost use Rattle.std.specs.Prelude.{◌≡◌, ◌∷◌};
 ghost use Rattle.put_bytes.specs.Puts.{Put};
 ghost use Rattle.print_ion.specs.Texts.{series_printed, letters_printed, enclosed_printed, braces_printed, brackets_printed, ion_units, ion_bytes};

@@ -1,6 +1,8 @@
 // The preferred text of losses, adduct items and isotopes, and of what stands behind the adduct, from their records. A record is printed
 // as it stands: whether the bytes are a table is told by reading what was printed. No more is printed than a table within the limits
 // has, so that bytes that are none cost no more time than a table.
+#![tactic(auto)]
+
 ghost use Rattle.std.specs.Prelude.{◌≡◌, get_or};
 ghost use Rattle.put_bytes.specs.Puts.{Put};
 ghost use Rattle.print_parts.specs.Numbers.{up_to, number_at};

@@ -1,5 +1,7 @@
 // The line of a stored table, in preferred spelling: one annotation after the other, each from the six sections at their cursors. The
 // bytes are printed as they stand, by the edition that their header names: whether they are a table is told by reading what was printed.
+#![tactic(auto)]
+
 ghost use Rattle.std.specs.Prelude.{◌≡◌};
 ghost use Rattle.put_bytes.specs.Puts.{Put};
 ghost use Rattle.layout.specs.Editions.{edition_of};

@@ -1,5 +1,5 @@
 -- What is answered to a line is what the rules say of it. Assumes nothing.
-use Prim.Native.Nat.{ℕ, ◌+◌, ◌-◌, ◌≤◌}
+use Prim.Native.Nat.{ℕ, ◌-◌, ◌≤◌}
 use mathlib.Core.Path.{◌≡◌, refl, sym, ap, ap₂, ◌∙◌, subst}
 use mathlib.Core.Bool.{Bool, true, false, cond}
 use mathlib.Core.List.{List, ◌++◌}
@@ -12,7 +12,7 @@ use Rattle.lang.specs.Parts.{Opt, silent, written}
 use Rattle.lang.specs.Mark.{Mark, Kept, Wins}
 use Rattle.lang.specs.Order.{Each}
 use Rattle.lang.proofs.FirstBroken.{first_broken}
-use Rattle.rules.specs.Lines.{Spelling, line_text, misshapen}
+use Rattle.rules.specs.Lines.{Spelling, line_text}
 use Rattle.rules.specs.Fields.{Table, Says}
 use Rattle.rules.specs.Limits.{max_line, line_marks}
 use Rattle.rules.specs.House.{first_foreign, first_breach, first_excess}

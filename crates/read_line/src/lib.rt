@@ -1,5 +1,7 @@
 // A line read: measured, then stored. Document 01, "Numbers of refusal": reading tests 1; then 2 or 3; then 4 and 5; then 11 (document 02, M-105); 6; 7; 8.
 // What was read of the first annotation is handed on from measuring to storing: most lines have no other.
+#![tactic(auto)]
+
 ghost use Rattle.std.specs.Prelude.{◌≡◌, length};
 ghost use Rattle.layout.specs.Editions.{edition_of};
 ghost use Rattle.answers.specs.Delivered.{answered};

@@ -1,4 +1,6 @@
 // The relabel program of document 01.
+#![tactic(auto)]
+
 use run_program::{Input, asked_lines, was_asked};
 use std::process::ExitCode;
 

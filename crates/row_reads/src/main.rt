@@ -1,4 +1,6 @@
 // Each row of standard input, read into an output that is as long as any row needs.
+#![tactic(auto)]
+
 use run_program::{Input, asked_lines, was_asked};
 use std::process::ExitCode;
 

@@ -1,4 +1,6 @@
 // Rows of a peak list: read, written, converted, spelled anew, and handed out of a list. Document 02, M-101, M-112 and M-113. Every row is answered alone.
+#![tactic(auto)]
+
 ghost use Rattle.std.specs.Prelude.{◌≡◌, length};
 ghost use Rattle.rules.specs.RowAnswers.{ReadsRow, WritesRow, ConvertsRow};
 ghost use Rattle.rules.specs.Editions.{first_lines};

@@ -1,6 +1,8 @@
 // How each program begins and ends: what it says of its arguments, and of what the system refused. What the system hands over and
 // takes cannot be stated: `was_asked`, `asked_lines`, `has_argument`, `show`, `explain`, `refuse`, `finish`, `fail` and `put_word` are proved safe and ending,
 // `only_word` states no more than that it counts bytes of its buffer, and the others state their answers.
+#![tactic(auto)]
+
 ghost use Rattle.std.specs.Prelude.{◌≡◌, ◌++◌, take, length};
 ghost use Rattle.put_bytes.specs.Puts.{Put};
 ghost use Rattle.run_program.specs.Words.{IsPrefixLen, Tells, help_word, second_word};

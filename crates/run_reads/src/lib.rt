@@ -2,6 +2,8 @@
 // is answered by number, place and length, and the table, or the stored row, in hexadecimal digits, `-` where there is none. Lines end at line feeds,
 // and the last may lack its own. Which lines are found is stated by `next_line`, and `one_line` states what is answered to the line that was
 // found; what is written cannot be stated, so `answer_lines` and `all` are proved safe and ending.
+#![tactic(auto)]
+
 ghost use Rattle.std.specs.Prelude.{◌≡◌, true, length, take, drop};
 ghost use Rattle.answers.specs.Delivered.{answered};
 ghost use Rattle.run_reads.specs.Answered.{Answered};

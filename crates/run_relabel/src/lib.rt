@@ -3,6 +3,8 @@
 // are found is stated by `next_line`, and `one_line` states what is answered to the line that was found; what is written cannot be stated, so
 // `relabel_lines` and `all` are proved safe and ending. The machine that is lent decides by which edition lines are judged; `lines`, which goes with it, says
 // in the contracts which edition that is.
+#![tactic(auto)]
+
 ghost use Rattle.std.specs.Prelude.{◌+◌, ◌≤◌, ◌≡◌, length, take, drop};
 ghost use Rattle.rules.specs.RowAnswers.{max_row};
 ghost use Rattle.scan_line.specs.Lines.{lines_in};

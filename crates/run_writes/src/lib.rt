@@ -3,6 +3,8 @@
 // `table` is a stored row here where rows are written, and `line` is what is answered: the line, the row or the other table. Lines of the input end at
 // line feeds, and the last may lack its own. Which lines are found is stated by `next_line`, and `one_table` states what is answered to the table that
 // was found; what is written cannot be stated, so `answer_tables` and `all` are proved safe and ending.
+#![tactic(auto)]
+
 ghost use Rattle.std.specs.Prelude.{◌≡◌, true, length, take, drop};
 ghost use Rattle.put_bytes.specs.Puts.{Put};
 ghost use Rattle.answers.specs.Delivered.{answered};

@@ -1,6 +1,8 @@
 // The shape of each line of standard input: `fine`, `3 LENGTH` or `2 PLACE`. Lines end at line feeds, and the last may lack its own;
 // they have any bytes and any length, since a line is scanned part by part as it comes. Which parts are found is stated by `next_part`, and
 // `one_part` and `last` state what is answered to a line; what is written cannot be stated, so `all` is proved safe and ending.
+#![tactic(auto)]
+
 ghost use Rattle.std.specs.Prelude.{◌≡◌, List, ℕ, length, take, drop};
 ghost use Rattle.put_bytes.specs.Puts.{Put};
 ghost use Rattle.shapes.specs.Shown.{place_text, verdict_text, is_begun, Shown, Parted, Last};

@@ -1,4 +1,6 @@
 // Each line of standard input has the form `N ROW`, and ROW is read into an output of N bytes.
+#![tactic(auto)]
+
 use run_program::{Input, asked_lines, was_asked};
 use std::process::ExitCode;
 

@@ -1,4 +1,6 @@
 // Lines of the second edition, read: standard input has one a line, and the stored run has the argument `--second`.
+#![tactic(auto)]
+
 use run_program::{Input, asked_lines, was_asked};
 use std::process::ExitCode;
 

@@ -1,4 +1,6 @@
 // Stored tables, in hexadecimal digits, written as lines of the second edition: standard input has one a line, and the stored run has the argument `--second`.
+#![tactic(auto)]
+
 use run_program::{asked_lines, was_asked};
 use run_writes::{Form, Task, answer_tables};
 use std::process::ExitCode;

@@ -5,6 +5,8 @@
 //   f TEXT   the formula: units, bytes, number and place of the first broken limit, preferred spelling
 // Any other line is answered by `?`. Of a line longer than half of the buffer the bytes that are kept are answered. Which lines are found is
 // stated by `next_line`, and `one_line` states what is said to the line that was found; what is written cannot be stated.
+#![tactic(auto)]
+
 ghost use Rattle.std.specs.Prelude.{take, drop};
 ghost use Rattle.put_bytes.specs.Puts.{Put};
 ghost use Rattle.try_terms.specs.Answered.{Answered};

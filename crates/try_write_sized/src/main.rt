@@ -1,4 +1,6 @@
 // Each line of standard input has the form `N TABLE`, and the table, in hexadecimal digits, is written into an output of N bytes.
+#![tactic(auto)]
+
 use run_program::{asked_lines, was_asked};
 use run_writes::{Form, Task, answer_tables};
 use std::process::ExitCode;

@@ -8,7 +8,6 @@ use lib.Dec.{T, leb}
 use Rattle.lang.specs.Parts.{Opt, silent, opt_map}
 use Rattle.lang.specs.Mark.{Kept}
 use Rattle.lang.specs.Order.{Perm, same, swap, keep, then, Each, none, next}
-use Rattle.rules.specs.Numbers.{Number}
 use Rattle.rules.specs.Decimals.{Decimal}
 use Rattle.rules.specs.Ions.{Ion, series, internal, immonium, precursor, reference, named, composed, smiles, unknown, ion_map, TableIon}
 use Rattle.rules.specs.Adducts.{Item, item_map}

@@ -2,6 +2,8 @@
 // decides which bytes are a table. Document 01, "Numbers of refusal", and document 02, M-112 and M-113: writing tests 9, 10, 20, 1, 8; converting 9, then what reading the
 // line tests behind the limits: 11, 6, 8. The lent machine says of which edition the line has to be; 9 goes by lines of the first edition for a table of edition 1, by those
 // of the second for one of edition 2.
+#![tactic(auto)]
+
 ghost use Rattle.std.specs.Prelude.{◌≡◌, length};
 ghost use Rattle.layout.specs.Editions.{edition_of};
 ghost use Rattle.print_table.specs.Tables.{printed_table};

@@ -1,4 +1,6 @@
 // Each line of standard input is a stored table in hexadecimal digits, written into an output that is as long as a line may be.
+#![tactic(auto)]
+
 use run_program::{asked_lines, was_asked};
 use run_writes::{Form, Task, answer_tables};
 use std::process::ExitCode;

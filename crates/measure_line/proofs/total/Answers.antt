@@ -1,6 +1,5 @@
 -- `measure_line::total` meets its contract: an empty line, or in its loop those counted, and those left, make the whole. Assumes nothing.
 use Rattle.measure_line.proofs.AnnotationLoops.{empty_totals, counting_begins, counting_ends, counting_turns, counting_falls}
-use Prim.Native.Nat.{◌-◌}
 use mathlib.Core.Path.{sym, ◌∙◌}
 use Rattle.measure_line.proofs.total.Goals as goal
 

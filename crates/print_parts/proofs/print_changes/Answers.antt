@@ -1,5 +1,4 @@
 -- `print_parts::print_changes` meets its contract. Assumes nothing.
-use Prim.Native.Nat.{◌-◌}
 use native.Mathlib.Omega.{arith}
 use Rattle.print_parts.proofs.PrintLoop.{changes_begin, changes_turn, changes_end, few_units}
 use Rattle.print_parts.proofs.print_changes.Goals as goal

@@ -1,5 +1,4 @@
 -- `print_parts::print_isotopes` meets its contract. Assumes nothing.
-use Prim.Native.Nat.{◌-◌}
 use native.Mathlib.Omega.{arith}
 use mathlib.Core.Path.{ap}
 use Rattle.rules.specs.Layout.{isotope_width}

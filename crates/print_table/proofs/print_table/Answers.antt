@@ -10,7 +10,7 @@ use Rattle.print_parts.specs.Numbers.{number_at}
 use Rattle.store_sections.specs.declared.Cursors.{Cursors}
 use Rattle.store_sections.specs.Headers.{starts_of}
 use Rattle.print_table.proofs.Steps.{line_begins, line_turn, line_ends}
-use Prim.Native.Nat.{ℕ, ◌-◌}
+use Prim.Native.Nat.{ℕ}
 use mathlib.Core.Path.{ap, ap₂, ◌∙◌}
 use native.Mathlib.Omega.{arith}
 use Rattle.put_bytes.proofs.Putting.{put_as}

@@ -1,7 +1,6 @@
 -- `read_line::same_bytes` meets its contract: the bytes that are left decide. Assumes nothing.
 use Rattle.read_line.proofs.Same.{same_apart, same_on, same_off, same_ends}
 use mathlib.Core.Path.{refl, sym, ◌∙◌}
-use Prim.Native.Nat.{◌-◌}
 use native.Mathlib.Omega.{arith}
 use Rattle.read_line.proofs.same_bytes.Goals as goal
 

@@ -1,7 +1,6 @@
 -- `read_line::store_all` meets its contract: an empty line; else the loop, which walks the line and runs its events. Assumes nothing.
 use Rattle.read_line.proofs.Storing.{storing_begins, storing_length, storing_falls, storing_turns, storing_ends, empty_stored}
 use Rattle.store_sections.proofs.Events.{ran_length}
-use Prim.Native.Nat.{◌-◌}
 use mathlib.Core.Path.{sym, ◌∙◌}
 use native.Mathlib.Omega.{arith}
 use Rattle.read_line.proofs.store_all.Goals as goal

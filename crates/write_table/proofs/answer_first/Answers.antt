@@ -1,9 +1,6 @@
 -- `write_table::answer_first` meets its contract: by the lent machine, or by one that was made. Assumes nothing.
 use lib.ListN.{length}
 use Rattle.write_table.proofs.Found.{judged_lent, judged_first_lem}
-use Rattle.scan_line.proofs.machine.Reads as machine-reads
-use Rattle.scan_line.proofs.takes_letters.Reads as takes-letters-reads
-use Rattle.write_table.proofs.answer_by.Reads as answer-by-reads
 use Rattle.write_table.proofs.answer_first.Goals as goal
 
 pub returns-then-not-takes_letters : goal.returns-then-not-takes_letters

@@ -1,9 +1,6 @@
 -- `write_table::answer_for` meets its contract: edition by edition. Assumes nothing.
 use lib.ListN.{length}
 use Rattle.write_table.proofs.Found.{for_first, for_second}
-use Rattle.write_table.proofs.answer_by.Reads as answer-by-reads
-use Rattle.write_table.proofs.answer_first.Reads as answer-first-reads
-use Rattle.write_table.proofs.edition_for.Reads as edition-for-reads
 use Rattle.write_table.proofs.answer_for.Goals as goal
 
 pub returns-in-First : goal.returns-in-First

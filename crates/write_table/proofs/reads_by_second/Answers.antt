@@ -6,7 +6,6 @@ use Rattle.rules.specs.Editions.{current}
 use Rattle.rules.specs.Largest.{max_any_table}
 use Rattle.scan_line.specs.Steps.{scanned_by}
 use Rattle.read_line.specs.Back.{reads_to, zeros}
-use Rattle.scan_line.proofs.machine.Reads as machine-reads
 use Rattle.write_table.proofs.reads_by_second.Goals as goal
 
 pub returns : goal.returns

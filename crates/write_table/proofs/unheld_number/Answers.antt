@@ -1,6 +1,5 @@
 -- `write_table::unheld_number` meets its contract: edition by edition, machine by machine. Assumes nothing.
 use Rattle.write_table.proofs.Found.{unheld_second, unheld_letters, unheld_none}
-use Rattle.scan_line.proofs.takes_letters.Reads as takes-letters-reads
 use Rattle.write_table.proofs.unheld_number.Goals as goal
 
 pub returns-then-takes_letters : goal.returns-then-takes_letters
