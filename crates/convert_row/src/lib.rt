@@ -1,5 +1,7 @@
 // A stored row of a peak list whose table is of edition 1, converted to edition 2. Document 02, M-112: converting tests 9; then what reading the row's line tests behind
 // the limits: 11, 6, 8.
+#![tactic(auto)]
+
 ghost use Rattle.std.specs.Prelude.{◌≡◌, ◌-◌, length};
 ghost use Rattle.rules.specs.Rows.{row_head_size};
 ghost use Rattle.answers.specs.Delivered.{answered};

@@ -1,4 +1,6 @@
 // Lines and tables: the reader, the writer, the conversion of old tables, and the preferred spelling of a line. Document 01, "Numbers of refusal", and document 02, M-112.
+#![tactic(auto)]
+
 ghost use Rattle.std.specs.Prelude.{◌≡◌, length};
 ghost use Rattle.rules.specs.Answers.{Reads, Writes, Converts};
 ghost use Rattle.rules.specs.Editions.{first_lines};

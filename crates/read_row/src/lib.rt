@@ -1,4 +1,6 @@
 // A row of a peak list, read. Document 02, M-101: m/z, a tab, intensity, and perhaps a tab and an annotation line.
+#![tactic(auto)]
+
 ghost use Rattle.std.specs.Prelude.{◌≡◌, ◌-◌, length};
 ghost use Rattle.rules.specs.Rows.{row_head_size};
 ghost use Rattle.scan_line.specs.Steps.{scanned_by};

@@ -12,7 +12,6 @@ use Rattle.lang.specs.Parts.{opt_map, flat}
 use Rattle.lang.specs.Order.{Perm, Each, none, next}
 use Rattle.lang.proofs.Tests.{is_t, t_is, not_t}
 use Rattle.lang.proofs.Deriv.{and_0, and_1}
-use Rattle.rules.specs.Numbers.{Number}
 use Rattle.rules.specs.Formulas.{Written}
 use Rattle.rules.specs.Ions.{ion_map, SpelledIon, TableIon}
 use Rattle.rules.specs.Losses.{loss_map}

@@ -1,5 +1,7 @@
 // A line that has a shape, in its preferred spelling, from its own bytes: copied where nothing in it may be written in two ways, else
 // spelled anew annotation by annotation. Document 01, "Preferred spelling".
+#![tactic(auto)]
+
 ghost use Rattle.std.specs.Prelude.{◌≡◌, length};
 ghost use Rattle.put_bytes.specs.Puts.{Put};
 ghost use Rattle.answers.specs.Delivered.{answered};

@@ -1,5 +1,7 @@
 // A row of a peak list in its preferred spelling. Document 02, M-101. No table and no stored row is made: a good column is the very text of
 // its decimal, so that all before the third column is copied as it stands, and the line is spelled straight behind it.
+#![tactic(auto)]
+
 ghost use Rattle.std.specs.Prelude.{◌≡◌, ◌-◌, length};
 ghost use Rattle.scan_line.specs.Steps.{scanned_by};
 ghost use Rattle.answers.specs.Delivered.{answered};

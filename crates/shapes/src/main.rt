@@ -70,7 +70,7 @@ fn all(
         s = next_part(system, buf, out, said);
         turns -= 1;
     }
-    ExitCode::FAILURE
+    ExitCode::SUCCESS
 }
 
 // The scan of the line that goes on, and the stream, in which answers wait.

@@ -1,4 +1,6 @@
 // A stored row of a peak list, written. Document 02, M-101, M-112 and M-113: writing tests 9, 10, 20, 1, 8.
+#![tactic(auto)]
+
 ghost use Rattle.std.specs.Prelude.{◌≡◌, ◌-◌, length};
 ghost use Rattle.put_bytes.specs.Puts.{Put};
 ghost use Rattle.answers.specs.Delivered.{answered};

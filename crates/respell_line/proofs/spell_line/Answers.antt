@@ -3,7 +3,6 @@ use Rattle.respell_line.proofs.Spelling.{spelling_begins, spelling_length, spell
 use Rattle.put_bytes.proofs.Putting.{put_length}
 use native.Mathlib.Omega.{arith}
 use mathlib.Core.Path.{refl, sym, ◌∙◌}
-use Prim.Native.Nat.{◌-◌}
 use Rattle.respell_line.proofs.spell_line.Goals as goal
 
 pub returns-then-line-lt1 : goal.returns-then-line-lt1
