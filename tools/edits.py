@@ -15,7 +15,7 @@ BEGIN, END = "<!-- edits: by tools/edits.py -->\n", "<!-- end of edits -->\n"
 
 
 def rows():
-    for crate in (line.split(":")[0].strip() for line in (ROOT / "crates.txt").read_text().splitlines()):
+    for crate in (line.split(":")[0].replace(" staticlib", "").strip() for line in (ROOT / "crates.txt").read_text().splitlines()):
         for edit in sorted((ROOT / "crates" / crate / "must-fail").glob("*.edit")) if crate and not crate.startswith("#") else []:
             said = [line[2:] for line in edit.read_text().splitlines()[:3] if line.startswith("# ")]
             if len(said) != 3 or not said[2].startswith("promise: "):
