@@ -187,7 +187,9 @@ fn put_word(out: &mut [u8], e: &io::Error) -> usize {
 }
 
 // A word of the system without its number, which stands behind it between parentheses.
-fn before_number(said: &[u8]) -> &[u8] {
+fn before_number(said: &[u8]) -> &[u8]
+    ensures { result.now ≡ take (length result.now) said.now }
+{
     let number = b" (os error ".as_slice();
     for at in 0..said.len() {
         if rest(said, at).starts_with(number) {
