@@ -1,42 +1,20 @@
 -- Digits of bytes, one after the other, and answers by their number. Assumes nothing.
-use Prim.Native.Nat.{ℕ, ◌+◌, ◌/◌, ◌%◌, ◌≤◌, ◌<◌}
-use mathlib.Core.Path.{◌≡◌, refl, sym, ap, ap₂, ◌∙◌}
+use Prim.Native.Nat.{ℕ, ◌+◌, ◌≤◌, ◌<◌}
+use mathlib.Core.Path.{◌≡◌, sym, ap, ◌∙◌}
 use mathlib.Core.Bool.{Bool, cond}
 use mathlib.Core.List.{List, [], ◌∷◌, ◌++◌}
-use native.Mathlib.Omega.{arith}
 use lib.ListN.{length, get_or, take, drop, drop_of_length-le}
-use borrow.Author.Tests.{lt-ltb, le-ltb, eq-eqb, ne_eqb}
+use borrow.Author.Tests.{eq-eqb, ne_eqb}
 use Rattle.lang.specs.Parts.{flat}
 use Rattle.put_bytes.proofs.PutLoop.{run_more}
 use Rattle.answers.specs.declared.Answer.{Answer}
-use Rattle.io_answers.specs.Tells.{hex_digit, hex_byte, shown, refusal_text, told_briefly}
-
-pub low : (d : ℕ) → d < 10 → 48 + d ≡ hex_digit d
-unfolding hex_digit
-low d h = simp (lt-ltb d 10 h)
-
-pub high : (d : ℕ) → 10 ≤ d → 87 + d ≡ hex_digit d
-unfolding hex_digit
-high d h = simp (le-ltb d 10 h)
-
-pub byte_is : (b : ℕ) {p q : ℕ} → p ≡ hex_digit (b / 16 % 16) → q ≡ hex_digit (b % 16) → (p ∷ []) ++ (q ∷ []) ≡ hex_byte b
-byte_is b e f = ap₂ (λ (x y : ℕ). x ∷ y ∷ []) e f
+use Rattle.io_answers.specs.Tells.{hex_byte, refusal_text, told_briefly}
 
 pub hex_more : (s : List ℕ) (i : ℕ) → i < length s → flat hex_byte (drop i s) ≡ hex_byte (get_or s i 0) ++ flat hex_byte (drop (i + 1) s)
 hex_more s i h = ap (flat hex_byte) (run_more s i h)
 
 pub hex_none : (s : List ℕ) (i : ℕ) → length s ≤ i → flat hex_byte (drop i s) ≡ []
 hex_none s i h = ap (flat hex_byte) (drop_of_length-le s h)
-
-pub shown_none : (s : List ℕ) → length s < 1 → 45 ∷ [] ≡ shown s
-unfolding shown
-shown_none [] h = refl
-shown_none (b ∷ s) h = absurd (omega arith)
-
-pub shown_some : (s : List ℕ) → 1 ≤ length s → flat hex_byte s ≡ shown s
-unfolding shown
-shown_some [] h = absurd (omega arith)
-shown_some (b ∷ s) h = refl
 
 module _ (a : Answer) (table : List ℕ) where
   abbrev brief_by : Bool → List ℕ

@@ -11,7 +11,7 @@ ghost use Rattle.io_answers.specs.Tells.{hex_digit, hex_byte, field, shown, told
 use answers::Answer;
 use numbers::{put_number, read_number};
 use put_bytes::put8;
-use slices::{first_of, rest, within};
+use slices::{first_of, rest};
 
 // ---- what is asked
 
@@ -28,20 +28,18 @@ pub fn size_in(s: &[u8], all: usize) -> usize
     ensures { result ≡ room_in true s.now all }
 {
     let n = read_number(s);
-    within(n.value as usize, all)
+    all.min(n.value as usize)
 }
 
 // ---- what is answered
 
 // The digit of a byte's low half.
+#[tactic(auto, unfolding(crate::specs::Tells::hex_digit))]
 fn low_digit(b: u8) -> u8
     ensures { result ≡ hex_digit (b % 16) }
 {
     let d = b % 16;
-    if d < 10 {
-        return 48 + d;
-    }
-    87 + d
+    if d < 10 { b'0' + d } else { b'a' + (d - 10) }
 }
 
 // Two digits, the high one first.
@@ -57,19 +55,18 @@ pub fn put_hex(out: &mut [u8], at: usize, s: &[u8]) -> usize
     ensures { Put out.old at (flat hex_byte s.now) out.new result }
 {
     let mut to = at;
-    let mut taken: usize = 0;
-    while taken < s.len() {
-        to = put_byte(out, to, s[taken]);
-        taken += 1;
+    for b in s {
+        to = put_byte(out, to, *b);
     }
     to
 }
 
 // The bytes of a table in digits, or that there are none.
+#[tactic(auto, unfolding(crate::specs::Tells::shown))]
 fn put_shown(out: &mut [u8], at: usize, s: &[u8]) -> usize
     ensures { Put out.old at (shown s.now) out.new result }
 {
-    if s.len() < 1 {
+    if s.is_empty() {
         return put8(out, at, b'-');
     }
     put_hex(out, at, s)
