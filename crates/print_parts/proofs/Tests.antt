@@ -1,11 +1,17 @@
 -- What is printed, as the tests of the code tell them apart. Assumes nothing.
-use Prim.Native.Nat.{ℕ, ◌+◌, ◌-◌, ◌<◌, ◌≤◌}
-use mathlib.Core.Path.{◌≡◌, sym, ap, ap₂, ◌∙◌}
-use mathlib.Core.Bool.{Bool, cond}
+use Prim.Native.Nat.{ℕ, suc, ◌-◌, ◌<◌, ◌≤◌}
+use mathlib.Core.Path.{◌≡◌, refl, sym, ap, ap₂, ◌∙◌}
+use mathlib.Core.Bool.{Bool, true, false, cond, not}
 use mathlib.Core.List.{List, [], ◌++◌, append_assoc, append-nil}
 use native.Mathlib.Omega.{arith}
 use lib.ListN.{get_or, drop, take}
-use borrow.Author.Tests.{eq-eqb, ne_eqb, le-leb, lt-leb, lt-ltb, le-ltb}
+use borrow.Author.Tests.{eq-eqb, ne_eqb, le-leb, lt-leb, le-ltb, not-true, not-false}
+use lib.Dec.{ltb}
+use lib.IntN.{ℤ, pos, negsuc}
+use mir.Val.{sel}
+use Rattle.std.specs.Int.{w64, cast_signed, cast_unsigned}
+use Rattle.std.proofs.lemmas.Int.{of_z-to_z}
+use Rattle.std.specs.Int.RustNames.{unsigned_abs, int_lt}
 use Rattle.rules.specs.Bytes.{bytes}
 use Rattle.rules.specs.Numbers.{digits}
 use Rattle.rules.specs.Texts.{in_brackets}
@@ -95,24 +101,43 @@ module _ (s : List ℕ) where
   unfolding charge_printed
   charge_more e h = rw (lt-leb (get_or s charge_at 0) 1 (omega arith)) (ap (λ (m : ℕ). bytes "^" ++ digits m) e)
 
-pub size_plus : (v : ℕ) → v < 9223372036854775808 → v ≡ signed_size v
-size_plus v h = rw (lt-ltb v 9223372036854775808 h)
+-- a number in two's complement, as its highest bit tells: its size and its sign
+size_told : (v : ℕ) → v ≤ 18446744073709551615 → unsigned_abs (cast_signed w64 v) ≡ signed_size v
+size_told v h = by (ltb v 9223372036854775808)
+  where
+    by : (b : Bool) → unsigned_abs (sel b (pos v) (negsuc (18446744073709551616 - suc v))) ≡ cond b v (18446744073709551616 - v)
+    by true = refl
+    by false = omega arith
 
-pub size_minus : (v : ℕ) → 9223372036854775808 ≤ v → v ≤ 18446744073709551615 → 18446744073709551615 - v + 1 ≡ signed_size v
-size_minus v h g = rw (le-ltb v 9223372036854775808 h) (omega arith)
+minus_told : (v : ℕ) → int_lt (cast_signed w64 v) (pos 0) ≡ not (ltb v 9223372036854775808)
+minus_told v = by (ltb v 9223372036854775808)
+  where
+    by : (b : Bool) → int_lt (sel b (pos v) (negsuc (18446744073709551616 - suc v))) (pos 0) ≡ not b
+    by true = le-ltb v 0 (omega arith)
+    by false = refl
 
-module _ (v places : ℕ) {size : ℕ} (is : size ≡ signed_size v) where
-  pub signed_plus : v < 9223372036854775808 → decimal_text (record { value = size; places = places }) ≡ signed_printed v places
-  unfolding signed_printed
-  signed_plus h =
-      ap (λ (n : ℕ). decimal_text (record { value = n; places = places })) is
-      ∙ ap (λ (b : Bool). cond b [] (bytes "-") ++ decimal_text (record { value = signed_size v; places = places })) (sym (lt-ltb v 9223372036854775808 h))
+-- z is the number, size its size
+module _ (v places : ℕ) (small : v ≤ 18446744073709551615) {z : ℤ} {size : ℕ} (e : z ≡ cast_signed w64 v)
+    (is : size ≡ unsigned_abs (cast_signed w64 (cast_unsigned w64 z))) where
+  again : cast_signed w64 (cast_unsigned w64 z) ≡ cast_signed w64 v
+  again = ap (λ (y : ℤ). cast_signed w64 (cast_unsigned w64 y)) e ∙ ap (cast_signed w64) (of_z-to_z w64 v (omega arith))
 
-  pub signed_minus : 9223372036854775808 ≤ v → bytes "-" ++ decimal_text (record { value = size; places = places }) ≡ signed_printed v places
-  unfolding signed_printed
-  signed_minus h =
-      ap (λ (n : ℕ). bytes "-" ++ decimal_text (record { value = n; places = places })) is
-      ∙ ap (λ (b : Bool). cond b [] (bytes "-") ++ decimal_text (record { value = signed_size v; places = places })) (sym (le-ltb v 9223372036854775808 h))
+  sized : size ≡ signed_size v
+  sized = is ∙ ap unsigned_abs again ∙ size_told v small
+
+  below : {t : Bool} → int_lt (cast_signed w64 (cast_unsigned w64 z)) (pos 0) ≡ t → not (ltb v 9223372036854775808) ≡ t
+  below h = sym (minus_told v) ∙ ap (λ (y : ℤ). int_lt y (pos 0)) (sym again) ∙ h
+
+  text : Bool → ℕ → List ℕ
+  text b n = cond b [] (bytes "-") ++ decimal_text (record { value = n; places = places })
+
+  pub signed_plus : int_lt (cast_signed w64 (cast_unsigned w64 z)) (pos 0) ≡ false → decimal_text (record { value = size; places = places }) ≡ signed_printed v places
+  unfolding signed_printed text
+  signed_plus h = ap₂ text (sym (not-false _ (below h))) sized
+
+  pub signed_minus : int_lt (cast_signed w64 (cast_unsigned w64 z)) (pos 0) ≡ true → bytes "-" ++ decimal_text (record { value = size; places = places }) ≡ signed_printed v places
+  unfolding signed_printed text
+  signed_minus h = ap₂ text (sym (not-true _ (below h))) sized
 
 module _ (s : List ℕ) {kind : ℕ} (is : kind ≡ get_or s deviation_kind_at 0) where
   pub deviation_none : kind ≡ 0 → [] ≡ deviation_printed s

@@ -5,5 +5,5 @@ use Rattle.print_parts.proofs.name_of.Goals as goal
 pub returns-then-byte_of-eq1 : goal.returns-then-byte_of-eq1
 returns-then-byte_of-eq1 c = name_some c.args.l.now c.byte_of.ensures c.if-byte_of-eq1.true c.number_at.ensures
 
-pub returns : goal.returns
-returns c = name_none c.args.l.now c.byte_of.ensures c.if-byte_of-eq1.false
+pub returns-else-byte_of-eq1 : goal.returns-else-byte_of-eq1
+returns-else-byte_of-eq1 c = name_none c.args.l.now c.byte_of.ensures c.if-byte_of-eq1.false

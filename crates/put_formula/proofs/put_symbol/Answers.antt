@@ -10,5 +10,5 @@ returns-then-l-eq0 c = put_as (put_none (omega arith) (omega arith)) (symbol_non
 pub returns-then-l-eq0-2 : goal.returns-then-l-eq0-2
 returns-then-l-eq0-2 c = put_as c.put8-p.ensures (symbol_one _ c.letters_of-l.ensures c.if-l-eq0.false c.if-l-eq0-2.true)
 
-pub returns : goal.returns
-returns c = put_as (put_then c.put8-p.ensures c.put8.ensures) (symbol_two _ c.letters_of-l.ensures c.if-l-eq0.false c.if-l-eq0-2.false)
+pub returns-else-l-eq0-2 : goal.returns-else-l-eq0-2
+returns-else-l-eq0-2 c = put_as (put_then c.put8-p.ensures c.put8.ensures) (symbol_two _ c.letters_of-l.ensures c.if-l-eq0.false c.if-l-eq0-2.false)
