@@ -1,9 +1,6 @@
-pub mod Texts
 pub mod Compare
-pub mod OneWalk
 pub mod Inserted
 pub mod Feeds
 pub mod AllInserted
 pub mod Kept
 pub mod Arranged
-pub mod One
