@@ -2,12 +2,10 @@
 -- Assumes nothing.
 use Prim.Native.Nat.{ℕ, ◌+◌, ◌-◌, ◌*◌, ◌≤◌, ◌<◌, min}
 use mathlib.Core.Path.{◌≡◌, refl, sym, ap, ◌∙◌, subst}
-use mathlib.Core.Bool.{Bool, cond}
 use mathlib.Core.List.{List, [], ◌∷◌, ◌++◌, append_assoc, append-nil}
 use native.Mathlib.Omega.{arith}
 use lib.ListN.{length, take, drop, length-take, length-append, length-replicate}
 use lib.Seq.{sets, sets-eq, length-sets, take-append_seam, drop-append_seam, drop_at, drop-drop}
-use borrow.Author.Tests.{lt-ltb}
 use Rattle.lang.specs.Parts.{opt_text, flat}
 use Rattle.lang.specs.Order.{Each, none, next, insert}
 use Rattle.lang.specs.Walk.{Walked}
@@ -31,12 +29,13 @@ use Rattle.read_changes.proofs.Measures.{change_long}
 use Rattle.read_changes.proofs.ChangeLoop.{size_moves}
 use Rattle.read_changes.proofs.Sums.{EndsChanges}
 use Rattle.sort_slots.specs.declared.Slot.{Slot}
-use Rattle.sort_slots.specs.Slots.{slot_text, slot_le, feed, EndsBy, AllEndBy, none_ends}
+use Rattle.sort_slots.specs.Slots.{slot_text, slot_le, with_slot, feed, EndsBy, AllEndBy, none_ends}
 use Rattle.sort_slots.proofs.Feeds.{fed_last}
+use Rattle.sort_slots.proofs.Inserted.{with_room}
 use Rattle.sort_slots.proofs.AllInserted.{feed_perm}
 use Rattle.sort_slots.proofs.Kept.{Common, common_sets, text_kept, all_end_by, ends_last, feed_kept, each_kept}
 use Rattle.sort_changes.specs.Keys.{key_text}
-use Rattle.sort_changes.specs.Gathered.{Got, kept, slot_of, got_with, change_here, gather_one, got_none, gathered}
+use Rattle.sort_changes.specs.Gathered.{Got, slot_of, got_with, change_here, gather_one, got_none, gathered}
 use Rattle.sort_changes.specs.Events.{slot_events, keys_size, no_keys}
 use Rattle.sort_changes.proofs.Gathers.{gather_from, gather_on}
 use Rattle.sort_changes.proofs.SlotHolds.{what_key, count_value, spelled_events, ChangeFits, count_told_lem, behind_head_lem, start_within, here_told, key_told, events_told}
@@ -52,7 +51,7 @@ pub record Stands {m : ℕ} (j : ℕ) (all keys : List ℕ) (y : Slot) (x : Spel
 
 -- what was got, and b with one more: its slot is y
 record Next {m : ℕ} (j : ℕ) (all : List ℕ) (a b : Got) (y : Slot) (x : Spelled m) : Type 0 where
-  slots : b.slots ≡ kept b.keys y a.slots
+  slots : b.slots ≡ with_slot b.keys a.slots y
   common : Common a.used a.keys b.keys
   ends : EndsBy b.used y
   stands : Stands j all b.keys y x
@@ -143,7 +142,7 @@ module _ {m : ℕ} {j : ℕ} {all : List ℕ} where
       let z : length a.slots < max_losses = omega (arith, fed_count f) in
       record {
         slots =
-            n.slots ∙ ap (λ (t : Bool). cond t (insert (slot_le b.keys) y a.slots) a.slots) (lt-ltb (length a.slots) max_losses z)
+            n.slots ∙ with_room b.keys a.slots y z
             ∙ ap (insert (slot_le b.keys) y) (f.slots ∙ feed_kept n.common f.ends) ∙ sym (fed_last (slot_le b.keys) ys y);
         ends = ends_last (all_end_by n.later f.ends) n.ends;
         each =

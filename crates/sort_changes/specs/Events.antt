@@ -6,8 +6,6 @@ use Rattle.rules.specs.Limits.{max_losses, max_text}
 use Rattle.rules.specs.Layout.{unit_section, text_section}
 use Rattle.put_formula.specs.Records.{records_of}
 use Rattle.sort_slots.specs.declared.Slot.{Slot}
-use Rattle.sort_slots.specs.declared.Slots.{Slots}
-use Rattle.sort_slots.specs.Slots.{slots_of}
 use Rattle.store_sections.specs.declared.Cursors.{Cursors}
 use Rattle.store_sections.specs.Pages.{Event, Ran}
 use Rattle.sort_changes.specs.declared.Arranged.{Arranged}
@@ -26,8 +24,8 @@ slot_what s x =
 unfoldable pub slot_events : ℕ → List ℕ → Slot → List Event
 slot_events j s x = (j, slot_record x) ∷ slot_what s x
 
-abbrev pub slots_events : ℕ → List ℕ → Slots → List Event
-slots_events j s slots = flat (slot_events j s) (slots_of slots)
+abbrev pub slots_events : ℕ → List ℕ → List Slot → List Event
+slots_events j s slots = flat (slot_events j s) slots
 
 -- the bytes of the keys: as many names as there may be losses, in their brackets
 abbrev pub keys_size : ℕ
