@@ -9,7 +9,6 @@ ghost use Rattle.pack_answer.specs.Handed.{short, packed_of, handed, handed_of};
 
 use answers::Answer;
 use put_bytes::{clear, clear_from, put_le};
-use slices::within;
 
 // Bytes of a packed answer.
 const PACKED_SIZE: usize = 6;
@@ -18,7 +17,7 @@ const PACKED_SIZE: usize = 6;
 fn short(n: usize) -> u16
     ensures { result ≡ short n }
 {
-    within(n, 65535) as u16
+    u16::try_from(n).unwrap_or(u16::MAX)
 }
 
 // The three numbers, from the start of a buffer.
