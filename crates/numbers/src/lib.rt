@@ -9,7 +9,7 @@ ghost use Rattle.rules.specs.Limits.{max_places};
 ghost use Rattle.rules.specs.Decimals.{whole, last_digits, decimal_text};
 ghost use Rattle.put_bytes.specs.Puts.{Put};
 ghost use Rattle.numbers.specs.Leading.{leading_of, number_of};
-ghost use Rattle.numbers.specs.Making.{zero_decimal, ruled, made_of, made_number, made_decimal};
+ghost use Rattle.numbers.specs.Making.{zero_decimal, ruled, made_of};
 ghost use Rattle.numbers.specs.Points.{fraction_of, decimal_from, may_begin, decimal_of};
 ghost use Rattle.numbers.specs.Shares.{largest, billionths_of};
 
@@ -100,13 +100,6 @@ pub struct Decimal {
     places: u8,
 }
 
-// A decimal within its bounds, or that it is past them.
-#[derive(Clone, Copy)]
-pub enum MadeDecimal {
-    Fits(Decimal),
-    Past,
-}
-
 impl Decimal {
     // How many digits may stand behind the point.
     pub const MAX_PLACES: u8 = limits::MAX_PLACES;
@@ -114,17 +107,17 @@ impl Decimal {
     // How many digits there may be in all.
     pub const MAX_DIGITS: u8 = limits::MAX_DIGITS;
 
-    // A decimal, unless it is past its bounds. Nine places and a `0` before them are ten digits, so that the value's own digits decide.
-    pub fn new(value: u64, places: u8) -> MadeDecimal
+    // A decimal; none past its bounds. Nine places and a `0` before them are ten digits, so that the value's own digits decide.
+    pub fn new(value: u64, places: u8) -> Option<Decimal>
         ensures { result ≡ made_of value places }
     {
         if Decimal::MAX_PLACES < places {
-            return MadeDecimal::Past;
+            return None;
         }
         if 0 < whole_of(value, Decimal::MAX_DIGITS) {
-            return MadeDecimal::Past;
+            return None;
         }
-        MadeDecimal::Fits(Decimal { value, places })
+        Some(Decimal { value, places })
     }
 
     // 0, without places.
@@ -152,32 +145,10 @@ impl Decimal {
     }
 }
 
-impl MadeDecimal {
-    // The number of the refusal: 0 for none, 4 for a decimal past its bounds.
-    pub fn number(self) -> usize
-        ensures { result ≡ made_number self }
-    {
-        match self {
-            MadeDecimal::Fits(_) => 0,
-            MadeDecimal::Past => 4,
-        }
-    }
-
-    // The decimal, and 0 for one past its bounds.
-    pub fn decimal(self) -> Decimal
-        ensures { result ≡ made_decimal self }
-    {
-        match self {
-            MadeDecimal::Fits(d) => d,
-            MadeDecimal::Past => Decimal::zero(),
-        }
-    }
-}
-
-// What a part begins with, read as a decimal, and how many bytes it has.
+// What a part begins with, read as a decimal, none past its bounds; and how many bytes it has.
 #[derive(Clone, Copy)]
 pub struct DecimalRead {
-    pub made: MadeDecimal,
+    pub made: Option<Decimal>,
     pub len: usize,
 }
 
@@ -253,7 +224,7 @@ pub fn read_decimal(s: &[u8], first: FirstByte) -> DecimalRead
 {
     if !may_begin(s, first) {
         return DecimalRead {
-            made: MadeDecimal::Fits(Decimal::zero()),
+            made: Some(Decimal::zero()),
             len: 0,
         };
     }

@@ -55,28 +55,22 @@ fn ends_column(s: &[u8]) -> bool
 }
 
 // Whether a decimal that was read is a column.
+#[tactic(auto, unfolding(crate::specs::Columns::is_column))]
 fn is_column(s: &[u8], d: DecimalRead) -> bool
     ensures { result ≡ is_column s.now d }
 {
-    if !begins_decimal(s) {
-        return false;
-    }
-    let made = d.made;
-    if made.number() != 0 {
-        return false;
-    }
-    ends_column(rest(s, d.len))
+    begins_decimal(s) && d.made.is_some() && ends_column(rest(s, d.len))
 }
 
 // The column that a part begins with.
+#[tactic(auto, unfolding(crate::specs::Columns::column_of))]
 pub fn read_column(s: &[u8]) -> Column
     ensures { result ≡ column_of s.now }
 {
     let d = read_decimal(s, FirstByte::Digit);
-    let made = d.made;
     Column {
         good: is_column(s, d),
-        decimal: made.decimal(),
+        decimal: d.made.unwrap_or(Decimal::zero()),
         len: d.len,
         next: advance(d.len, 1, s.len()),
     }

@@ -21,7 +21,7 @@ use Rattle.rules.specs.Limits.{max_charge, fits, decimal_mark, opt_part, charge_
 use Rattle.rules.proofs.Confidences.{leaves_zero, places_some, point_length}
 use Rattle.numbers.specs.declared.Decimal as numbers
 use Rattle.numbers.specs.declared.FirstByte.TheVariants.{Digit, DigitOrPoint}
-use Rattle.numbers.specs.declared.MadeDecimal.TheVariants.{Fits, Past}
+use Rattle.std.specs.Prelude.{Some, None}
 use Rattle.numbers.specs.Making.{zero_decimal, made_of}
 use Rattle.numbers.specs.Points.{point}
 use Rattle.numbers.proofs.SpelledNumbers.{number_read, decimal_begins, decimal_read, point_read}
@@ -66,7 +66,7 @@ pub part_made : (d : Decimal) (kind : ℕ) (minus bare : Bool) (len place : ℕ)
 unfolding made_of part_of
 part_made d kind minus bare len place f = by (fits d)
   where
-    by : (t : Bool) → part_of (cond t (Fits (record { value = d.value; places = d.places })) Past) kind minus bare len place f
+    by : (t : Bool) → part_of (cond t (Some (record { value = d.value; places = d.places })) None) kind minus bare len place f
         ≡ record { kind = kind; minus = minus; bare = bare; size = size_read d t; len = len; fault = join f (record { place = place; number = 4; broken = not t }) }
     by true =
         ap (λ (g : Fault). record { kind = kind; minus = minus; bare = bare; size = size_read d true; len = len; fault = g })

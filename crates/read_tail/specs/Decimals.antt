@@ -1,8 +1,8 @@
 -- The deviation and the confidence that bytes begin with. Assumes nothing.
-use Rattle.std.specs.Prelude.{ℕ, ◌+◌, ◌-◌, Bool, true, false, cond, List, length, drop}
+use Rattle.std.specs.Prelude.{ℕ, ◌+◌, ◌-◌, Bool, true, false, cond, List, length, drop, Option}
 use Rattle.rules.specs.Bytes.{bytes}
 use Rattle.rules.specs.Texts.{starts_with}
-use Rattle.numbers.specs.declared.MadeDecimal.{MadeDecimal}
+use Rattle.numbers.specs.declared.Decimal.{Decimal}
 use Rattle.numbers.specs.declared.DecimalRead.{DecimalRead}
 use Rattle.numbers.specs.declared.FirstByte.TheVariants.{Digit, DigitOrPoint}
 use Rattle.numbers.specs.Making.{zero_decimal, made_number, made_decimal}
@@ -15,7 +15,7 @@ abbrev pub no_part : Fault → DecimalPart
 no_part f = record { kind = 0; minus = false; bare = false; size = zero_decimal; len = 0; fault = f }
 
 -- a decimal at a place, and the number of its refusal; past its bounds it is told as 0
-unfoldable pub part_of : MadeDecimal → ℕ → Bool → Bool → ℕ → ℕ → Fault → DecimalPart
+unfoldable pub part_of : Option Decimal → ℕ → Bool → Bool → ℕ → ℕ → Fault → DecimalPart
 part_of m kind minus bare len place f = record { kind = kind; minus = minus; bare = bare; size = made_decimal m; len = len; fault = join f (numbered (made_number m) place) }
 
 -- where the first digit stands: behind `/` or `*`, or behind one byte more, `-` or the point

@@ -9,7 +9,7 @@ ghost use Rattle.read_tail.specs.Decimals.{no_part, part_of, digit_at, confidenc
 
 use faults::{Fault, check_number, check_refusal};
 use limits::MAX_CHARGE;
-use numbers::{Decimal, FirstByte, MadeDecimal, read_decimal, read_number};
+use numbers::{Decimal, FirstByte, read_decimal, read_number};
 use slices::{begins_with, minus_or_zero, rest};
 
 // A charge: its number, as read_number tells it, how many bytes it has, and the first broken limit. A silent charge is 1.
@@ -73,7 +73,7 @@ fn no_part(f: Fault) -> DecimalPart
 
 // A decimal at a place, as a part.
 fn made_part(
-    made: MadeDecimal,
+    made: Option<Decimal>,
     kind: u8,
     minus: bool,
     bare: bool,
@@ -83,13 +83,23 @@ fn made_part(
 ) -> DecimalPart
     ensures { result ≡ part_of made kind minus bare len place f }
 {
-    DecimalPart {
-        kind,
-        minus,
-        bare,
-        size: made.decimal(),
-        len,
-        fault: check_refusal(f, made.number(), place),
+    match made {
+        Some(size) => DecimalPart {
+            kind,
+            minus,
+            bare,
+            size,
+            len,
+            fault: f,
+        },
+        None => DecimalPart {
+            kind,
+            minus,
+            bare,
+            size: Decimal::zero(),
+            len,
+            fault: check_refusal(f, 4, place),
+        },
     }
 }
 
@@ -104,9 +114,8 @@ pub fn read_confidence(s: &[u8], end: usize, f: Fault) -> DecimalPart
     let bare = begins_with(t, b'.');
     let at = digit_at(bare);
     let d = read_decimal(t, FirstByte::DigitOrPoint);
-    let made = d.made;
     let place = minus_or_zero(end, minus_or_zero(s.len(), at));
-    made_part(made, 1, false, bare, 1 + d.len, place, f)
+    made_part(d.made, 1, false, bare, 1 + d.len, place, f)
 }
 
 // Whether a part begins with `ppm`.
@@ -145,11 +154,10 @@ pub fn read_deviation(s: &[u8], end: usize, f: Fault) -> DecimalPart
     let minus = begins_with(rest(s, 1), b'-');
     let at = digit_at(minus);
     let d = read_decimal(rest(s, at), FirstByte::Digit);
-    let made = d.made;
     let len = at + d.len;
     let place = minus_or_zero(end, minus_or_zero(s.len(), at));
     if begins_ppm(rest(s, len)) {
-        return made_part(made, 2, minus, false, len + 3, place, f);
+        return made_part(d.made, 2, minus, false, len + 3, place, f);
     }
-    made_part(made, 1, minus, false, len, place, f)
+    made_part(d.made, 1, minus, false, len, place, f)
 }

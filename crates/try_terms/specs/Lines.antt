@@ -1,12 +1,11 @@
 -- What is said to a line, as text. Assumes nothing.
-use Rattle.std.specs.Prelude.{ℕ, cond, List, [], ◌∷◌, ◌++◌, eqb, ltb, length, drop, get_or}
+use Rattle.std.specs.Prelude.{ℕ, cond, List, [], ◌∷◌, ◌++◌, eqb, ltb, length, drop, get_or, Option, Some, None}
 use Prim.Native.Char.{code}
 use Rattle.rules.specs.Bytes.{bytes}
 use Rattle.rules.specs.Numbers.{digits}
 use Rattle.rules.specs.Decimals.{decimal_text}
 use Rattle.numbers.specs.declared.Number.{Number}
-use Rattle.numbers.specs.declared.MadeDecimal.{MadeDecimal}
-use Rattle.numbers.specs.declared.MadeDecimal.TheVariants.{Fits, Past}
+use Rattle.numbers.specs.declared.Decimal.{Decimal}
 use Rattle.numbers.specs.declared.DecimalRead.{DecimalRead}
 use Rattle.numbers.specs.Leading.{number_of}
 use Rattle.numbers.specs.Making.{ruled}
@@ -27,9 +26,9 @@ abbrev pub number_said : List ℕ → List ℕ
 number_said text = number_text (number_of text)
 
 -- value without point, decimals and spelling, or that the decimal is past its bounds
-unfoldable pub made_text : MadeDecimal → List ℕ
-made_text (Fits x) = field x.value ++ (field x.places ++ decimal_text (ruled x))
-made_text Past = bytes "past"
+unfoldable pub made_text : Option Decimal → List ℕ
+made_text (Some x) = field x.value ++ (field x.places ++ decimal_text (ruled x))
+made_text None = bytes "past"
 
 -- behind the bytes
 abbrev pub read_text : DecimalRead → List ℕ

@@ -16,7 +16,7 @@ use elements::read_element;
 use faults::Fault;
 use io_answers::put_field;
 use io_lines::{Stream, System, next_line, room};
-use numbers::{FirstByte, MadeDecimal, put_decimal, put_number, read_decimal, read_number};
+use numbers::{FirstByte, put_decimal, put_number, read_decimal, read_number};
 use put_bytes::{put_run, put8};
 use put_formula::{put_preferred, put_symbol};
 use read_formula::formula;
@@ -122,14 +122,13 @@ fn say_decimal(text: &[u8], out: &mut [u8], at: usize) -> usize
 {
     let d = read_decimal(text, FirstByte::DigitOrPoint);
     let p = put_field(out, at, d.len as u64);
-    let made = d.made;
-    match made {
-        MadeDecimal::Fits(x) => {
+    match d.made {
+        Some(x) => {
             let q = put_field(out, p, x.value());
             let r = put_field(out, q, x.places() as u64);
             put_decimal(out, r, x)
         }
-        MadeDecimal::Past => put_run(out, p, b"past"),
+        None => put_run(out, p, b"past"),
     }
 }
 

@@ -1,5 +1,5 @@
 -- The answer to bytes that may be a stored row. Assumes nothing.
-use Rattle.std.specs.Prelude.{ℕ, ◌-◌, Bool, false, cond, List, ◌++◌, eqb, ltb, length, get_or, drop, replicate}
+use Rattle.std.specs.Prelude.{ℕ, ◌-◌, Bool, false, cond, List, ◌++◌, eqb, ltb, length, get_or, drop, replicate, Option, is_some}
 use Rattle.std.proofs.lemmas.List.Edits.{sets}
 use Rattle.rules.specs.Decimals.{decimal_text}
 use Rattle.rules.specs.Answers as rules
@@ -7,8 +7,7 @@ use Rattle.rules.specs.Answers.{refuses}
 use Rattle.rules.specs.Rows.{tab, row_head_size}
 use Rattle.slices.specs.Numbers.{u16_at, u64_at}
 use Rattle.numbers.specs.declared.Decimal.{Decimal}
-use Rattle.numbers.specs.declared.MadeDecimal.{MadeDecimal}
-use Rattle.numbers.specs.Making.{ruled, made_of, made_number, made_decimal}
+use Rattle.numbers.specs.Making.{ruled, made_of, made_decimal}
 use Rattle.answers.specs.declared.Answer.{Answer}
 use Rattle.put_bytes.specs.Puts.{cleared}
 use Rattle.write_table.specs.Writings.{written_of}
@@ -16,19 +15,19 @@ use Rattle.write_row.specs.declared.Head.{Head}
 use Rattle.write_row.specs.Heads.{intensity_at, mz_places_at, intensity_places_at, zero_at}
 use Rattle.answers.specs.Behind.{capped}
 
--- 20 bytes are there, no number is refused, and the last two bytes are zero
-unfoldable pub is_head : List ℕ → ℕ → ℕ → Bool
+-- 20 bytes are there, both numbers are within their bounds, and the last two bytes are zero
+unfoldable pub is_head : List ℕ → Option Decimal → Option Decimal → Bool
 is_head s mz intensity =
-    cond (ltb (length s) row_head_size) false (cond (eqb mz 0) (cond (eqb intensity 0) (eqb (u16_at (drop zero_at s)) 0) false) false)
+    cond (ltb (length s) row_head_size) false (cond (is_some mz) (cond (is_some intensity) (eqb (u16_at (drop zero_at s)) 0) false) false)
 
-abbrev pub mz_in : List ℕ → MadeDecimal
+abbrev pub mz_in : List ℕ → Option Decimal
 mz_in s = made_of (u64_at s) (get_or s mz_places_at 0)
 
-abbrev pub intensity_in : List ℕ → MadeDecimal
+abbrev pub intensity_in : List ℕ → Option Decimal
 intensity_in s = made_of (u64_at (drop intensity_at s)) (get_or s intensity_places_at 0)
 
 unfoldable pub head_of : List ℕ → Head
-head_of s = record { good = is_head s (made_number (mz_in s)) (made_number (intensity_in s)); mz = made_decimal (mz_in s); intensity = made_decimal (intensity_in s) }
+head_of s = record { good = is_head s (mz_in s) (intensity_in s); mz = made_decimal (mz_in s); intensity = made_decimal (intensity_in s) }
 
 -- the first two columns
 unfoldable pub columns_text : Decimal → Decimal → List ℕ

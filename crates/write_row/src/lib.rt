@@ -32,23 +32,19 @@ pub struct Head {
     pub intensity: Decimal,
 }
 
-// Whether a part begins with a head, of which both numbers were tested.
-fn is_head(stored: &[u8], mz: usize, intensity: usize) -> bool
+// Whether a part begins with a head, of which both numbers were tested: there is none where one is past its bounds.
+#[tactic(auto, unfolding(crate::specs::Writings::is_head))]
+fn is_head(stored: &[u8], mz: Option<Decimal>, intensity: Option<Decimal>) -> bool
     ensures { result ≡ is_head stored.now mz intensity }
 {
-    if stored.len() < ROW_HEAD_SIZE {
-        return false;
-    }
-    if mz != 0 {
-        return false;
-    }
-    if intensity != 0 {
-        return false;
-    }
-    u16_at(rest(stored, ZERO_AT)) == 0
+    stored.len() >= ROW_HEAD_SIZE
+        && mz.is_some()
+        && intensity.is_some()
+        && u16_at(rest(stored, ZERO_AT)) == 0
 }
 
 // The head of what may be a stored row.
+#[tactic(auto, unfolding(crate::specs::Writings::head_of))]
 pub fn read_head(stored: &[u8]) -> Head
     ensures { result ≡ head_of stored.now }
 {
@@ -58,9 +54,9 @@ pub fn read_head(stored: &[u8]) -> Head
         byte_of(stored, INTENSITY_PLACES_AT),
     );
     Head {
-        good: is_head(stored, mz.number(), intensity.number()),
-        mz: mz.decimal(),
-        intensity: intensity.decimal(),
+        good: is_head(stored, mz, intensity),
+        mz: mz.unwrap_or(Decimal::zero()),
+        intensity: intensity.unwrap_or(Decimal::zero()),
     }
 }
 
