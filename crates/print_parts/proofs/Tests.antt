@@ -20,6 +20,8 @@ use Rattle.rules.specs.Decimals.{decimal_text}
 use Rattle.rules.specs.Layout.{charge_at, deviation_kind_at, deviation_places_at, confidence_present_at, confidence_places_at, deviation_at, confidence_at, sign_at, content_kind_at, count_at, content_size_at, isotope_kind_at, isotope_nucleons_at, isotope_element_at}
 use Rattle.slices.specs.Numbers.{u16_at}
 use Rattle.put_formula.specs.Preferred.{symbol_text, printed_units}
+use Rattle.changes.specs.declared.Sign.{Sign}
+use Rattle.changes.specs.Signs.{sign_of_byte}
 use Rattle.print_count.specs.Heads.{sign_bytes, count_text, head_text}
 use Rattle.slices.specs.Numbers.{u32_at, u64_at}
 use Rattle.print_parts.specs.Numbers.{number_at}
@@ -60,9 +62,9 @@ module _ (l : List ℕ) {kind : ℕ} (is : kind ≡ get_or l content_kind_at 0) 
     what_electron g h = rw (ne_eqb (get_or l content_kind_at 0) 0 (λ z. g (is ∙ z)), ne_eqb (get_or l content_kind_at 0) 1 (λ z. h (is ∙ z)))
 
 -- sign and count, of a loss, an item or an isotope
-module _ (s : List ℕ) {t : List ℕ} {sign count : ℕ} (a : sign ≡ get_or s sign_at 0) (e : t ≡ drop count_at s) (b : count ≡ u16_at t) where
-  opening : (w : List ℕ) → head_text sign count ++ w ≡ sign_bytes (get_or s sign_at 0) ++ (count_text (u16_at (drop count_at s)) ++ w)
-  opening w = append_assoc (sign_bytes sign) (count_text count) w ∙ ap₂ (λ (x y : ℕ). sign_bytes x ++ (count_text y ++ w)) a (b ∙ ap u16_at e)
+module _ (s : List ℕ) {t : List ℕ} {byte count : ℕ} {sign : Sign} (a : byte ≡ get_or s sign_at 0) (g : sign ≡ sign_of_byte byte) (e : t ≡ drop count_at s) (b : count ≡ u16_at t) where
+  opening : (w : List ℕ) → head_text sign count ++ w ≡ sign_bytes (sign_of_byte (get_or s sign_at 0)) ++ (count_text (u16_at (drop count_at s)) ++ w)
+  opening w = append_assoc (sign_bytes sign) (count_text count) w ∙ ap₂ (λ (x : Sign) (y : ℕ). sign_bytes x ++ (count_text y ++ w)) (g ∙ ap sign_of_byte a) (b ∙ ap u16_at e)
 
   pub change_made : (u t : List ℕ) → head_text sign count ++ content_printed s u t ≡ change_printed s u t
   unfolding change_printed

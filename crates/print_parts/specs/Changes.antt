@@ -4,6 +4,7 @@ use Rattle.rules.specs.Bytes.{bytes}
 use Rattle.rules.specs.Texts.{in_brackets}
 use Rattle.rules.specs.Limits.{max_units, max_text}
 use Rattle.rules.specs.Layout.{loss_width, unit_width, sign_at, content_kind_at, count_at, content_size_at}
+use Rattle.changes.specs.Signs.{sign_of_byte}
 use Rattle.put_bytes.specs.Puts.{Put}
 use Rattle.slices.specs.Numbers.{u16_at}
 use Rattle.put_formula.specs.Preferred.{printed_units}
@@ -23,7 +24,7 @@ content_printed l u t =
     cond (eqb (get_or l content_kind_at 0) 0) (printed_units (change_units l) u) (cond (eqb (get_or l content_kind_at 0) 1) (in_brackets (take (change_name l) t)) (bytes "e"))
 
 unfoldable pub change_printed : List ℕ → List ℕ → List ℕ → List ℕ
-change_printed l u t = sign_bytes (get_or l sign_at 0) ++ (count_text (u16_at (drop count_at l)) ++ content_printed l u t)
+change_printed l u t = sign_bytes (sign_of_byte (get_or l sign_at 0)) ++ (count_text (u16_at (drop count_at l)) ++ content_printed l u t)
 
 -- n of them
 unfoldable pub changes_printed : ℕ → List ℕ → List ℕ → List ℕ → List ℕ

@@ -11,6 +11,7 @@ ghost use Rattle.print_parts.specs.Changes.{change_units, change_name, content_p
 ghost use Rattle.print_parts.specs.Isotopes.{which_printed, isotope_printed, isotopes_printed};
 ghost use Rattle.print_parts.specs.Tails.{charge_printed, signed_printed, deviation_printed, confidence_printed, tail_printed};
 
+use changes::Sign;
 use layout::{
     CHARGE_AT, CONFIDENCE_AT, CONFIDENCE_PLACES_AT, CONFIDENCE_PRESENT_AT, CONTENT_KIND_AT,
     CONTENT_SIZE_AT, COUNT_AT, DEVIATION_AT, DEVIATION_KIND_AT, DEVIATION_PLACES_AT,
@@ -91,7 +92,7 @@ pub fn print_change(out: &mut [u8], to: usize, l: &[u8], u: &[u8], t: &[u8]) -> 
     let a = put_head(
         out,
         to,
-        byte_of(l, SIGN_AT),
+        Sign::from(byte_of(l, SIGN_AT)),
         u16_at(rest(l, COUNT_AT)) as u32,
     );
     print_content(out, a, l, u, t)
@@ -141,7 +142,7 @@ fn print_isotope(out: &mut [u8], to: usize, s: &[u8]) -> usize
     let a = put_head(
         out,
         to,
-        byte_of(s, ISOTOPE_SIGN_AT),
+        Sign::from(byte_of(s, ISOTOPE_SIGN_AT)),
         u16_at(rest(s, ISOTOPE_SHIFT_AT)) as u32,
     );
     let b = put8(out, a, b'i');

@@ -1,10 +1,9 @@
 -- What is read of losses and of adduct items that are spelled, and how far any go. Assumes nothing.
 use Prim.Native.Nat.{ℕ, suc, ◌+◌, ◌-◌, ◌≤◌}
 use mathlib.Core.Path.{◌≡◌, refl, ap, ◌∙◌}
-use mathlib.Core.Bool.{true, false, cond}
+use mathlib.Core.Bool.{true, false}
 use mathlib.Core.List.{List, [], ◌∷◌, ◌++◌, map}
 use native.Mathlib.Omega.{arith}
-use lib.Dec.{eqb}
 use lib.ListN.{length, length-map}
 use Rattle.lang.specs.Re.{Rng, in_c}
 use Rattle.lang.specs.Parts.{items, flat}
@@ -18,6 +17,7 @@ use Rattle.rules.specs.Adducts.{Added, added_formula, electron, added_map, Item,
 use Rattle.rules.specs.Limits.{max_losses, max_items, row_marks, loss_marks, item_marks}
 use Rattle.rules.specs.Fields.{filled}
 use Rattle.rules.specs.Stored.{lost_units, lost_name, added_units}
+use Rattle.changes.specs.Contents.{content_units, content_bytes}
 use Rattle.faults.specs.declared.Fault.{Fault}
 use Rattle.faults.specs.Faults.{fault, after}
 use Rattle.read_formula.proofs.Ends.{EndsFormula}
@@ -26,7 +26,7 @@ use Rattle.read_changes.specs.Rows.{Sums, sums, change_size, count_change, chang
 use Rattle.read_changes.proofs.Walks.{held_within}
 use Rattle.read_changes.proofs.Measures.{change_long, change_stored}
 use Rattle.read_changes.proofs.ChangeLoop.{size_moves}
-use Rattle.read_changes.proofs.Spelled.{what_kind, what_size, of_lost, of_loss, loss_text_lem, loss_marks_lem, of_added, of_item, item_text_lem, item_marks_lem}
+use Rattle.read_changes.proofs.Spelled.{what_content, of_lost, of_loss, loss_text_lem, loss_marks_lem, of_added, of_item, item_text_lem, item_marks_lem}
 use Rattle.read_changes.proofs.Sums.{row_first, row_ends, row_read}
 pub use Rattle.read_changes.proofs.Spelled.{Spelled, change_text, change_marks}
 pub use Rattle.read_changes.proofs.OneChange.{change_read, change_read_lem}
@@ -38,11 +38,11 @@ same_units x = omega (arith, length-map x.more (unit_map filled))
 
 -- ---- losses
 
-lost_units_lem : (w : Lost Written) → cond (eqb (what_kind (of_lost w)) 0) (what_size (of_lost w)) 0 ≡ length (lost_units (lost_map filled w))
+lost_units_lem : (w : Lost Written) → content_units (what_content (of_lost w)) ≡ length (lost_units (lost_map filled w))
 lost_units_lem (lost_formula x) = same_units x
 lost_units_lem (lost_name_lem n) = refl
 
-lost_names : (w : Lost Written) → cond (eqb (what_kind (of_lost w)) 1) (what_size (of_lost w)) 0 ≡ length (lost_name (lost_map filled w))
+lost_names : (w : Lost Written) → content_bytes (what_content (of_lost w)) ≡ length (lost_name (lost_map filled w))
 lost_names (lost_formula x) = refl
 lost_names (lost_name_lem n) = refl
 
@@ -67,11 +67,11 @@ losses_end xs k e = row_ends of_loss loss_text loss_text_lem xs k e
 
 -- ---- adduct items
 
-added_units_lem : (w : Added Written) → cond (eqb (what_kind (of_added w)) 0) (what_size (of_added w)) 0 ≡ length (added_units (added_map filled w))
+added_units_lem : (w : Added Written) → content_units (what_content (of_added w)) ≡ length (added_units (added_map filled w))
 added_units_lem (added_formula x) = same_units x
 added_units_lem electron = refl
 
-added_names : (w : Added Written) → cond (eqb (what_kind (of_added w)) 1) (what_size (of_added w)) 0 ≡ 0
+added_names : (w : Added Written) → content_bytes (what_content (of_added w)) ≡ 0
 added_names (added_formula x) = refl
 added_names electron = refl
 

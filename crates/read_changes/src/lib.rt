@@ -3,24 +3,23 @@
 #![tactic(auto)]
 
 ghost use Rattle.std.specs.Prelude.{◌≡◌};
-ghost use Rattle.read_changes.specs.Changes.{head_fault, change_with, content_of, change_of, units_in, text_in};
+ghost use Rattle.read_changes.specs.Changes.{head_fault, change_with, content_of, change_of};
 ghost use Rattle.read_changes.specs.Rows.{changes_of};
 
+use changes::{Content, Sign};
 use faults::{Fault, check_count, check_number};
 use limits::MAX_COUNT;
 use read_formula::{begins_unit, formula};
 use read_opening::{Head, begins_change, name_in_brackets, read_head};
 use slices::{advance, begins_with, minus_or_zero, rest};
 
-// A loss or an adduct item. Kind 0: a formula of `size` units; 1: a name of `size` bytes; 2: an electron. The formula, or the bracket
-// before the name, begins `start` bytes behind the sign.
+// A loss or an adduct item. The formula, or the bracket before the name, begins `start` bytes behind the sign.
 #[derive(Clone, Copy)]
 pub struct ChangeRead {
-    pub sign: u8,
-    pub kind: u8,
+    pub sign: Sign,
     pub count: u32,
     pub start: usize,
-    pub size: usize,
+    pub content: Content,
     pub len: usize,
     pub fault: Fault,
 }
@@ -49,15 +48,14 @@ fn head_fault(bound: usize, i: usize, h: Head, end: usize, left: usize, f: Fault
 }
 
 // A loss or adduct item with its head, as far as the part goes.
-fn with_head(s: &[u8], h: Head, kind: u8, size: usize, len: usize, fault: Fault) -> ChangeRead
-    ensures { result ≡ change_with s.now h kind size len fault }
+fn with_head(s: &[u8], h: Head, content: Content, len: usize, fault: Fault) -> ChangeRead
+    ensures { result ≡ change_with s.now h content len fault }
 {
     ChangeRead {
         sign: h.sign,
-        kind,
         count: h.count,
         start: h.len,
-        size,
+        content,
         len: advance(h.len, len, s.len()),
         fault,
     }
@@ -71,14 +69,14 @@ fn read_content(s: &[u8], h: Head, end: usize, f: Fault) -> ChangeRead
     if begins_unit(t) {
         let x = formula(t, end, f);
         let g = x.fault;
-        return with_head(s, h, 0, x.units, x.len, g);
+        return with_head(s, h, Content::Formula { units: x.units }, x.len, g);
     }
     if begins_with(t, b'[') {
         let x = name_in_brackets(t, end, f);
         let g = x.fault;
-        return with_head(s, h, 1, x.size, x.len, g);
+        return with_head(s, h, Content::Name { bytes: x.size }, x.len, g);
     }
-    with_head(s, h, 2, 0, 1, f)
+    with_head(s, h, Content::Electron, 1, f)
 }
 
 // The loss or adduct item that a part begins with.
@@ -88,26 +86,6 @@ pub fn read_change(bound: usize, i: usize, s: &[u8], end: usize, f: Fault) -> Ch
     let h = read_head(s);
     let g = head_fault(bound, i, h, end, s.len(), f);
     read_content(s, h, end, g)
-}
-
-// How many units it stores.
-pub fn units_in(x: ChangeRead) -> usize
-    ensures { result ≡ units_in x }
-{
-    if x.kind == 0 {
-        return x.size;
-    }
-    0
-}
-
-// How many name bytes it stores.
-pub fn text_in(x: ChangeRead) -> usize
-    ensures { result ≡ text_in x }
-{
-    if x.kind == 1 {
-        return x.size;
-    }
-    0
 }
 
 // All that a part begins with.
@@ -123,8 +101,8 @@ pub fn read_changes(bound: usize, s: &[u8], end: usize, f: Fault) -> Row
         let x = read_change(bound, n, rest(s, at), end, fault);
         let g = x.fault;
         fault = g;
-        units += units_in(x);
-        text += text_in(x);
+        units += x.content.units();
+        text += x.content.name_bytes();
         at += x.len;
         n += 1;
     }

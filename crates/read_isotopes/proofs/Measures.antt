@@ -16,6 +16,7 @@ use Rattle.faults.specs.Faults.{fault}
 use Rattle.read_formula.specs.Formulas.{Counted}
 use Rattle.read_opening.specs.Heads.{head_of, begins_isotope}
 use Rattle.read_opening.proofs.Measures.{isotope_some}
+use Rattle.read_isotopes.specs.declared.IsotopeKind.TheVariants as kind
 use Rattle.read_isotopes.specs.Isotopes.{isotope_fault, isotope_with, isotope_in, isotope_of}
 use Rattle.read_isotopes.specs.Rows.{isotope_size, count_isotope, isotopes_of}
 
@@ -41,8 +42,8 @@ size_is i end s f = by (first_in digit (drop (place_behind s) s)) (starts_with (
         let n = number_of t in
         let e = element_of (drop n.len t) in
         let l = length s in
-        cond d (isotope_with h 2 n.value e.number (min (min (at + n.len) l + e.len) l) (isotope_fault i h n.value at end l f))
-        (cond a (isotope_with h 1 0 0 (min (at + 1) l) (isotope_fault i h 0 at end l f)) (isotope_with h 0 0 0 at (isotope_fault i h 0 at end l f)))).len
+        cond d (isotope_with h (kind.Specific n.value e.number) (min (min (at + n.len) l + e.len) l) (isotope_fault i h n.value at end l f))
+        (cond a (isotope_with h kind.Average (min (at + 1) l) (isotope_fault i h 0 at end l f)) (isotope_with h kind.Plain at (isotope_fault i h 0 at end l f)))).len
         ≡ size_in s (place_behind s) d a
     by true a = refl
     by false true = refl

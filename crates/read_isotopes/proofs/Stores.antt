@@ -12,7 +12,8 @@ use Rattle.rules.specs.Formulas.{Written}
 use Rattle.rules.specs.Losses.{sign_text}
 use Rattle.rules.specs.Isotopes.{Shift, shift_text, shift_map, Specific, specific_text, specific_map, Isotopes, no_isotope, plain_isotope, average_isotope, specific_isotopes, isotopes_text, isotopes_map}
 use Rattle.rules.specs.Fields.{filled}
-use Rattle.rules.specs.Preferred.{sign_rank}
+use Rattle.changes.specs.Signs.{sign_number}
+use Rattle.changes.proofs.Signs.{sign_read, sign_ranked}
 use Rattle.rules.specs.Stored.{u8, u16, stores, isotope_record, specific_record, isotope_records}
 use Rattle.rules.specs.Limits.{max_count, bare, part, opt_part, number_part, shift_marks, specific_marks, isotopes_marks}
 use Rattle.rules.proofs.Keeps.{kept_tail, kept_part, row_each}
@@ -75,11 +76,11 @@ count_filled (written n) h = omega arith
 
 -- of a shift as it is read
 abbrev read_record : Shift Written → ℕ → ℕ → ℕ → List ℕ
-read_record x kind nucleons element = stores (u8 (sign_rank x.sign) ∷ u8 kind ∷ u16 (count_told x.count) ∷ u16 nucleons ∷ u16 element ∷ [])
+read_record x kind nucleons element = stores (u8 (sign_number (sign_read x.sign)) ∷ u8 kind ∷ u16 (count_told x.count) ∷ u16 nucleons ∷ u16 element ∷ [])
 
 shift_record : (x : Shift Written) (kind nucleons element : ℕ) → ShiftTold x → read_record x kind nucleons element ≡ stores (isotope_record (shift_map filled x) kind nucleons element)
 shift_record x kind nucleons element h =
-    ap (λ (n : ℕ). stores (u8 (sign_rank x.sign) ∷ u8 kind ∷ u16 n ∷ u16 nucleons ∷ u16 element ∷ [])) (count_filled x.count h)
+    λ i. stores (u8 (sign_ranked x.sign i) ∷ u8 kind ∷ u16 (count_filled x.count h i) ∷ u16 nucleons ∷ u16 element ∷ [])
 
 abbrev read_specific : Specific Written → List ℕ
 read_specific x = read_record x.shift 2 (capped x.nucleons.value) (atomic_number x.symbol)

@@ -13,9 +13,9 @@ use Rattle.rules.specs.Bytes.{bytes, digit, text_byte}
 use Rattle.rules.specs.Texts.{first_in, starts_with, is_name, Text, braced_text, bracket_text}
 use Rattle.rules.specs.Numbers.{From, number_text}
 use Rattle.rules.specs.Losses.{Sign, minus, plus, sign_text}
-use Rattle.rules.specs.Preferred.{sign_rank}
 use Rattle.rules.specs.Stored.{bytes_of}
 use Rattle.rules.specs.Limits.{max_text, length_mark, opt_part, closed_part}
+use Rattle.changes.proofs.Signs.{sign_read}
 use Rattle.numbers.specs.declared.Number.{Number}
 use Rattle.numbers.specs.Leading.{number_of}
 use Rattle.numbers.proofs.SpelledNumbers.{number_read, number_silent}
@@ -74,11 +74,11 @@ module _ {m : ℕ} (g : Sign) (c : Opt (From m)) (k : List ℕ) where
       by plus = drop-append-add (43 ∷ []) (opt_text number_text c ++ k) (length (opt_text number_text c)) ∙ drop-append_seam (opt_text number_text c) k
 
   module _ (d : first_in digit k ≡ false) where
-    pub head_read_lem : head_of (sign_text g ++ (opt_text number_text c ++ k)) ≡ record { sign = sign_rank g; count = count_told c; len = 1 + length (opt_text number_text c) }
+    pub head_read_lem : head_of (sign_text g ++ (opt_text number_text c ++ k)) ≡ record { sign = sign_read g; count = count_told c; len = 1 + length (opt_text number_text c) }
     unfolding head_of
     head_read_lem = by g
       where
-        by : (g : Sign) → head_of (sign_text g ++ (opt_text number_text c ++ k)) ≡ record { sign = sign_rank g; count = count_told c; len = 1 + length (opt_text number_text c) }
+        by : (g : Sign) → head_of (sign_text g ++ (opt_text number_text c ++ k)) ≡ record { sign = sign_read g; count = count_told c; len = 1 + length (opt_text number_text c) }
         by minus = rw (count_number_lem c k d, count_one c, count_long c)
         by plus = rw (count_number_lem c k d, count_one c, count_long c)
 

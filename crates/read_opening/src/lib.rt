@@ -8,6 +8,7 @@ ghost use Rattle.faults.specs.Faults.{join};
 ghost use Rattle.read_opening.specs.Heads.{sign_of, head_of, behind, begins_sign, begins_change, begins_isotope};
 ghost use Rattle.read_opening.specs.Enclosed.{long_mark, enclosed_of, text_of, name_of};
 
+use changes::Sign;
 use faults::Fault;
 use limits::MAX_TEXT;
 use numbers::read_number;
@@ -15,10 +16,10 @@ use read_formula::or_one;
 use slices::{advance, begins_with, minus_or_zero, rest};
 use texts::{name_len, text_len};
 
-// A sign, 0 for `-` and 1 for `+`, and a count, as read_number tells it; a silent count is 1.
+// A sign, and a count, as read_number tells it; a silent count is 1.
 #[derive(Clone, Copy)]
 pub struct Head {
-    pub sign: u8,
+    pub sign: Sign,
     pub count: u32,
     pub len: usize,
 }
@@ -33,23 +34,21 @@ pub struct Enclosed {
 
 // ---- sign and count
 
-fn sign(s: &[u8]) -> u8
+fn sign(s: &[u8]) -> Sign
     ensures { result ≡ sign_of s.now }
 {
     if begins_with(s, b'+') {
-        return 1;
+        Sign::Plus
+    } else {
+        Sign::Minus
     }
-    0
 }
 
 // Whether a part begins with a sign.
 pub fn begins_sign(s: &[u8]) -> bool
     ensures { result ≡ begins_sign s.now }
 {
-    if begins_with(s, b'+') {
-        return true;
-    }
-    begins_with(s, b'-')
+    begins_with(s, b'+') || begins_with(s, b'-')
 }
 
 // The sign and the count that a part begins with.
@@ -73,23 +72,19 @@ fn is_counted_i(s: &[u8]) -> bool
 }
 
 // Whether a part begins with an isotope: a sign, and the `i` behind its count.
+#[tactic(auto, unfolding(crate::specs::Heads::begins_isotope))]
 pub fn begins_isotope(s: &[u8]) -> bool
     ensures { result ≡ begins_isotope s.now }
 {
-    if !begins_sign(s) {
-        return false;
-    }
-    is_counted_i(s)
+    begins_sign(s) && is_counted_i(s)
 }
 
 // Whether a part begins with a loss or an adduct item: a sign that begins no isotope.
+#[tactic(auto, unfolding(crate::specs::Heads::begins_change))]
 pub fn begins_change(s: &[u8]) -> bool
     ensures { result ≡ begins_change s.now }
 {
-    if !begins_sign(s) {
-        return false;
-    }
-    !is_counted_i(s)
+    begins_sign(s) && !is_counted_i(s)
 }
 
 // ---- texts in braces, names in brackets

@@ -22,7 +22,7 @@ use Rattle.sort_changes.proofs.Gathers.{gathered_one, here_long, one_at}
 
 -- a slot without a key
 abbrev pub keyless : ChangeRead → ℕ → Slot
-keyless x start = record { sign = x.sign; kind = x.kind; count = x.count; size = x.size; start = start; key = 0; len = 0 }
+keyless x start = record { sign = x.sign; count = x.count; content = x.content; start = start; key = 0; len = 0 }
 
 module _ (keys s : List ℕ) where
   -- what is got of the first

@@ -11,9 +11,9 @@ use Rattle.lang.specs.Order.{Each, none, next, insert}
 use Rattle.lang.specs.Walk.{Walked}
 use Rattle.lang.proofs.Walks.{walk_ends}
 use Rattle.rules.specs.Numbers.{number_text}
-use Rattle.rules.specs.Preferred.{sign_rank}
 use Rattle.rules.specs.Limits.{max_losses, max_text}
 use Rattle.rules.proofs.Totals.{perm_length}
+use Rattle.changes.proofs.Signs.{sign_read}
 use Rattle.put_bytes.specs.Puts.{max_place}
 use Rattle.faults.specs.declared.Fault.{Fault}
 use Rattle.faults.specs.Faults.{fault}
@@ -42,7 +42,7 @@ use Rattle.sort_changes.proofs.SlotHolds.{what_key, count_value, spelled_events,
 
 -- a slot of the bytes `all` stands for a spelled loss or adduct item, and stores what this stores in section j
 pub record Stands {m : ℕ} (j : ℕ) (all keys : List ℕ) (y : Slot) (x : Spelled m) : Type 0 where
-  pub sign : y.sign ≡ sign_rank x.sign
+  pub sign : y.sign ≡ sign_read x.sign
   pub count : y.count ≡ count_value x.count
   pub text : slot_text keys y ≡ what_key x.what
   pub events : slot_events j all y ≡ spelled_events j x
@@ -101,7 +101,7 @@ module _ {m : ℕ} (j : ℕ) (all : List ℕ) (a : Got) (x : Spelled m) (k : Lis
               sign = refl;
               count = count_told_lem x.count f.count;
               text = ap (λ (n : ℕ). take n (drop a.used keys)) l ∙ text_there a.keys a.used t (omega arith);
-              events = events_told x k e j all y refl refl (count_told_lem x.count f.count) refl r f.units;
+              events = events_told x k e j all y refl (count_told_lem x.count f.count) refl r f.units;
             };
         room = length-sets a.keys a.used t;
         later = omega arith;

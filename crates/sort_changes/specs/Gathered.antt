@@ -23,7 +23,7 @@ pub record Got : Type 0 where
 -- the slot of a change read at the place `at` of `all` bytes; its text stands among the keys from `used` up to `next`
 abbrev pub slot_from : ℕ → ℕ → ℕ → ChangeRead → ℕ → Slot
 slot_from all at used x next =
-    record { sign = x.sign; kind = x.kind; count = x.count; size = x.size; start = min (at + x.start) all; key = used; len = next - used }
+    record { sign = x.sign; count = x.count; content = x.content; start = min (at + x.start) all; key = used; len = next - used }
 
 abbrev pub slot_of : ℕ → Got → ChangeRead → ℕ → Slot
 slot_of all a x next = slot_from all a.at a.used x next

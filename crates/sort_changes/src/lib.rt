@@ -10,6 +10,7 @@ ghost use Rattle.sort_changes.specs.Ways.{BeginsSo};
 ghost use Rattle.sort_changes.specs.Events.{slot_record, slot_events, slots_events, StoresChanges};
 ghost use Rattle.sort_changes.specs.Spelled.{slot_spelled, slots_spelled, SpellsMany, SpellsChanges};
 
+use changes::Content;
 use faults::Fault;
 use layout::{TEXT_SECTION, UNIT_SECTION};
 use limits::{MAX_LOSSES, MAX_TEXT};
@@ -45,14 +46,14 @@ pub struct Arranged {
 fn put_key(keys: &mut [u8], to: usize, s: &[u8], x: ChangeRead) -> usize
     ensures { Put keys.old to (key_text s.now x) keys.new result }
 {
-    if x.kind == 0 {
-        return put_preferred(keys, to, rest(s, x.start), x.size);
+    match x.content {
+        Content::Formula { units } => put_preferred(keys, to, rest(s, x.start), units),
+        Content::Name { .. } | Content::Electron => put_run(
+            keys,
+            to,
+            part(s, x.start, slices::minus_or_zero(x.len, x.start)),
+        ),
     }
-    put_run(
-        keys,
-        to,
-        part(s, x.start, slices::minus_or_zero(x.len, x.start)),
-    )
 }
 
 // The first that a part begins with. Its limits are not asked for here.
@@ -75,9 +76,8 @@ fn gather_one(g: Gathered, s: &[u8], keys: &mut [u8]) -> Gathered
     let next = put_key(keys, g.used, t, x);
     let y = Slot {
         sign: x.sign,
-        kind: x.kind,
         count: x.count,
-        size: x.size,
+        content: x.content,
         start: slices::advance(g.at, x.start, s.len()),
         key: g.used,
         len: slices::minus_or_zero(next, g.used),
@@ -135,10 +135,10 @@ fn how_many(s: &[u8]) -> Begins
 fn put_slot_record(out: &mut [u8], to: usize, x: Slot) -> usize
     ensures { Put out.old to (slot_record x) out.new result }
 {
-    let a = put_le(out, to, x.sign as u64, 1);
-    let b = put_le(out, a, x.kind as u64, 1);
+    let a = put_le(out, to, u8::from(x.sign) as u64, 1);
+    let b = put_le(out, a, x.content.number() as u64, 1);
     let c = put_le(out, b, x.count as u64, 2);
-    put_le(out, c, x.size as u64, 2)
+    put_le(out, c, x.content.size() as u64, 2)
 }
 
 // A loss or an adduct item: its record in section j, and its units or its name.
@@ -147,19 +147,21 @@ fn put_slot(out: &mut [u8], c: Cursors, j: usize, s: &[u8], x: Slot) -> Cursors
 {
     let a = put_slot_record(out, cursor(c, j), x);
     let d = with_cursor(c, j, a);
-    if x.kind == 0 {
-        let b = put_records(out, cursor(d, UNIT_SECTION), rest(s, x.start), x.size);
-        return with_cursor(d, UNIT_SECTION, b);
+    match x.content {
+        Content::Formula { units } => {
+            let b = put_records(out, cursor(d, UNIT_SECTION), rest(s, x.start), units);
+            with_cursor(d, UNIT_SECTION, b)
+        }
+        Content::Name { bytes } => {
+            let b = put_run(
+                out,
+                cursor(d, TEXT_SECTION),
+                part(rest(s, x.start), 1, bytes),
+            );
+            with_cursor(d, TEXT_SECTION, b)
+        }
+        Content::Electron => d,
     }
-    if x.kind == 1 {
-        let b = put_run(
-            out,
-            cursor(d, TEXT_SECTION),
-            part(rest(s, x.start), 1, x.size),
-        );
-        return with_cursor(d, TEXT_SECTION, b);
-    }
-    d
 }
 
 // All slots.
@@ -201,9 +203,8 @@ pub fn store_changes(out: &mut [u8], c: Cursors, j: usize, s: &[u8]) -> Arranged
         Begins::One(x) => {
             let y = Slot {
                 sign: x.sign,
-                kind: x.kind,
                 count: x.count,
-                size: x.size,
+                content: x.content,
                 start: slices::advance(0, x.start, s.len()),
                 key: 0,
                 len: 0,

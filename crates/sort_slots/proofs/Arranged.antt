@@ -11,6 +11,7 @@ use Rattle.rules.specs.Numbers.{Number}
 use Rattle.rules.specs.Losses.{Sign, Loss, lost_text, lost_map}
 use Rattle.rules.specs.Adducts.{Item, added_text, added_map}
 use Rattle.rules.specs.Preferred.{rank, sign_rank, key, count_or1, shortened, loss_key, item_key, loss_le, item_le}
+use Rattle.changes.specs.Signs.{sign_number}
 use Rattle.sort_slots.specs.declared.Slot.{Slot}
 use Rattle.sort_slots.specs.Slots.{slot_text, slot_key, slot_le, fed_into, feed, Holds}
 use Rattle.sort_slots.specs.Stands.{StandsLoss, StandsItem, Arranged}
@@ -48,7 +49,7 @@ arranged_sorted {R = R} {before = before} {slots = slots} {l = l} o anti r =
 -- ---- losses and adduct items
 
 -- a slot with this text, sign and count has the key that the rules give these
-slot_key_lem : (keys : List ℕ) (x : Slot) (t : List ℕ) (g : Sign) (n : ℕ) → slot_text keys x ≡ t → x.sign ≡ sign_rank g → x.count ≡ n → slot_key keys x ≡ key t g n
+slot_key_lem : (keys : List ℕ) (x : Slot) (t : List ℕ) (g : Sign) (n : ℕ) → slot_text keys x ≡ t → sign_number x.sign ≡ sign_rank g → x.count ≡ n → slot_key keys x ≡ key t g n
 slot_key_lem keys x t g n e f h = λ i. map rank (e i) ++ (0 ∷ f i ∷ h i ∷ [])
 
 pub loss_key_lem : (keys : List ℕ) (x : Slot) (l : Loss Number) → StandsLoss keys x l → slot_key keys x ≡ loss_key l

@@ -12,6 +12,7 @@ use Rattle.std.proofs.Common.{Ordering}
 use Rattle.std.specs.declared.cmp.Ordering.TheVariants.{Less, Equal, Greater}
 use Rattle.lang.specs.Order.{lex_le}
 use Rattle.rules.specs.Preferred.{rank}
+use Rattle.changes.specs.Signs.{sign_number}
 use Rattle.sort_slots.specs.declared.Slot.{Slot}
 use Rattle.sort_slots.specs.Slots.{slot_text, slot_le}
 
@@ -68,12 +69,12 @@ then_then Equal q r = refl
 then_then Greater q r = refl
 
 pub compared : (keys : List ℕ) (x y : Slot) {a b : List ℕ} → a ≡ slot_text keys x → b ≡ slot_text keys y
-    → is_le (ordering_then (ordering_then (slice_cmp nat_cmp (map rank a) (map rank b)) (nat_cmp x.sign y.sign)) (nat_cmp x.count y.count)) ≡ slot_le keys x y
+    → is_le (ordering_then (ordering_then (slice_cmp nat_cmp (map rank a) (map rank b)) (nat_cmp (sign_number x.sign) (sign_number y.sign))) (nat_cmp x.count y.count)) ≡ slot_le keys x y
 unfolding slot_le
 compared keys x y {a} {b} e f =
-    let u = x.sign ∷ x.count ∷ [] in
-    let v = y.sign ∷ y.count ∷ [] in
-    let rest = first x.sign y.sign (x.count ∷ []) (y.count ∷ []) (nat_cmp x.count y.count) (last x.count y.count) in
-    (λ i. is_le (then_then (slice_cmp nat_cmp (map rank a) (map rank b)) (nat_cmp x.sign y.sign) (nat_cmp x.count y.count) i))
-    ∙ texts u v (ordering_then (nat_cmp x.sign y.sign) (nat_cmp x.count y.count)) rest a b
+    let u = sign_number x.sign ∷ x.count ∷ [] in
+    let v = sign_number y.sign ∷ y.count ∷ [] in
+    let rest = first (sign_number x.sign) (sign_number y.sign) (x.count ∷ []) (y.count ∷ []) (nat_cmp x.count y.count) (last x.count y.count) in
+    (λ i. is_le (then_then (slice_cmp nat_cmp (map rank a) (map rank b)) (nat_cmp (sign_number x.sign) (sign_number y.sign)) (nat_cmp x.count y.count) i))
+    ∙ texts u v (ordering_then (nat_cmp (sign_number x.sign) (sign_number y.sign)) (nat_cmp x.count y.count)) rest a b
     ∙ ap₂ (λ (s w : List ℕ). lex_le (map rank s ++ (0 ∷ u)) (map rank w ++ (0 ∷ v))) e f

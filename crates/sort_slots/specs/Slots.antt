@@ -3,6 +3,7 @@ use Rattle.std.specs.Prelude.{ℕ, ◌+◌, ◌≤◌, ◌≡◌, Bool, cond, Li
 use Rattle.lang.specs.Order.{lex_le, insert}
 use Rattle.rules.specs.Preferred.{rank}
 use Rattle.rules.specs.Limits.{max_losses}
+use Rattle.changes.specs.Signs.{sign_number}
 use Rattle.sort_slots.specs.declared.Slot.{Slot}
 
 -- the bytes of a text that are there
@@ -14,7 +15,7 @@ slot_text keys x = text_at keys x.key x.len
 
 -- what is compared, number by number, as `key` of the rules has it: the text, its end, the sign, the count
 abbrev pub slot_key : List ℕ → Slot → List ℕ
-slot_key keys x = map rank (slot_text keys x) ++ (0 ∷ x.sign ∷ x.count ∷ [])
+slot_key keys x = map rank (slot_text keys x) ++ (0 ∷ sign_number x.sign ∷ x.count ∷ [])
 
 unfoldable pub slot_le : List ℕ → Slot → Slot → Bool
 slot_le keys x y = lex_le (slot_key keys x) (slot_key keys y)

@@ -7,18 +7,18 @@ ghost use Rattle.rules.specs.Preferred.{rank};
 ghost use Rattle.sort_slots.specs.declared.Slot.{Slot};
 ghost use Rattle.sort_slots.specs.Slots.{slot_le, no_slots, with_slot};
 
+use changes::{Content, Sign};
 use limits::MAX_LOSSES;
 use slices::part;
 use std::marker::Model;
 
-// A loss or an adduct item. Its text, which stands after sign and count, is keys[key .. key + len] of the buffer that is lent beside it;
-// the sign is 0 for `-` and 1 for `+`. Kind, size and start are the caller's, and are carried along.
+// A loss or an adduct item. Its text, which stands after sign and count, is keys[key .. key + len] of the buffer that is lent beside it.
+// Content and start are the caller's, and are carried along.
 #[derive(Clone, Copy, Default)]
 pub struct Slot {
-    pub sign: u8,
-    pub kind: u8,
+    pub sign: Sign,
     pub count: u32,
-    pub size: usize,
+    pub content: Content,
     pub start: usize,
     pub key: usize,
     pub len: usize,

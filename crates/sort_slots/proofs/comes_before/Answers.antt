@@ -8,6 +8,7 @@ use Rattle.std.proofs.lemmas.Iterator.{YieldsList-from_slice, YieldsList-from_ma
 use Rattle.std.proofs.lemmas.Iterator.Consumers.{YieldsList-at}
 use Rattle.std.proofs.lemmas.Iterator.Search.{cmp_from_yields_List}
 use Rattle.rules.specs.Preferred.{rank}
+use Rattle.changes.specs.Signs.{sign_number}
 use Rattle.sort_slots.proofs.Compare.{compared}
 use Rattle.sort_slots.proofs.comes_before.Goals as goal
 
@@ -21,7 +22,8 @@ returns c =
     (λ it e. YieldsList-at e (YieldsList-from_map _ rank (YieldsList-at c.map-b.ensures.source (YieldsList-from_slice c.part-2.result.now cc)) c.map-b.ensures.closure (λ b r q k. search (rules, tests))))
     (λ p q. refl)
     in
-    let all : c.is_le.result ≡ is_le (ordering_then (ordering_then (slice_cmp nat_cmp (map rank c.part.result.now) (map rank c.part-2.result.now)) (nat_cmp x.sign y.sign)) (nat_cmp x.count y.count)) =
-    cc (ranks, c.is_le.ensures, c.then-2.ensures, c.then.ensures, c.cmp-2.ensures, c.cmp-3.ensures)
+    let signs : c.cmp-2.result ≡ nat_cmp (sign_number x.sign) (sign_number y.sign) = search rules in
+    let all : c.is_le.result ≡ is_le (ordering_then (ordering_then (slice_cmp nat_cmp (map rank c.part.result.now) (map rank c.part-2.result.now)) (nat_cmp (sign_number x.sign) (sign_number y.sign))) (nat_cmp x.count y.count)) =
+    cc (ranks, c.is_le.ensures, c.then-2.ensures, c.then.ensures, signs, c.cmp-3.ensures)
     in
     all ∙ compared c.args.keys.now x y c.part.ensures c.part-2.ensures
