@@ -22,26 +22,14 @@ use slices::{advance, begins_with, rest};
 fn is_plain(n: Counts, free: bool) -> bool
     ensures { result ≡ is_plain n free }
 {
-    if free {
-        return false;
-    }
-    if n.losses != 0 {
-        return false;
-    }
-    if n.isotopes != 0 {
-        return false;
-    }
-    if n.items != 0 {
-        return false;
-    }
-    n.units == 0
+    !free && n.losses == 0 && n.isotopes == 0 && n.items == 0 && n.units == 0
 }
 
 // All annotations of a line, of which the first was read; the place behind them.
 fn spell_line(out: &mut [u8], line: &[u8], first: Parts) -> usize
     ensures { Put out.old 0 (line_spelled line.now first) out.new result }
 {
-    if line.len() < 1 {
+    if line.is_empty() {
         return 0;
     }
     let x = spell_annotation(out, 0, line, first);
@@ -64,9 +52,10 @@ fn put_spelling(out: &mut [u8], line: &[u8], t: Totals, first: Parts) -> usize
 {
     let n = t.counts;
     if is_plain(n, t.free) {
-        return put_run(out, 0, line);
+        put_run(out, 0, line)
+    } else {
+        spell_line(out, line, first)
     }
-    spell_line(out, line, first)
 }
 
 // A line with a shape: its refusal, or its preferred spelling.
