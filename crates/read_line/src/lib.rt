@@ -8,7 +8,6 @@ ghost use Rattle.answers.specs.Delivered.{answered};
 ghost use Rattle.scan_line.specs.Steps.{scanned_by};
 ghost use Rattle.read_line.specs.Stores.{StoresNext, StoresLine};
 ghost use Rattle.read_line.specs.Readings.{ReadsSpelled, spelled_over, keeps_all, any_over, read_of};
-ghost use Rattle.read_line.specs.Same.{same_bytes};
 ghost use Rattle.rules.specs.Largest.{max_any_table};
 ghost use Rattle.read_line.specs.Back.{reads_to, few, zeros};
 
@@ -138,23 +137,6 @@ pub fn read_by(machine: &[u8], line: &[u8], out: &mut [u8]) -> Answer
 
 // ---- reading back
 
-// Whether two parts have the same bytes.
-fn same_bytes(a: &[u8], b: &[u8]) -> bool
-    ensures { result ≡ same_bytes a.now b.now }
-{
-    if a.len() != b.len() {
-        return false;
-    }
-    let mut i: usize = 0;
-    while i < a.len() {
-        if a[i] != b[i] {
-            return false;
-        }
-        i += 1;
-    }
-    true
-}
-
 // Whether a line of any length reads to a table of an edition; `scratch` is cleared.
 fn reads_into(
     machine: &[u8],
@@ -166,10 +148,7 @@ fn reads_into(
     ensures { result ≡ reads_to (edition_of edition) (scanned_by machine.now line.now) scratch.old line.now table.now }
 {
     let a = read_any(machine, edition, line, scratch);
-    if a.number != 0 {
-        return false;
-    }
-    same_bytes(first_of(scratch, a.len), table)
+    a.number == 0 && first_of(scratch, a.len) == table
 }
 
 // Whether a line of any length reads to a table of few bytes: clearing more costs more than reading most lines.
