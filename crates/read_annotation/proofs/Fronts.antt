@@ -13,10 +13,9 @@ use Rattle.rules.specs.Annotations.{flag_text, analyte_text}
 use Rattle.rules.specs.Limits.{opt_part, analyte_part, ion_parts}
 use Rattle.rules.specs.Editions.{ed2}
 use Rattle.rules.specs.House.{formed}
-use Rattle.rules.specs.Stored.{flag, present, value_or0, residue_count}
+use Rattle.rules.specs.Stored.{residue_count}
 use Rattle.faults.specs.declared.Fault.{Fault}
 use Rattle.faults.specs.Faults.{after}
-use Rattle.read_formula.proofs.Spelled.{capped}
 use Rattle.read_ion.specs.declared.IonRead.{IonRead}
 use Rattle.read_ion.proofs.SpelledIon.{EndsIon, ion_read, ion_read_lem}
 use Rattle.read_annotation.specs.declared.Front.{Front}
@@ -26,7 +25,7 @@ use Rattle.read_annotation.proofs.Chains.{drop_is, inside}
 use Rattle.read_annotation.proofs.Begins.{ion_begins_apart, ion_no_mark}
 use Rattle.read_annotation.proofs.Ions.{ion_told}
 use Rattle.read_annotation.proofs.Sequences.{sequence_read_lem}
-use Rattle.read_annotation.proofs.Prefixes.{prefix_length, prefix_read_lem}
+use Rattle.read_annotation.proofs.Prefixes.{analyte_number, prefix_length, prefix_read_lem}
 
 module _ (m : Bool) (n : Opt ℕ) (x : SpelledIon) (k : List ℕ) where
   abbrev pub behind_flag : List ℕ
@@ -51,9 +50,8 @@ module _ (m : Bool) (n : Opt ℕ) (x : SpelledIon) (k : List ℕ) where
     abbrev pub front_read : IonRead → Front
     front_read r =
         record {
-          marked = flag m;
-          present = present n;
-          analyte = value_or0 capped n;
+          marked = m;
+          analyte = analyte_number n;
           at = prefix_length m n;
           ion = r;
           formed = formed ed2 x;

@@ -37,7 +37,7 @@ use Rattle.read_annotation.specs.Measured.{own_counts, parts_of, is_free, measur
 module _ (end : ℕ) (s : List ℕ) (f : Fault) {t v : List ℕ} {q : ℕ} where
   pub front_is : {p : PrefixRead} {x : IonRead} {w : SequenceRead} → p ≡ prefix_of end s f → t ≡ drop p.len s → x ≡ ion_of end t p.fault → w ≡ sequence_of_ion t x
       → v ≡ drop x.len t → q ≡ length s - length v
-      → record { marked = p.marked; present = p.present; analyte = p.analyte; at = p.len; ion = x; formed = w.formed; residues = w.residues; len = q } ≡ front_of end s f
+      → record { marked = p.marked; analyte = p.analyte; at = p.len; ion = x; formed = w.formed; residues = w.residues; len = q } ≡ front_of end s f
   unfolding front_of
   front_is pp pt px pw pv pq = rw (← pp, ← pt, ← px, ← pw, ← pv, ← pq)
 

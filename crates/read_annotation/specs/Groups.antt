@@ -35,7 +35,6 @@ abbrev pub front_with : List ℕ → List ℕ → PrefixRead → IonRead → Seq
 front_with s t p x q =
     record {
       marked = p.marked;
-      present = p.present;
       analyte = p.analyte;
       at = p.len;
       ion = x;

@@ -4,7 +4,7 @@
 ghost use Rattle.std.specs.Prelude.{◌≡◌};
 ghost use Rattle.rules.specs.Bytes.{bytes};
 ghost use Rattle.rules.specs.Texts.{starts_with};
-ghost use Rattle.read_annotation.specs.Parts.{flag_of, prefix_of, adduct_len, adduct_of};
+ghost use Rattle.read_annotation.specs.Parts.{prefix_of, adduct_len, adduct_of};
 ghost use Rattle.read_annotation.specs.Groups.{front_of, begins_middle, middle_of, tail_of};
 ghost use Rattle.read_annotation.specs.Sequences.{has_sequence, sequence_of_ion};
 ghost use Rattle.layout.specs.Editions.{edition_of};
@@ -24,12 +24,11 @@ use read_tail::{DecimalPart, read_charge, read_confidence, read_deviation};
 use sequences::{SequenceRead, read_sequence};
 use slices::{advance, begins_in, begins_with, minus_or_zero, part, rest};
 
-// What stands before the ion: 1 for `&`, 1 for an analyte, and its number.
+// What stands before the ion: whether `&` does, and the number of an analyte.
 #[derive(Drop)]
 pub struct PrefixRead {
-    pub marked: u8,
-    pub present: u8,
-    pub analyte: u32,
+    pub marked: bool,
+    pub analyte: Option<u32>,
     pub len: usize,
     pub fault: Fault,
 }
@@ -37,9 +36,8 @@ pub struct PrefixRead {
 // Prefix and ion; the ion begins at `at`. Its sequence has so many residues, and is of the plain form or not; without one it has none, and is.
 #[derive(Clone, Copy)]
 pub struct Front {
-    pub marked: u8,
-    pub present: u8,
-    pub analyte: u32,
+    pub marked: bool,
+    pub analyte: Option<u32>,
     pub at: usize,
     pub ion: IonRead,
     pub formed: bool,
@@ -85,28 +83,17 @@ pub struct Measured {
     pub fault: Fault,
 }
 
-// 1 where a part begins with `&`, else 0.
-fn flag(s: &[u8]) -> u8
-    ensures { result ≡ flag_of s.now }
-{
-    if begins_with(s, b'&') {
-        return 1;
-    }
-    0
-}
-
 // `&` and analyte, both optional. No ion begins with a digit.
 pub fn read_prefix(s: &[u8], end: usize, f: Fault) -> PrefixRead
     ensures { result ≡ prefix_of end s.now f }
 {
-    let marked = flag(s);
-    let at = marked as usize;
+    let marked = begins_with(s, b'&');
+    let at = usize::from(marked);
     let t = rest(s, at);
     if !begins_in(t, b'0', b'9') {
         return PrefixRead {
             marked,
-            present: 0,
-            analyte: 0,
+            analyte: None,
             len: at,
             fault: f,
         };
@@ -115,8 +102,7 @@ pub fn read_prefix(s: &[u8], end: usize, f: Fault) -> PrefixRead
     let fault = check_number(f, MAX_POSITION, n.value, minus_or_zero(end, t.len()));
     PrefixRead {
         marked,
-        present: 1,
-        analyte: n.value,
+        analyte: Some(n.value),
         len: advance(advance(at, n.len, s.len()), 1, s.len()),
         fault,
     }
@@ -201,7 +187,6 @@ fn read_front(s: &[u8], end: usize, f: Fault) -> Front
     let len = minus_or_zero(s.len(), rest(t, x.len).len());
     Front {
         marked: p.marked,
-        present: p.present,
         analyte: p.analyte,
         at: p.len,
         ion: x,

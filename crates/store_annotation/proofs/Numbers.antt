@@ -5,6 +5,7 @@ use mathlib.Core.Bool.{Bool, true, false, cond, not}
 use mathlib.Core.List.{[], ◌∷◌}
 use native.Mathlib.Omega.{arith}
 use borrow.Author.Tests.{ne_eqb}
+use Rattle.std.specs.Option.{is_some, unwrap_or}
 use Rattle.lang.specs.Parts.{Opt, silent, written, opt_map}
 use Rattle.lang.specs.Mark.{Kept, here, later}
 use Rattle.rules.specs.Bytes.{bytes}
@@ -17,10 +18,10 @@ use Rattle.rules.specs.Limits.{max_position, max_charge, bare, opt_part, number_
 use Rattle.rules.specs.Stored.{little, flag, present, value_or0, number, deviation_kind, signed}
 use Rattle.rules.proofs.Keeps.{kept_part, not_past}
 use Rattle.faults.specs.declared.Fault.{Fault}
-use Rattle.read_formula.proofs.Spelled.{capped}
 use Rattle.read_tail.specs.declared.DecimalPart.{DecimalPart}
 use Rattle.read_tail.proofs.SpelledTail.{charge_read, kind_read, size_read, deviation_read, confidence_read}
 use Rattle.read_ion.proofs.OneIon.{label_read}
+use Rattle.read_annotation.proofs.Prefixes.{analyte_number}
 use Rattle.read_annotation.proofs.Ions.{told_within}
 use Rattle.read_annotation.proofs.Rules.{fits_kept, confidence_fits_kept}
 use Rattle.store_annotation.specs.Records.{signed_of}
@@ -31,9 +32,13 @@ pub label_told : (n : Opt Number) (at : ℕ) → Kept ((opt_part (number_part ma
 label_told silent at k = refl
 label_told (written n) at k = told_within n at k
 
-pub analyte_told : (n : Opt ℕ) (at : ℕ) → Kept ((opt_part analyte_part n).marks at) → value_or0 capped n ≡ value_or0 (λ n. n) n
+pub analyte_told : (n : Opt ℕ) (at : ℕ) → Kept ((opt_part analyte_part n).marks at) → unwrap_or (analyte_number n) 0 ≡ value_or0 (λ n. n) n
 analyte_told silent at k = refl
 analyte_told (written n) at k = omega (arith, not_past max_position n (λ b. k _ here b))
+
+pub present_told : (n : Opt ℕ) → flag (is_some (analyte_number n)) ≡ present n
+present_told silent = refl
+present_told (written n) = refl
 
 pub charge_told : (c : Opt (From 2)) (at : ℕ) → Kept ((opt_part charge_part c).marks at) → charge_read c ≡ count_or1 c
 charge_told silent at k = refl

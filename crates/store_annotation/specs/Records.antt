@@ -1,7 +1,8 @@
 -- The record of an annotation, from what was read. Document 01, "The stored table". Assumes nothing.
 use Rattle.std.specs.Prelude.{ℕ, ◌-◌, ◌^◌, Bool, cond, ◌&&◌, not, List, [], ◌∷◌, ◌++◌, eqb}
+use Rattle.std.specs.Option.{is_some, unwrap_or}
 use Rattle.rules.specs.Editions.{Edition, ed1, ed2}
-use Rattle.rules.specs.Stored.{Field, u8, u16, u32, u64, stores}
+use Rattle.rules.specs.Stored.{Field, flag, u8, u16, u32, u64, stores}
 use Rattle.counts.specs.declared.Counts.{Counts}
 use Rattle.read_tail.specs.declared.DecimalPart.{DecimalPart}
 use Rattle.read_annotation.specs.declared.Front.{Front}
@@ -14,7 +15,7 @@ signed_of minus n = cond (minus && not (eqb n 0)) (2 ^ 64 - n) n
 -- bytes 0 to 9: kind, `&`, analyte present, series or letter, analyte, position, end
 abbrev pub front_fields : Front → List Field
 front_fields a =
-    u8 a.ion.kind ∷ u8 a.marked ∷ u8 a.present ∷ u8 a.ion.letter ∷ u16 a.analyte ∷ u16 a.ion.position ∷ u16 a.ion.last ∷ []
+    u8 a.ion.kind ∷ u8 (flag a.marked) ∷ u8 (flag (is_some a.analyte)) ∷ u8 a.ion.letter ∷ u16 (unwrap_or a.analyte 0) ∷ u16 a.ion.position ∷ u16 a.ion.last ∷ []
 
 unfoldable pub front_bytes : Front → List ℕ
 front_bytes a = stores (front_fields a)
