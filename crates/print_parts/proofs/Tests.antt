@@ -5,13 +5,14 @@ use mathlib.Core.Bool.{Bool, true, false, cond, not}
 use mathlib.Core.List.{List, [], ◌++◌, append_assoc, append-nil}
 use native.Mathlib.Omega.{arith}
 use lib.ListN.{get_or, drop, take}
-use borrow.Author.Tests.{eq-eqb, ne_eqb, le-leb, lt-leb, le-ltb, not-true, not-false}
-use lib.Dec.{ltb}
+use borrow.Author.Tests.{eq-eqb, ne_eqb, le-leb, lt-leb, le-ltb, not-true, not-false, eqb-true}
+use lib.Dec.{eqb, ltb}
 use lib.IntN.{ℤ, pos, negsuc}
 use mir.Val.{sel}
 use Rattle.std.specs.Int.{w64, cast_signed, cast_unsigned}
 use Rattle.std.proofs.lemmas.Int.{of_z-to_z}
 use Rattle.std.specs.Int.RustNames.{unsigned_abs, int_lt}
+use Rattle.lang.proofs.Tests.{not_t}
 use Rattle.rules.specs.Bytes.{bytes}
 use Rattle.rules.specs.Numbers.{digits}
 use Rattle.rules.specs.Texts.{in_brackets}
@@ -21,45 +22,76 @@ use Rattle.rules.specs.Layout.{charge_at, deviation_kind_at, deviation_places_at
 use Rattle.slices.specs.Numbers.{u16_at}
 use Rattle.put_formula.specs.Preferred.{symbol_text, printed_units}
 use Rattle.changes.specs.declared.Sign.{Sign}
+use Rattle.changes.specs.declared.Content.{Content}
+use Rattle.changes.specs.declared.Content.TheVariants.{Formula, Name, Electron}
+use Rattle.changes.specs.Contents.{content_units, content_bytes}
 use Rattle.changes.specs.Signs.{sign_of_byte}
 use Rattle.print_count.specs.Heads.{sign_bytes, count_text, head_text}
 use Rattle.slices.specs.Numbers.{u32_at, u64_at}
 use Rattle.print_parts.specs.Numbers.{number_at}
-use Rattle.print_parts.specs.Changes.{change_units, change_name, content_printed, change_printed}
+use Rattle.print_parts.specs.Changes.{content_at, change_units, change_name, content_printed, change_printed}
 use Rattle.print_parts.specs.Isotopes.{which_printed, isotope_printed}
 use Rattle.print_parts.specs.Tails.{charge_printed, signed_size, signed_printed, deviation_printed, confidence_printed}
 
 -- ---- losses and adduct items
 
 module _ (l : List ℕ) {kind : ℕ} (is : kind ≡ get_or l content_kind_at 0) where
-  pub units_some : {n : ℕ} → kind ≡ 0 → n ≡ number_at l content_size_at max_units → n ≡ change_units l
-  unfolding change_units
-  units_some h q = rw (eq-eqb (get_or l content_kind_at 0) 0 (sym is ∙ h)) q
+  pub content_formula : {n : ℕ} → kind ≡ 0 → n ≡ number_at l content_size_at max_units → Formula n ≡ content_at l
+  unfolding content_at
+  content_formula h q = rw (eq-eqb (get_or l content_kind_at 0) 0 (sym is ∙ h)) (ap Formula q)
 
-  pub units_none : (kind ≡ 0 → ⊥) → 0 ≡ change_units l
-  unfolding change_units
-  units_none h = rw (ne_eqb (get_or l content_kind_at 0) 0 (λ z. h (is ∙ z)))
+  pub content_name : {n : ℕ} → kind ≡ 1 → n ≡ number_at l content_size_at max_text → Name n ≡ content_at l
+  unfolding content_at
+  content_name h q =
+      let g : (get_or l content_kind_at 0 ≡ 0 → ⊥) = λ z. omega (arith, z, is, h) in
+      rw (ne_eqb (get_or l content_kind_at 0) 0 g, eq-eqb (get_or l content_kind_at 0) 1 (sym is ∙ h)) (ap Name q)
 
-  pub name_some : {n : ℕ} → kind ≡ 1 → n ≡ number_at l content_size_at max_text → n ≡ change_name l
-  unfolding change_name
-  name_some h q = rw (eq-eqb (get_or l content_kind_at 0) 1 (sym is ∙ h)) q
+  pub content_electron : (kind ≡ 0 → ⊥) → (kind ≡ 1 → ⊥) → Electron ≡ content_at l
+  unfolding content_at
+  content_electron g h = rw (ne_eqb (get_or l content_kind_at 0) 0 (λ z. g (is ∙ z)), ne_eqb (get_or l content_kind_at 0) 1 (λ z. h (is ∙ z)))
 
-  pub name_none : (kind ≡ 1 → ⊥) → 0 ≡ change_name l
-  unfolding change_name
-  name_none h = rw (ne_eqb (get_or l content_kind_at 0) 1 (λ z. h (is ∙ z)))
+-- what is put of a content
+abbrev pub text_of : Content → List ℕ → List ℕ → List ℕ
+text_of (Formula n) u t = printed_units n u
+text_of (Name n) u t = in_brackets (take n t)
+text_of Electron u t = bytes "e"
 
-  module _ (u t : List ℕ) where
-    pub what_units_lem : {n : ℕ} → kind ≡ 0 → n ≡ change_units l → printed_units n u ≡ content_printed l u t
-    unfolding content_printed
-    what_units_lem h e = rw (eq-eqb (get_or l content_kind_at 0) 0 (sym is ∙ h), e)
+module _ (l : List ℕ) where
+  pub units_told : content_units (content_at l) ≡ change_units l
+  unfolding content_at change_units
+  units_told = by (eqb (get_or l content_kind_at 0) 0) (eqb (get_or l content_kind_at 0) 1) (number_at l content_size_at max_units) (number_at l content_size_at max_text)
+    where
+      by : (b c : Bool) (m n : ℕ) → content_units (cond {A = Content} b (Formula m) (cond {A = Content} c (Name n) Electron)) ≡ cond b m 0
+      by true c m n = refl
+      by false true m n = refl
+      by false false m n = refl
 
-    pub what_name_lem : {n : ℕ} {w : List ℕ} → (kind ≡ 0 → ⊥) → kind ≡ 1 → n ≡ change_name l → w ≡ take n t → in_brackets w ≡ content_printed l u t
-    unfolding content_printed
-    what_name_lem g h e q = rw (ne_eqb (get_or l content_kind_at 0) 0 (λ z. g (is ∙ z)), eq-eqb (get_or l content_kind_at 0) 1 (sym is ∙ h), q, e)
+  -- the kind of a name is no other
+  name_alone : eqb (get_or l content_kind_at 0) 0 ≡ true → eqb (get_or l content_kind_at 0) 1 ≡ false
+  name_alone e = let z = eqb-true (get_or l content_kind_at 0) 0 e in ne_eqb (get_or l content_kind_at 0) 1 (λ h. omega (arith, z, h))
 
-    pub what_electron : (kind ≡ 0 → ⊥) → (kind ≡ 1 → ⊥) → bytes "e" ≡ content_printed l u t
-    unfolding content_printed
-    what_electron g h = rw (ne_eqb (get_or l content_kind_at 0) 0 (λ z. g (is ∙ z)), ne_eqb (get_or l content_kind_at 0) 1 (λ z. h (is ∙ z)))
+  pub name_told : content_bytes (content_at l) ≡ change_name l
+  unfolding content_at change_name
+  name_told = by (eqb (get_or l content_kind_at 0) 0) (eqb (get_or l content_kind_at 0) 1) (number_at l content_size_at max_units) (number_at l content_size_at max_text) name_alone
+    where
+      by : (b c : Bool) (m n : ℕ) → (b ≡ true → c ≡ false) → content_bytes (cond {A = Content} b (Formula m) (cond {A = Content} c (Name n) Electron)) ≡ cond c n 0
+      by true true m n h = absurd (not_t (h refl) tt)
+      by true false m n h = refl
+      by false true m n h = refl
+      by false false m n h = refl
+
+  text_told : (u t : List ℕ) → text_of (content_at l) u t ≡ content_printed l u t
+  unfolding content_at content_printed change_units change_name
+  text_told u t = by (eqb (get_or l content_kind_at 0) 0) (eqb (get_or l content_kind_at 0) 1) (number_at l content_size_at max_units) (number_at l content_size_at max_text)
+    where
+      by : (b c : Bool) (m n : ℕ) → text_of (cond {A = Content} b (Formula m) (cond {A = Content} c (Name n) Electron)) u t
+          ≡ cond b (printed_units (cond b m 0) u) (cond c (in_brackets (take (cond c n 0) t)) (bytes "e"))
+      by true c m n = refl
+      by false true m n = refl
+      by false false m n = refl
+
+  pub content_told : {k x : Content} (u t : List ℕ) → k ≡ content_at l → k ≡ x → text_of x u t ≡ content_printed l u t
+  content_told u t e q = ap (λ (z : Content). text_of z u t) (sym q ∙ e) ∙ text_told u t
 
 -- sign and count, of a loss, an item or an isotope
 module _ (s : List ℕ) {t : List ℕ} {byte count : ℕ} {sign : Sign} (a : byte ≡ get_or s sign_at 0) (g : sign ≡ sign_of_byte byte) (e : t ≡ drop count_at s) (b : count ≡ u16_at t) where

@@ -4,6 +4,8 @@ use Rattle.rules.specs.Bytes.{bytes}
 use Rattle.rules.specs.Texts.{in_brackets}
 use Rattle.rules.specs.Limits.{max_units, max_text}
 use Rattle.rules.specs.Layout.{loss_width, unit_width, sign_at, content_kind_at, count_at, content_size_at}
+use Rattle.changes.specs.declared.Content.{Content}
+use Rattle.changes.specs.declared.Content.TheVariants.{Formula, Name, Electron}
 use Rattle.changes.specs.Signs.{sign_of_byte}
 use Rattle.put_bytes.specs.Puts.{Put}
 use Rattle.slices.specs.Numbers.{u16_at}
@@ -11,6 +13,11 @@ use Rattle.put_formula.specs.Preferred.{printed_units}
 use Rattle.print_count.specs.Heads.{sign_bytes, count_text}
 use Rattle.print_parts.specs.declared.PrintedTo.{PrintedTo}
 use Rattle.print_parts.specs.Numbers.{number_at}
+
+-- what stands behind sign and count; no more units or bytes of a name than the limits allow
+unfoldable pub content_at : List ℕ → Content
+content_at l =
+    cond {A = Content} (eqb (get_or l content_kind_at 0) 0) (Formula (number_at l content_size_at max_units)) (cond {A = Content} (eqb (get_or l content_kind_at 0) 1) (Name (number_at l content_size_at max_text)) Electron)
 
 -- how many units, and how many bytes of a name; no more than the limits allow
 unfoldable pub change_units : List ℕ → ℕ

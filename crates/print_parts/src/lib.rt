@@ -7,11 +7,11 @@ ghost use Rattle.std.specs.Prelude.{◌≡◌, get_or};
 ghost use Rattle.put_bytes.specs.Puts.{Put};
 ghost use Rattle.print_parts.specs.Numbers.{up_to, number_at};
 ghost use Rattle.slices.specs.Numbers.{u32_at, u64_at};
-ghost use Rattle.print_parts.specs.Changes.{change_units, change_name, content_printed, change_printed, PrintsChanges};
+ghost use Rattle.print_parts.specs.Changes.{content_at, change_units, change_name, content_printed, change_printed, PrintsChanges};
 ghost use Rattle.print_parts.specs.Isotopes.{which_printed, isotope_printed, isotopes_printed};
 ghost use Rattle.print_parts.specs.Tails.{charge_printed, signed_printed, deviation_printed, confidence_printed, tail_printed};
 
-use changes::Sign;
+use changes::{Content, Sign};
 use layout::{
     CHARGE_AT, CONFIDENCE_AT, CONFIDENCE_PLACES_AT, CONFIDENCE_PRESENT_AT, CONTENT_KIND_AT,
     CONTENT_SIZE_AT, COUNT_AT, DEVIATION_AT, DEVIATION_KIND_AT, DEVIATION_PLACES_AT,
@@ -51,37 +51,43 @@ pub fn number_at(s: &[u8], i: usize, most: usize) -> usize
 
 // ---- losses and adduct items
 
+// What a record says to stand behind sign and count; no more units or bytes of a name than the limits allow.
+fn content_of(l: &[u8]) -> Content
+    ensures { result ≡ content_at l.now }
+{
+    match byte_of(l, CONTENT_KIND_AT) {
+        0 => Content::Formula {
+            units: number_at(l, CONTENT_SIZE_AT, MAX_UNITS),
+        },
+        1 => Content::Name {
+            bytes: number_at(l, CONTENT_SIZE_AT, MAX_TEXT),
+        },
+        _ => Content::Electron,
+    }
+}
+
 // How many units a loss or an adduct item has.
 pub fn units_of(l: &[u8]) -> usize
     ensures { result ≡ change_units l.now }
 {
-    if byte_of(l, CONTENT_KIND_AT) == 0 {
-        number_at(l, CONTENT_SIZE_AT, MAX_UNITS)
-    } else {
-        0
-    }
+    content_of(l).units()
 }
 
 // How many bytes the name of a loss has.
 pub fn name_of(l: &[u8]) -> usize
     ensures { result ≡ change_name l.now }
 {
-    if byte_of(l, CONTENT_KIND_AT) == 1 {
-        number_at(l, CONTENT_SIZE_AT, MAX_TEXT)
-    } else {
-        0
-    }
+    content_of(l).name_bytes()
 }
 
-// What stands behind sign and count. Kinds are matched as the bytes that a table stores: the contracts say what every byte prints, one
-// that is no kind too, so that an enum would add a match from bytes to kinds and take away no arm.
+// What stands behind sign and count.
 fn print_content(out: &mut [u8], to: usize, l: &[u8], u: &[u8], t: &[u8]) -> usize
     ensures { Put out.old to (content_printed l.now u.now t.now) out.new result }
 {
-    match byte_of(l, CONTENT_KIND_AT) {
-        0 => print_units(out, to, u, units_of(l)),
-        1 => put_between(out, to, b'[', first_of(t, name_of(l)), b']'),
-        _ => put8(out, to, b'e'),
+    match content_of(l) {
+        Content::Formula { units } => print_units(out, to, u, units),
+        Content::Name { bytes } => put_between(out, to, b'[', first_of(t, bytes), b']'),
+        Content::Electron => put8(out, to, b'e'),
     }
 }
 
@@ -121,7 +127,8 @@ pub fn print_changes(out: &mut [u8], to: usize, l: &[u8], u: &[u8], t: &[u8], n:
 
 // ---- isotopes
 
-// What stands behind the `i`.
+// What stands behind the `i`. The kind is matched as the byte that a table stores: the contract says what every byte prints, one that is
+// no kind too, so that an enum would add a match from bytes to kinds and take away no arm. The same holds of a deviation's kind.
 fn print_which(out: &mut [u8], to: usize, s: &[u8]) -> usize
     ensures { Put out.old to (which_printed s.now) out.new result }
 {
