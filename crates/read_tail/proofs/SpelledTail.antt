@@ -30,6 +30,8 @@ use Rattle.faults.specs.Faults.{numbered, join, after}
 use Rattle.faults.proofs.Marks.{join_kept}
 use Rattle.read_formula.proofs.Spelled.{capped}
 use Rattle.read_formula.proofs.Limits.{mark_told}
+use Rattle.read_tail.specs.declared.PartKind.{PartKind}
+use Rattle.read_tail.specs.declared.PartKind.TheVariants.{Plain, Ppm}
 use Rattle.read_tail.specs.declared.DecimalPart.{DecimalPart}
 use Rattle.read_tail.specs.Charges.{charge_of}
 use Rattle.read_tail.specs.Decimals.{no_part, part_of, digit_at, confidence_of, deviation_of}
@@ -58,10 +60,10 @@ charge_read_lem (written n) k end f d e h =
 abbrev pub size_read : Decimal → Bool → numbers.Decimal
 size_read d fitting = cond fitting (record { value = d.value; places = d.places }) zero_decimal
 
-abbrev pub part_read : ℕ → Bool → Bool → Decimal → ℕ → Fault → DecimalPart
+abbrev pub part_read : PartKind → Bool → Bool → Decimal → ℕ → Fault → DecimalPart
 part_read kind minus bare d len g = record { kind = kind; minus = minus; bare = bare; size = size_read d (fits d); len = len; fault = g }
 
-pub part_made : (d : Decimal) (kind : ℕ) (minus bare : Bool) (len place : ℕ) (f : Fault)
+pub part_made : (d : Decimal) (kind : PartKind) (minus bare : Bool) (len place : ℕ) (f : Fault)
     → part_of (made_of d.value d.places) kind minus bare len place f ≡ part_read kind minus bare d len (after f (decimal_mark d place))
 unfolding made_of part_of
 part_made d kind minus bare len place f = by (fits d)
@@ -87,7 +89,7 @@ point_begins (suc n) v k h = refl
 
 abbrev pub confidence_read : Opt Confidence → Fault → DecimalPart
 confidence_read silent g = no_part g
-confidence_read (written c) g = part_read 1 false (leaves_zero c) (meant_decimal c) (length (confidence_text c)) g
+confidence_read (written c) g = part_read Plain false (leaves_zero c) (meant_decimal c) (length (confidence_text c)) g
 
 pub confidence_read_lem : (c : Opt Confidence) (k : List ℕ) (end : ℕ) (f : Fault) → first_in digit k ≡ false → first_in point k ≡ false → starts_with (bytes "*") k ≡ false
     → length (opt_text confidence_text c ++ k) ≤ end
@@ -96,15 +98,15 @@ unfolding confidence_of
 confidence_read_lem silent k end f d p e h = rw e
 confidence_read_lem (written (in_full x)) k end f d p e h =
     rw (digit_not 46 (omega arith) (decimal_text x ++ k) (decimal_begins x k), decimal_read DigitOrPoint x k d p)
-    (part_made x 1 false false (1 + length (decimal_text x)) (end - (length (confidence_text (in_full x) ++ k) - 1)) f
-    ∙ ap₂ (λ (l n : ℕ). part_read 1 false false x l (after f (decimal_mark x n))) (omega arith) (omega arith))
+    (part_made x Plain false false (1 + length (decimal_text x)) (end - (length (confidence_text (in_full x) ++ k) - 1)) f
+    ∙ ap₂ (λ (l n : ℕ). part_read Plain false false x l (after f (decimal_mark x n))) (omega arith) (omega arith))
 confidence_read_lem (written (from_point_lem z)) k end f d p e h =
     let x = z.decimal in
     let t = point_text x.places x.value in
     let some : 1 ≤ length t = omega (arith, point_length x.places x.value (places_some z)) in
     rw (point_begins x.places x.value k (places_some z), point_read z k d p)
-    (part_made x 1 false true (1 + length t) (end - (length (confidence_text (from_point_lem z) ++ k) - 2)) f
-    ∙ ap₂ (λ (l n : ℕ). part_read 1 false true x l (after f (decimal_mark x n))) (omega arith) (omega (arith, length-append t k)))
+    (part_made x Plain false true (1 + length t) (end - (length (confidence_text (from_point_lem z) ++ k) - 2)) f
+    ∙ ap₂ (λ (l n : ℕ). part_read Plain false true x l (after f (decimal_mark x n))) (omega arith) (omega (arith, length-append t k)))
 
 -- ---- deviations
 
@@ -136,9 +138,9 @@ size_flag : (m : Bool) → digit_at m ≡ 1 + length (flag_text (bytes "-") m)
 size_flag true = refl
 size_flag false = refl
 
-abbrev pub kind_read : Bool → ℕ
-kind_read true = 2
-kind_read false = 1
+abbrev pub kind_read : Bool → PartKind
+kind_read true = Ppm
+kind_read false = Plain
 
 text_is : (x : Deviation) (k : List ℕ) → deviation_text x ++ k ≡ spelled x.minus x.size (flag_text (bytes "ppm") x.ppm ++ k)
 text_is x k = simp append_assoc
@@ -150,7 +152,7 @@ parts_read_lem m true d k end f e o n =
     let j = bytes "ppm" ++ k in
     in_ppm (spelled m d j) end f refl (minus_read m d j) refl (size_read_lem m d j) (sym (decimal_read Digit d j refl refl)) (rest_read m d j) refl refl refl refl
 parts_read_lem m false d k end f e o n =
-    ap (λ (l : ℕ). part_of (made_of d.value d.places) 1 m false l (end - (length (spelled m d k) - digit_at m)) f) (omega arith)
+    ap (λ (l : ℕ). part_of (made_of d.value d.places) Plain m false l (end - (length (spelled m d k) - digit_at m)) f) (omega arith)
     ∙ in_units (spelled m d k) end f refl (minus_read m d k) refl (size_read_lem m d k) (sym (decimal_read Digit d k e o)) (rest_read m d k) refl refl (no_ppm k n) refl
 
 abbrev pub deviation_read : Opt Deviation → Fault → DecimalPart

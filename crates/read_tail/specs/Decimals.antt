@@ -9,13 +9,15 @@ use Rattle.numbers.specs.Making.{zero_decimal, made_number, made_decimal}
 use Rattle.numbers.specs.Points.{decimal_of}
 use Rattle.faults.specs.declared.Fault.{Fault}
 use Rattle.faults.specs.Faults.{numbered, join}
+use Rattle.read_tail.specs.declared.PartKind.{PartKind}
+use Rattle.read_tail.specs.declared.PartKind.TheVariants.{Absent, Plain, Ppm}
 use Rattle.read_tail.specs.declared.DecimalPart.{DecimalPart}
 
 abbrev pub no_part : Fault → DecimalPart
-no_part f = record { kind = 0; minus = false; bare = false; size = zero_decimal; len = 0; fault = f }
+no_part f = record { kind = Absent; minus = false; bare = false; size = zero_decimal; len = 0; fault = f }
 
 -- a decimal at a place, and the number of its refusal; past its bounds it is told as 0
-unfoldable pub part_of : Option Decimal → ℕ → Bool → Bool → ℕ → ℕ → Fault → DecimalPart
+unfoldable pub part_of : Option Decimal → PartKind → Bool → Bool → ℕ → ℕ → Fault → DecimalPart
 part_of m kind minus bare len place f = record { kind = kind; minus = minus; bare = bare; size = made_decimal m; len = len; fault = join f (numbered (made_number m) place) }
 
 -- where the first digit stands: behind `/` or `*`, or behind one byte more, `-` or the point
@@ -25,7 +27,7 @@ digit_at false = 1
 
 -- a confidence may begin with the point
 abbrev pub confidence_in : ℕ → ℕ → Bool → DecimalRead → Fault → DecimalPart
-confidence_in end left bare d f = part_of d.made 1 false bare (1 + d.len) (end - (left - digit_at bare)) f
+confidence_in end left bare d f = part_of d.made Plain false bare (1 + d.len) (end - (left - digit_at bare)) f
 
 unfoldable pub confidence_of : ℕ → List ℕ → Fault → DecimalPart
 confidence_of end s f =
@@ -36,7 +38,7 @@ abbrev pub deviation_end : ℕ → List ℕ → Bool → DecimalRead → Fault �
 deviation_end end s m d f =
     let place = end - (length s - digit_at m) in
     let len = digit_at m + d.len in
-    cond (starts_with (bytes "ppm") (drop len s)) (part_of d.made 2 m false (len + 3) place f) (part_of d.made 1 m false len place f)
+    cond (starts_with (bytes "ppm") (drop len s)) (part_of d.made Ppm m false (len + 3) place f) (part_of d.made Plain m false len place f)
 
 abbrev pub deviation_in : ℕ → List ℕ → Bool → Fault → DecimalPart
 deviation_in end s m f = deviation_end end s m (decimal_of Digit (drop (digit_at m) s)) f

@@ -4,6 +4,7 @@
 ghost use Rattle.std.specs.Prelude.{◌≡◌};
 ghost use Rattle.rules.specs.Bytes.{bytes};
 ghost use Rattle.rules.specs.Texts.{starts_with};
+ghost use Rattle.read_tail.specs.Kinds.{part_number};
 ghost use Rattle.read_tail.specs.Charges.{charge_of};
 ghost use Rattle.read_tail.specs.Decimals.{no_part, part_of, digit_at, confidence_of, deviation_of};
 
@@ -20,11 +21,27 @@ pub struct ChargeRead {
     pub fault: Fault,
 }
 
-// A deviation or a confidence. Kind 0: there is none; 1: there is one; 2: a deviation in ppm. A bare one lacks the 0 before its point.
-// A decimal past its bounds is told as 0.
+// Whether there is a deviation or a confidence; a deviation may be in ppm.
+#[derive(Clone, Copy, PartialEq, Eq)]
+pub enum PartKind {
+    Absent,
+    Plain,
+    Ppm,
+}
+
+impl From<PartKind> for u8 {
+    // As it is stored.
+    fn from(kind: PartKind) -> Self
+        ensures { result ≡ part_number kind }
+    {
+        kind as u8
+    }
+}
+
+// A deviation or a confidence. A bare one lacks the 0 before its point. A decimal past its bounds is told as 0.
 #[derive(Clone, Copy)]
 pub struct DecimalPart {
-    pub kind: u8,
+    pub kind: PartKind,
     pub minus: bool,
     pub bare: bool,
     pub size: Decimal,
@@ -62,7 +79,7 @@ fn no_part(f: Fault) -> DecimalPart
     ensures { result ≡ no_part f }
 {
     DecimalPart {
-        kind: 0,
+        kind: PartKind::Absent,
         minus: false,
         bare: false,
         size: Decimal::zero(),
@@ -74,7 +91,7 @@ fn no_part(f: Fault) -> DecimalPart
 // A decimal at a place, as a part.
 fn made_part(
     made: Option<Decimal>,
-    kind: u8,
+    kind: PartKind,
     minus: bool,
     bare: bool,
     len: usize,
@@ -115,7 +132,7 @@ pub fn read_confidence(s: &[u8], end: usize, f: Fault) -> DecimalPart
     let at = digit_at(bare);
     let d = read_decimal(t, FirstByte::DigitOrPoint);
     let place = minus_or_zero(end, minus_or_zero(s.len(), at));
-    made_part(d.made, 1, false, bare, 1 + d.len, place, f)
+    made_part(d.made, PartKind::Plain, false, bare, 1 + d.len, place, f)
 }
 
 // Whether a part begins with `ppm`.
@@ -157,7 +174,7 @@ pub fn read_deviation(s: &[u8], end: usize, f: Fault) -> DecimalPart
     let len = at + d.len;
     let place = minus_or_zero(end, minus_or_zero(s.len(), at));
     if begins_ppm(rest(s, len)) {
-        return made_part(d.made, 2, minus, false, len + 3, place, f);
+        return made_part(d.made, PartKind::Ppm, minus, false, len + 3, place, f);
     }
-    made_part(d.made, 1, minus, false, len, place, f)
+    made_part(d.made, PartKind::Plain, minus, false, len, place, f)
 }

@@ -19,6 +19,7 @@ use Rattle.rules.specs.Stored.{little, flag, present, value_or0, number, deviati
 use Rattle.rules.proofs.Keeps.{kept_part, not_past}
 use Rattle.faults.specs.declared.Fault.{Fault}
 use Rattle.read_tail.specs.declared.DecimalPart.{DecimalPart}
+use Rattle.read_tail.specs.Kinds.{part_number}
 use Rattle.read_tail.proofs.SpelledTail.{charge_read, kind_read, size_read, deviation_read, confidence_read}
 use Rattle.read_ion.proofs.OneIon.{label_read}
 use Rattle.read_annotation.proofs.Prefixes.{analyte_number}
@@ -54,11 +55,11 @@ signed_bytes true zero = refl
 signed_bytes true (suc v) = ap (λ (t : Bool). little 8 (cond (not t) (2 ^ 64 - suc v) (suc v))) (ne_eqb (suc v) 0 (λ z. omega arith))
 
 pub record DeviationTold (d : Opt Deviation) (p : DecimalPart) : Type 0 where
-  pub kind : p.kind ≡ deviation_kind d
+  pub kind : part_number p.kind ≡ deviation_kind d
   pub places : p.size.places ≡ value_or0 (λ d. d.size.places) d
   pub value : little 8 (signed_of p.minus p.size.value) ≡ little 8 (value_or0 (λ d. signed d.minus d.size.value) d)
 
-kind_told : (p : Bool) → kind_read p ≡ 1 + flag p
+kind_told : (p : Bool) → part_number (kind_read p) ≡ 1 + flag p
 kind_told true = refl
 kind_told false = refl
 
@@ -74,7 +75,7 @@ deviation_told (written d) at g k =
     }
 
 pub record ConfidenceTold (c : Opt Decimal) (p : DecimalPart) : Type 0 where
-  pub kind : p.kind ≡ present c
+  pub kind : part_number p.kind ≡ present c
   pub places : p.size.places ≡ value_or0 (λ d. d.places) c
   pub value : p.size.value ≡ value_or0 (λ d. d.value) c
 

@@ -5,6 +5,7 @@ use Rattle.rules.specs.Editions.{Edition, ed1, ed2}
 use Rattle.rules.specs.Stored.{Field, flag, u8, u16, u32, u64, stores}
 use Rattle.counts.specs.declared.Counts.{Counts}
 use Rattle.read_tail.specs.declared.DecimalPart.{DecimalPart}
+use Rattle.read_tail.specs.Kinds.{part_number}
 use Rattle.read_annotation.specs.declared.Front.{Front}
 use Rattle.read_annotation.specs.declared.Tail.{Tail}
 
@@ -22,7 +23,7 @@ front_bytes a = stores (front_fields a)
 
 -- a deviation's kind or a confidence's presence, and its decimals
 abbrev pub kind_fields : DecimalPart → List Field
-kind_fields p = u8 p.kind ∷ u8 p.size.places ∷ []
+kind_fields p = u8 (part_number p.kind) ∷ u8 p.size.places ∷ []
 
 abbrev pub kind_bytes : DecimalPart → List ℕ
 kind_bytes p = stores (kind_fields p)

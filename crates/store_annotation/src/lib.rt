@@ -70,7 +70,7 @@ fn put_kind(out: &mut [u8], to: usize, p: DecimalPart) -> usize
     ensures { Put out.old to (kind_bytes p) out.new result }
 {
     let size = p.size;
-    let q = put_le(out, to, p.kind as u64, 1);
+    let q = put_le(out, to, u8::from(p.kind) as u64, 1);
     put_le(out, q, size.places() as u64, 1)
 }
 

@@ -1,5 +1,5 @@
 -- `read_tail::made_part` meets its contract: a decimal within its bounds breaks no limit, and one past them is told as 0. Assumes nothing.
-use mathlib.Core.Path.{sym, refl}
+use mathlib.Core.Path.{refl}
 use Rattle.faults.proofs.Marks.{join_kept}
 use Rattle.faults.specs.Faults.{numbered}
 use Rattle.read_tail.specs.Decimals.{part_of}
