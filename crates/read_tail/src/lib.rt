@@ -139,26 +139,14 @@ pub fn read_confidence(s: &[u8], end: usize, f: Fault) -> DecimalPart
 fn begins_ppm(s: &[u8]) -> bool
     ensures { result ≡ starts_with (bytes "ppm") s.now }
 {
-    if s.len() < 3 {
-        return false;
-    }
-    if s[0] != b'p' {
-        return false;
-    }
-    if s[1] != b'p' {
-        return false;
-    }
-    b'm' == s[2]
+    s.starts_with(b"ppm")
 }
 
 // Where the first digit stands: behind `/` or `*`, or behind one byte more, `-` or the point.
 fn digit_at(second: bool) -> usize
     ensures { result ≡ digit_at second }
 {
-    if second {
-        return 2;
-    }
-    1
+    if second { 2 } else { 1 }
 }
 
 // The deviation that a part begins with.
