@@ -64,20 +64,6 @@ unfolding whole
 whole_ge zero v m h = omega arith
 whole_ge (suc p) v m h = let i = whole_ge p v (m * 10) (omega (arith, shift m p)) in omega arith
 
-pub whole_none : (p v : ℕ) → whole p v ≤ 0 → v < 10 ^ p
-whole_none p v h = go (dec_lt v (10 ^ p))
-  where
-    go : Dec (v < 10 ^ p) → v < 10 ^ p
-    go (yes l) = l
-    go (no l) = absurd (omega (arith, whole_ge p v 1 (omega arith)))
-
-pub whole_some : (p v : ℕ) → 0 < whole p v → 10 ^ p ≤ v
-whole_some p v h = go (dec_lt v (10 ^ p))
-  where
-    go : Dec (v < 10 ^ p) → 10 ^ p ≤ v
-    go (yes l) = absurd (omega (arith, whole_lt p v 1 (omega arith)))
-    go (no l) = omega arith
-
 -- ---- the bounds of a decimal
 
 module _ (v p : ℕ) (h : p ≤ max_places) where

@@ -12,18 +12,13 @@ use Rattle.lang.specs.Re.{in_c}
 use Rattle.lang.specs.Digits.{value_from}
 use Rattle.lang.proofs.Lits.{one_eq}
 use Rattle.lang.proofs.Tests.{is_t}
-use Rattle.lang.specs.Parts.{first_in}
-use Rattle.rules.specs.Bytes.{digit}
 use Rattle.rules.specs.Limits.{max_places, max_digits}
 use Rattle.numbers.specs.declared.Digits.{Digits}
 use Rattle.numbers.specs.declared.Decimal.{Decimal}
-use Rattle.numbers.specs.declared.DecimalRead.{DecimalRead}
-use Rattle.numbers.specs.declared.FirstByte.{FirstByte}
-use Rattle.numbers.specs.declared.FirstByte.TheVariants.{Digit}
-use Rattle.std.specs.Prelude.{Option, Some}
+use Rattle.std.specs.Prelude.{Option}
 use Rattle.numbers.specs.Leading.{leading, leading_of}
-use Rattle.numbers.specs.Making.{zero_decimal, made_of}
-use Rattle.numbers.specs.Points.{point, fraction, fraction_of, pointed, decimal_from, may_begin, decimal_of}
+use Rattle.numbers.specs.Making.{made_of}
+use Rattle.numbers.specs.Points.{point, fraction, fraction_of, pointed, decimal_from}
 use Rattle.numbers.proofs.Walks.{capped}
 use Rattle.numbers.proofs.Leads.{leading_within}
 use Rattle.numbers.proofs.Bounds.{made_long, made_large}
@@ -159,17 +154,3 @@ module _ {s : List ℕ} {whole all : Digits} (w : Walked s whole all) where
   room z =
       let n = length (leading s) in
       omega (arith, at, places, pointed_some tail (λ q. z (places ∙ q)), fraction_within (drop n s), length-drop n s, leading_within s)
-
--- ---- what a decimal may begin with
-
-pub begins_by : {first : FirstByte} {b : Bool} (s : List ℕ) → first ≡ Digit → b ≡ first_in digit s → b ≡ may_begin first s
-begins_by s h e = e ∙ ap (λ (f : FirstByte). may_begin f s) (sym h)
-
-module _ (first : FirstByte) {b : Bool} (s : List ℕ) (told : b ≡ may_begin first s) where
-  pub none_read : {z : Decimal} → b ≡ false → z ≡ zero_decimal → record { made = Some z; len = 0 } ≡ decimal_of first s
-  unfolding decimal_of
-  none_read {z} h e = rw (sym told ∙ h, e)
-
-  pub some_read : {r : DecimalRead} → b ≡ true → r ≡ decimal_from s → r ≡ decimal_of first s
-  unfolding decimal_of
-  some_read h e = rw (sym told ∙ h) e
