@@ -6,6 +6,7 @@ use mathlib.Core.List.{List, [], ◌∷◌}
 use lib.Dec.{eqb}
 use lib.ListN.{length, get_or, drop, get_or-eq_default}
 use borrow.Author.Tests.{eq-eqb, ne_eqb}
+use Rattle.std.specs.Prelude.{Option, Some, None}
 use Rattle.rules.specs.Bytes.{bytes}
 use Rattle.rules.specs.Texts.{starts_with}
 use Rattle.read_ion.specs.Letters.{place_from, one_letter, two_letters, letters_of}
@@ -32,26 +33,18 @@ abbrev pub NoneOf : ℕ → List ℕ → Type 0
 NoneOf b [] = Unit {0}
 NoneOf b (k ∷ ks) = NoneOf b ks × (b ≡ k → ⊥)
 
-pub letter_is : {b : ℕ} (k : ℕ) → b ≡ k → one_letter k ≡ one_letter b
-letter_is k e = ap one_letter (sym e)
-
-pub no_letter : {b : ℕ} → NoneOf b (122 ∷ 121 ∷ 120 ∷ 119 ∷ 118 ∷ 100 ∷ 99 ∷ 98 ∷ 97 ∷ []) → 0 ≡ one_letter b
-unfolding one_letter place_from
-no_letter {b} (((((((((u, n1), n2), n3), n4), n5), n6), n7), n8), n9) =
-    rw (ne_eqb b 97 n1, ne_eqb b 98 n2, ne_eqb b 99 n3, ne_eqb b 100 n4, ne_eqb b 118 n5, ne_eqb b 119 n6, ne_eqb b 120 n7, ne_eqb b 121 n8, ne_eqb b 122 n9)
-
-module _ (s : List ℕ) {a b two : ℕ} (pa : a ≡ get_or s 0 0) (pb : b ≡ get_or s 1 0) (pt : two ≡ two_letters a b) where
-  pub letters_two : (two ≡ 0 → ⊥) → record { letter = two; len = 2 } ≡ letters_of s
+module _ (s : List ℕ) {a b : ℕ} {two : Option ℕ} (pa : a ≡ get_or s 0 0) (pb : b ≡ get_or s 1 0) (pt : two ≡ two_letters a b) where
+  pub letters_two : {n : ℕ} → two ≡ Some n → record { letter = Some n; len = 2 } ≡ letters_of s
   unfolding letters_of
-  letters_two h = rw (← pa, ← pb, ← pt, ne_eqb two 0 h)
+  letters_two h = rw (← pa, ← pb, ← pt, h)
 
-  pub letters_one : {one : ℕ} → two ≡ 0 → one ≡ one_letter a → (one ≡ 0 → ⊥) → record { letter = one; len = 1 } ≡ letters_of s
+  pub letters_one : {one : Option ℕ} {n : ℕ} → two ≡ None → one ≡ one_letter a → one ≡ Some n → record { letter = Some n; len = 1 } ≡ letters_of s
   unfolding letters_of
-  letters_one {one} z po h = rw (← pa, ← pb, ← pt, eq-eqb two 0 z, ← po, ne_eqb one 0 h)
+  letters_one z po h = rw (← pa, ← pb, ← pt, z, ← po, h)
 
-  pub letters_none : {one : ℕ} → two ≡ 0 → one ≡ one_letter a → one ≡ 0 → record { letter = 0; len = 0 } ≡ letters_of s
+  pub letters_none : {one : Option ℕ} → two ≡ None → one ≡ one_letter a → one ≡ None → record { letter = None; len = 0 } ≡ letters_of s
   unfolding letters_of
-  letters_none {one} z po h = rw (← pa, ← pb, ← pt, eq-eqb two 0 z, ← po, eq-eqb one 0 h)
+  letters_none z po h = rw (← pa, ← pb, ← pt, z, ← po, h)
 
 -- ---- modifications, byte by byte
 

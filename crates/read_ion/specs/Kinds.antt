@@ -1,5 +1,6 @@
 -- The kinds of ion, each read behind its first byte. A part goes as far as the bytes s do. Assumes nothing.
 use Rattle.std.specs.Prelude.{ℕ, ◌+◌, ◌-◌, min, Bool, cond, not, ◌&&◌, ◌||◌, List, length, drop, get_or}
+use Rattle.std.specs.Option.{unwrap_or}
 use Rattle.rules.specs.Bytes.{bytes}
 use Rattle.rules.specs.Texts.{starts_with}
 use Rattle.rules.specs.Limits.{max_position, number_mark}
@@ -28,7 +29,7 @@ series_of end s f =
     let n = number_of (drop l.len s) in
     let g = after f (number_mark max_position n.value (end - (length s - l.len))) in
     let at = min (l.len + n.len) (length s) in
-    with_text 1 l.letter n.value 0 at (text_of end (drop at s) g) (length s)
+    with_text 1 (unwrap_or l.letter 0) n.value 0 at (text_of end (drop at s) g) (length s)
 
 -- `m`, letters, number, `:`, number, optional text
 unfoldable pub internal_of : ℕ → List ℕ → Fault → IonRead

@@ -31,10 +31,10 @@ pub struct IonRead {
     pub fault: Fault,
 }
 
-// A series: 1 to 13 in the listed order, 0 where there is none, and how many bytes.
+// A series: 1 to 13 in the listed order, where there is one, and how many bytes.
 #[derive(Drop)]
 pub struct SeriesRead {
-    pub letter: u8,
+    pub letter: Option<u8>,
     pub len: usize,
 }
 
@@ -46,45 +46,36 @@ pub struct CutRead {
 }
 
 // The series of one letter.
-fn one_letter(b: u8) -> u8
+#[tactic(auto, unfolding(crate::specs::Letters::one_letter, crate::specs::Letters::place_from))]
+fn one_letter(b: u8) -> Option<u8>
     ensures { result ≡ one_letter b }
 {
     match b {
-        b'a' => 1,
-        b'b' => 2,
-        b'c' => 3,
-        b'd' => 4,
-        b'v' => 5,
-        b'w' => 6,
-        b'x' => 7,
-        b'y' => 8,
-        b'z' => 9,
-        _ => 0,
+        b'a' => Some(1),
+        b'b' => Some(2),
+        b'c' => Some(3),
+        b'd' => Some(4),
+        b'v' => Some(5),
+        b'w' => Some(6),
+        b'x' => Some(7),
+        b'y' => Some(8),
+        b'z' => Some(9),
+        _ => None,
     }
 }
 
 // The series of two letters: da, db, wa, wb.
-fn two_letters(a: u8, b: u8) -> u8
+#[tactic(auto, unfolding(crate::specs::Letters::two_letters))]
+fn two_letters(a: u8, b: u8) -> Option<u8>
     ensures { result ≡ two_letters a b }
 {
-    if a == b'd' {
-        if b == b'a' {
-            return 10;
-        }
-        if b == b'b' {
-            return 11;
-        }
-        return 0;
+    match (a, b) {
+        (b'd', b'a') => Some(10),
+        (b'd', b'b') => Some(11),
+        (b'w', b'a') => Some(12),
+        (b'w', b'b') => Some(13),
+        _ => None,
     }
-    if a == b'w' {
-        if b == b'a' {
-            return 12;
-        }
-        if b == b'b' {
-            return 13;
-        }
-    }
-    0
 }
 
 // The series that a part begins with.
@@ -92,22 +83,22 @@ fn series_name(s: &[u8]) -> SeriesRead
     ensures { result ≡ letters_of s.now }
 {
     let a = byte_of(s, 0);
-    let b = byte_of(s, 1);
-    let two = two_letters(a, b);
-    if two != 0 {
-        return SeriesRead {
-            letter: two,
+    match two_letters(a, byte_of(s, 1)) {
+        Some(letter) => SeriesRead {
+            letter: Some(letter),
             len: 2,
-        };
+        },
+        None => match one_letter(a) {
+            Some(letter) => SeriesRead {
+                letter: Some(letter),
+                len: 1,
+            },
+            None => SeriesRead {
+                letter: None,
+                len: 0,
+            },
+        },
     }
-    let one = one_letter(a);
-    if one != 0 {
-        return SeriesRead {
-            letter: one,
-            len: 1,
-        };
-    }
-    SeriesRead { letter: 0, len: 0 }
 }
 
 // An ion with a text in braces or a name in brackets that begins at `at`.
@@ -150,7 +141,7 @@ fn series(s: &[u8], end: usize, f: Fault) -> IonRead
     );
     let at = advance(l.len, n.len, s.len());
     let x = text_in_braces(rest(s, at), end, g);
-    with_text(1, l.letter, n.value, 0, at, x, s.len())
+    with_text(1, l.letter.unwrap_or(0), n.value, 0, at, x, s.len())
 }
 
 // Where a byte stands among the three from another on, counted from 1; 0 where it does not.
@@ -219,19 +210,11 @@ fn internal(s: &[u8], end: usize, f: Fault) -> IonRead
 }
 
 // Whether a part begins with a name in brackets that cannot be taken for an adduct: `[M+` and `[M-` can.
+#[tactic(auto, unfolding(crate::specs::Kinds::opens_modification))]
 fn opens_modification(s: &[u8]) -> bool
     ensures { result ≡ opens_modification s.now }
 {
-    if !begins_with(s, b'[') {
-        return false;
-    }
-    if !begins_with(rest(s, 1), b'M') {
-        return true;
-    }
-    if begins_with(rest(s, 2), b'+') {
-        return false;
-    }
-    !begins_with(rest(s, 2), b'-')
+    begins_with(s, b'[') && !(s.starts_with(b"[M+") || s.starts_with(b"[M-"))
 }
 
 // 3: `I`, a letter, optional modification.
@@ -338,13 +321,7 @@ fn precursor(all: usize, f: Fault) -> IonRead
 pub fn spells_yb(s: &[u8]) -> bool
     ensures { result ≡ starts_with (bytes "myb") s.now }
 {
-    if !begins_with(s, b'm') {
-        return false;
-    }
-    if !begins_with(rest(s, 1), b'y') {
-        return false;
-    }
-    begins_with(rest(s, 2), b'b')
+    s.starts_with(b"myb")
 }
 
 // The ion that a part begins with, told by its first byte.
