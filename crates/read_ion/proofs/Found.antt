@@ -1,15 +1,11 @@
--- What the code finds of a series, of a modification, and of the first byte. Assumes nothing.
+-- What the code finds of a series, of an internal ion, and of the first byte. Assumes nothing.
 use Prim.Native.Nat.{ℕ, ◌+◌, ◌-◌, ◌≤◌, min}
 use mathlib.Core.Path.{◌≡◌, refl, sym, ap, ◌∙◌}
-use mathlib.Core.Bool.{Bool, true, false, not, ◌&&◌, ◌||◌}
 use mathlib.Core.List.{List, [], ◌∷◌}
-use lib.Dec.{eqb}
 use lib.ListN.{length, get_or, drop, get_or-eq_default}
-use borrow.Author.Tests.{eq-eqb, ne_eqb}
+use borrow.Author.Tests.{ne_eqb}
 use Rattle.std.specs.Prelude.{Option, Some, None}
-use Rattle.rules.specs.Bytes.{bytes}
-use Rattle.rules.specs.Texts.{starts_with}
-use Rattle.read_ion.specs.Letters.{place_from, one_letter, two_letters, letters_of}
+use Rattle.read_ion.specs.Letters.{one_letter, two_letters, letters_of}
 use Rattle.rules.specs.Limits.{max_position, number_mark}
 use Rattle.numbers.specs.declared.Number.{Number}
 use Rattle.numbers.specs.Leading.{number_of}
@@ -20,7 +16,7 @@ use Rattle.read_opening.specs.Enclosed.{text_of}
 use Rattle.read_ion.specs.declared.IonRead.{IonRead}
 use Rattle.read_ion.specs.declared.CutRead.{CutRead}
 use Rattle.read_ion.specs.Cuts.{cut_of}
-use Rattle.read_ion.specs.Kinds.{with_text, opens_modification, series_of, internal_of}
+use Rattle.read_ion.specs.Kinds.{with_text, series_of, internal_of}
 use Rattle.read_ion.specs.Ions.{ion_by, ion_of}
 
 -- ---- letters
@@ -45,41 +41,6 @@ module _ (s : List ℕ) {a b : ℕ} {two : Option ℕ} (pa : a ≡ get_or s 0 0)
   pub letters_none : {one : Option ℕ} → two ≡ None → one ≡ one_letter a → one ≡ None → record { letter = None; len = 0 } ≡ letters_of s
   unfolding letters_of
   letters_none z po h = rw (← pa, ← pb, ← pt, z, ← po, h)
-
--- ---- modifications, byte by byte
-
-sign_behind : (s : List ℕ) → starts_with (bytes "M+") s || starts_with (bytes "M-") s ≡ starts_with (bytes "M") s && (starts_with (bytes "+") (drop 1 s) || starts_with (bytes "-") (drop 1 s))
-sign_behind [] = refl
-sign_behind (b ∷ s) = by (eqb 77 b) (starts_with (bytes "+") s) (starts_with (bytes "-") s)
-  where
-    by : (y u v : Bool) → (y && u) || (y && v) ≡ (y && true) && (u || v)
-    by true u v = refl
-    by false u v = refl
-
-pub opens_is : (s : List ℕ)
-    → opens_modification s ≡ starts_with (bytes "[") s && not (starts_with (bytes "M") (drop 1 s) && (starts_with (bytes "+") (drop 2 s) || starts_with (bytes "-") (drop 2 s)))
-unfolding opens_modification
-opens_is [] = refl
-opens_is (a ∷ s) = by (eqb 91 a) (starts_with (bytes "M+") s) (starts_with (bytes "M-") s) (sign_behind s)
-  where
-    by : (x p q : Bool) {r : Bool} → p || q ≡ r → (x && true) && not ((x && p) || (x && q)) ≡ (x && true) && not r
-    by true p q e = ap not e
-    by false p q e = refl
-
-module _ (s : List ℕ) where
-  pub no_bracket : starts_with (bytes "[") s ≡ false → false ≡ opens_modification s
-  no_bracket e = sym (opens_is s ∙ rw e)
-
-  module _ (e : starts_with (bytes "[") s ≡ true) {r : List ℕ} (pr : r ≡ drop 1 s) where
-    pub no_m : starts_with (bytes "M") r ≡ false → true ≡ opens_modification s
-    no_m p = sym (opens_is s ∙ rw (e, ← pr, p))
-
-    module _ (p : starts_with (bytes "M") r ≡ true) {q : List ℕ} (pq : q ≡ drop 2 s) where
-      pub m_plus : starts_with (bytes "+") q ≡ true → false ≡ opens_modification s
-      m_plus u = sym (opens_is s ∙ rw (e, ← pr, p, ← pq, u))
-
-      pub m_other : starts_with (bytes "+") q ≡ false → {t : List ℕ} {v : Bool} → t ≡ drop 2 s → v ≡ starts_with (bytes "-") t → not v ≡ opens_modification s
-      m_other u pt pv = sym (opens_is s ∙ rw (pv, pt, e, ← pr, p, ← pq, u))
 
 -- ---- an internal ion, call by call
 

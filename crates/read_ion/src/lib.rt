@@ -144,41 +144,37 @@ fn series(s: &[u8], end: usize, f: Fault) -> IonRead
     with_text(1, l.letter.unwrap_or(0), n.value, 0, at, x, s.len())
 }
 
-// Where a byte stands among the three from another on, counted from 1; 0 where it does not.
-fn place_in(b: u8, first: u8) -> u8
+// Where a byte stands among the three from another on, counted from 1.
+#[tactic(auto, unfolding(crate::specs::Cuts::place_in))]
+fn place_in(b: u8, first: u8) -> Option<u8>
     ensures { result ≡ place_in b first }
 {
-    if b < first {
-        return 0;
+    if first <= b && b - first < 3 {
+        Some(b - first + 1)
+    } else {
+        None
     }
-    if b - first < 3 {
-        return b - first + 1;
-    }
-    0
 }
 
 // The number of a cleavage as a table holds it: yb, the fifth, is 0.
+#[tactic(auto, unfolding(crate::specs::Cuts::held_of))]
 fn held_of(n: u8) -> u8
     ensures { result ≡ held_of n }
 {
-    if n == 5 {
-        return 0;
-    }
-    n
+    if n == 5 { 0 } else { n }
 }
 
 // The letters that a part begins with: one of x y z and one of a b c, or none.
 fn read_cut(s: &[u8]) -> CutRead
     ensures { result ≡ cut_of s.now }
 {
-    let a = place_in(byte_of(s, 0), b'x');
-    let b = place_in(byte_of(s, 1), b'a');
-    if a == 0 {
-        return CutRead { held: 0, len: 0 };
-    }
-    CutRead {
-        held: held_of(3 * (a - 1) + b),
-        len: 2,
+    let b = place_in(byte_of(s, 1), b'a').unwrap_or(0);
+    match place_in(byte_of(s, 0), b'x') {
+        Some(a) => CutRead {
+            held: held_of(3 * (a - 1) + b),
+            len: 2,
+        },
+        None => CutRead { held: 0, len: 0 },
     }
 }
 
