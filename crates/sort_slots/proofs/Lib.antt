@@ -4,3 +4,4 @@ pub mod Feeds
 pub mod AllInserted
 pub mod Kept
 pub mod Arranged
+pub mod One
