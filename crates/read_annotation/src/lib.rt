@@ -17,7 +17,7 @@ use layout::Edition;
 use limits::{MAX_ANNOTATIONS, MAX_ITEMS, MAX_LOSSES, MAX_POSITION, ONE};
 use numbers::{billionths, read_number};
 use read_changes::{Row, read_changes};
-use read_ion::{IonRead, ion, spells_yb};
+use read_ion::{IonKind, IonRead, ion, spells_yb};
 use read_isotopes::isotopes;
 use read_opening::begins_sign;
 use read_tail::{DecimalPart, read_charge, read_confidence, read_deviation};
@@ -112,10 +112,7 @@ pub fn read_prefix(s: &[u8], end: usize, f: Fault) -> PrefixRead
 pub fn begins_adduct(s: &[u8]) -> bool
     ensures { result ≡ starts_with (bytes "[M") s.now }
 {
-    if !begins_with(s, b'[') {
-        return false;
-    }
-    begins_with(rest(s, 1), b'M')
+    s.starts_with(b"[M")
 }
 
 // How many bytes an adduct has, from those of its items.
@@ -150,16 +147,14 @@ pub fn read_adduct(s: &[u8], end: usize, f: Fault) -> Row
 }
 
 // Whether an ion has a sequence: the text in the braces of a series or an internal ion.
+#[tactic(auto, unfolding(crate::specs::Sequences::has_sequence))]
 fn has_sequence(x: IonRead) -> bool
     ensures { result ≡ has_sequence x }
 {
-    if x.kind == 1 {
-        return 1 <= x.text;
+    match x.kind {
+        IonKind::Series | IonKind::Internal => 1 <= x.text,
+        _ => false,
     }
-    if x.kind == 2 {
-        return 1 <= x.text;
-    }
-    false
 }
 
 // The sequence of the ion that a part begins with. It is read here, once: measuring and storing both need to know of it.
@@ -260,19 +255,15 @@ fn read_tail(s: &[u8], end: usize, f: Fault) -> Tail
 }
 
 // An internal ion doesn't start at 1 and its start isn't past its end; SMILES has an adduct.
+#[tactic(auto, unfolding(crate::specs::House::ion_rule_of))]
 fn keeps_ion_rule(x: IonRead, items: usize) -> bool
     ensures { result ≡ ion_rule_of x items }
 {
-    if x.kind == 2 {
-        if x.position < 2 {
-            return false;
-        }
-        return x.position <= x.last;
+    match x.kind {
+        IonKind::Internal => 2 <= x.position && x.position <= x.last,
+        IonKind::Smiles => 1 <= items,
+        _ => true,
     }
-    if x.kind == 8 {
-        return 1 <= items;
-    }
-    true
 }
 
 // `-` doesn't stand before a zero deviation.
@@ -287,13 +278,14 @@ fn keeps_deviation_rule(d: DecimalPart) -> bool
 }
 
 // How many residues the position of an ion asks for; of an internal ion those from start to end.
+#[tactic(auto, unfolding(crate::specs::House::covered_of))]
 fn covered(x: IonRead) -> usize
     ensures { result ≡ covered_of x }
 {
-    if x.kind == 2 {
-        return minus_or_zero(x.last as usize + 1, x.position as usize);
+    match x.kind {
+        IonKind::Internal => minus_or_zero(x.last as usize + 1, x.position as usize),
+        _ => x.position as usize,
     }
-    x.position as usize
 }
 
 // A sequence has no fewer residues than the position asks for.

@@ -14,6 +14,8 @@ use Rattle.read_formula.proofs.Measures.{unit_moves}
 use Rattle.read_opening.specs.declared.Enclosed.{Enclosed}
 use Rattle.read_opening.specs.Enclosed.{text_of, name_of}
 use Rattle.read_opening.proofs.Measures as openings
+use Rattle.read_ion.specs.declared.IonKind.{IonKind}
+use Rattle.read_ion.specs.declared.IonKind.TheVariants as kinds
 use Rattle.read_ion.specs.declared.IonRead.{IonRead}
 use Rattle.read_ion.specs.Kinds.{with_text, series_of, internal_of, opens_modification, immonium_of, braced_of, reference_of, composed_of, unknown_of, precursor_of}
 use Rattle.read_ion.specs.Ions.{ion_by, ion_of}
@@ -54,7 +56,7 @@ one_of : {A : Type 0} (P : A → Type 0) (t : Bool) {x y : A} → P x → P y �
 one_of P true p q = p
 one_of P false p q = q
 
-module _ (kind letter position last at : ℕ) (s : List ℕ) where
+module _ (kind : IonKind) (letter position last at : ℕ) (s : List ℕ) where
   with_within : (c : Enclosed) → openings.Within c (drop at s) → Within (with_text kind letter position last at c (length s)) s
   with_within c w = record { len = omega arith; units = omega arith; text = omega (arith, w.size, length-drop at s) }
 
@@ -71,16 +73,16 @@ module _ (end : ℕ) (s : List ℕ) (f : Fault) where
   unfolding immonium_of
   immonium_within =
       let at = min (2 + 0) (length s) in
-      one_of (λ r. Within r s) (opens_modification (drop at s)) (with_within 3 (get_or s 1 0) 0 0 at s (name_of end (drop at s) f) (openings.name_within end (drop at s) f))
+      one_of (λ r. Within r s) (opens_modification (drop at s)) (with_within kinds.Immonium (get_or s 1 0) 0 0 at s (name_of end (drop at s) f) (openings.name_within end (drop at s) f))
       (record { len = omega arith; units = omega arith; text = omega arith })
 
-  braced_within : (kind : ℕ) → Within (braced_of kind end s f) s
+  braced_within : (kind : IonKind) → Within (braced_of kind end s f) s
   unfolding braced_of
   braced_within kind = with_within kind 0 0 0 1 s (text_of end (drop 1 s) f) (openings.text_within end (drop 1 s) f)
 
   reference_within : Within (reference_of end s f) s
   unfolding reference_of
-  reference_within = with_within 5 0 0 0 1 s (name_of end (drop 1 s) f) (openings.name_within end (drop 1 s) f)
+  reference_within = with_within kinds.Reference 0 0 0 1 s (name_of end (drop 1 s) f) (openings.name_within end (drop 1 s) f)
 
   formula_few : (formula_of end (drop 2 s) f).len ≤ length (drop 2 s)
   unfolding formula_of
@@ -105,9 +107,9 @@ module _ (end : ℕ) (s : List ℕ) (f : Fault) where
       (one_of (λ r. Within r s) (eqb b 73) immonium_within
       (one_of (λ r. Within r s) (eqb b 112) precursor_within
       (one_of (λ r. Within r s) (eqb b 114) reference_within
-      (one_of (λ r. Within r s) (eqb b 95) (braced_within 6)
+      (one_of (λ r. Within r s) (eqb b 95) (braced_within kinds.Named)
       (one_of (λ r. Within r s) (eqb b 102) composed_within
-      (one_of (λ r. Within r s) (eqb b 115) (braced_within 8)
+      (one_of (λ r. Within r s) (eqb b 115) (braced_within kinds.Smiles)
       (one_of (λ r. Within r s) (eqb b 63) unknown_within series_within)))))))
 
   pub ion_bounds : Within (ion_of end s f) s

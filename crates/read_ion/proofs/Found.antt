@@ -5,6 +5,7 @@ use mathlib.Core.List.{List, [], ◌∷◌}
 use lib.ListN.{length, get_or, drop, get_or-eq_default}
 use borrow.Author.Tests.{ne_eqb}
 use Rattle.std.specs.Prelude.{Option, Some, None}
+use Rattle.read_ion.specs.declared.IonKind.TheVariants as kinds
 use Rattle.read_ion.specs.Letters.{one_letter, two_letters, letters_of}
 use Rattle.rules.specs.Limits.{max_position, number_mark}
 use Rattle.numbers.specs.declared.Number.{Number}
@@ -50,7 +51,7 @@ module _ (s : List ℕ) (end : ℕ) (f : Fault) {u r q t : List ℕ} {c : CutRea
     (pc : colon ≡ min (from + a.len) (length s)) (pp : p ≡ min (colon + 1) (length s)) (pq : q ≡ drop p s) (pb : b ≡ number_of q)
     (pl₂ : l₂ ≡ length s - p) (pm₂ : m₂ ≡ end - l₂) (ph : h ≡ after g (number_mark max_position b.value m₂))
     (pat : at ≡ min (p + b.len) (length s)) (pt : t ≡ drop at s) (px : x ≡ text_of end t h) where
-  pub internal_is : i ≡ with_text 2 c.held a.value b.value at x (length s) → i ≡ internal_of end s f
+  pub internal_is : i ≡ with_text kinds.Internal c.held a.value b.value at x (length s) → i ≡ internal_of end s f
   unfolding internal_of
   internal_is pi = pi ∙ rw (← pu, ← pk, ← po, ← pr, ← pa, ← pl, ← pm, ← pg, ← pc, ← pp, ← pq, ← pb, ← pl₂, ← pm₂, ← ph, ← pat, ← pt, ← px)
 

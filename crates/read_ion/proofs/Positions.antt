@@ -19,6 +19,7 @@ use Rattle.faults.specs.Faults.{after}
 use Rattle.read_formula.proofs.Spelled.{capped}
 use Rattle.read_formula.proofs.Limits.{mark_told}
 use Rattle.read_opening.proofs.SpelledOpenings.{text_read}
+use Rattle.read_ion.specs.declared.IonKind.TheVariants as kinds
 use Rattle.read_ion.specs.Kinds.{series_of, internal_of}
 use Rattle.read_ion.specs.Ions.{ion_by, ion_of}
 use Rattle.read_ion.proofs.OneIon.{ion_read, ended}
@@ -76,7 +77,7 @@ module _ (s : Series) (n : Number) (t : Opt Text) (k : List ℕ) where
           text_read t k end (after f (number_mark max_position (capped n.value) (end - (length series_on - length (word_of s))))) e.no_brace o,
         )
         (ap₂ (λ (l : ℕ) (g : Fault).
-        record { kind = 1; letter = s.which + 1; position = capped n.value; last = 0; start = length (word_of s) + length (number_text n); units = 0; text = length (bytes_of t); len = l; fault = g })
+        record { kind = kinds.Series; letter = s.which + 1; position = capped n.value; last = 0; start = length (word_of s) + length (number_text n); units = 0; text = length (bytes_of t); len = l; fault = g })
         (let z : min (length (word_of s) + length (number_text n) + length (opt_text braced_text t)) (length series_on) ≡ length (ion_text (series s n t)) = omega arith in z)
         (series_fault h))
 
@@ -175,7 +176,7 @@ module _ (c : Letters) (m n : Number) (t : Opt Text) (k : List ℕ) where
           text_read t k end (both_told (capped m.value) first_place (capped n.value) second_place) e.no_brace o,
         )
         (ap₂ (λ (l : ℕ) (g : Fault).
-        record { kind = 2; letter = held_cut (filled_cut c); position = capped m.value; last = capped n.value; start = 1 + length letters + length (number_text m) + 1 + length (number_text n); units = 0; text = length (bytes_of t); len = l; fault = g })
+        record { kind = kinds.Internal; letter = held_cut (filled_cut c); position = capped m.value; last = capped n.value; start = 1 + length letters + length (number_text m) + 1 + length (number_text n); units = 0; text = length (bytes_of t); len = l; fault = g })
         z (internal_fault h))
 
     pub internal_read : EndsIon k → length internal_on ≤ end → ion_of end internal_on f ≡ ion_read (internal c m n t) (after f (marks_of (end - length internal_on) (ion_parts (internal c m n t))))

@@ -4,6 +4,7 @@
 ghost use Rattle.std.specs.Prelude.{◌≡◌, get_or};
 ghost use Rattle.rules.specs.Bytes.{bytes};
 ghost use Rattle.rules.specs.Texts.{starts_with};
+ghost use Rattle.read_ion.specs.Stored.{kind_number};
 ghost use Rattle.read_ion.specs.Letters.{one_letter, two_letters, letters_of};
 ghost use Rattle.read_ion.specs.Cuts.{place_in, held_of, cut_of};
 ghost use Rattle.read_ion.specs.Kinds.{with_text, series_of, internal_of, opens_modification, immonium_of, braced_of, reference_of, composed_of, unknown_of, precursor_of};
@@ -16,11 +17,34 @@ use read_formula::formula;
 use read_opening::{Enclosed, name_in_brackets, text_in_braces};
 use slices::{advance, begins_with, byte_of, minus_or_zero, rest};
 
+// Its kind; the numbers are those that are stored.
+#[derive(Clone, Copy, PartialEq, Eq)]
+pub enum IonKind {
+    Series = 1,
+    Internal = 2,
+    Immonium = 3,
+    Precursor = 4,
+    Reference = 5,
+    Named = 6,
+    Composed = 7,
+    Smiles = 8,
+    Unknown = 9,
+}
+
+impl From<IonKind> for u8 {
+    // As it is stored.
+    fn from(kind: IonKind) -> Self
+        ensures { result ≡ kind_number kind }
+    {
+        kind as u8
+    }
+}
+
 // An ion. Letter: series 1 to 13, the cleavage of an internal ion as a table holds it, or the letter of an immonium ion. Position: position,
 // start or label; last: the end of an internal ion. It has so many units, or bytes of text: the formula, or the brace or bracket before the text, begins at `start`.
 #[derive(Clone, Copy)]
 pub struct IonRead {
-    pub kind: u8,
+    pub kind: IonKind,
     pub letter: u8,
     pub position: u32,
     pub last: u32,
@@ -103,7 +127,7 @@ fn series_name(s: &[u8]) -> SeriesRead
 
 // An ion with a text in braces or a name in brackets that begins at `at`.
 fn with_text(
-    kind: u8,
+    kind: IonKind,
     letter: u8,
     position: u32,
     last: u32,
@@ -127,7 +151,7 @@ fn with_text(
     }
 }
 
-// 1: series, position, optional text.
+// series, position, optional text.
 fn series(s: &[u8], end: usize, f: Fault) -> IonRead
     ensures { result ≡ series_of end s.now f }
 {
@@ -141,7 +165,15 @@ fn series(s: &[u8], end: usize, f: Fault) -> IonRead
     );
     let at = advance(l.len, n.len, s.len());
     let x = text_in_braces(rest(s, at), end, g);
-    with_text(1, l.letter.unwrap_or(0), n.value, 0, at, x, s.len())
+    with_text(
+        IonKind::Series,
+        l.letter.unwrap_or(0),
+        n.value,
+        0,
+        at,
+        x,
+        s.len(),
+    )
 }
 
 // Where a byte stands among the three from another on, counted from 1.
@@ -178,7 +210,7 @@ fn read_cut(s: &[u8]) -> CutRead
     }
 }
 
-// 2: `m`, letters, number, `:`, number, optional text.
+// `m`, letters, number, `:`, number, optional text.
 fn internal(s: &[u8], end: usize, f: Fault) -> IonRead
     ensures { result ≡ internal_of end s.now f }
 {
@@ -202,7 +234,7 @@ fn internal(s: &[u8], end: usize, f: Fault) -> IonRead
     );
     let at = advance(p, b.len, s.len());
     let x = text_in_braces(rest(s, at), end, h);
-    with_text(2, c.held, a.value, b.value, at, x, s.len())
+    with_text(IonKind::Internal, c.held, a.value, b.value, at, x, s.len())
 }
 
 // Whether a part begins with a name in brackets that cannot be taken for an adduct: `[M+` and `[M-` can.
@@ -213,7 +245,7 @@ fn opens_modification(s: &[u8]) -> bool
     begins_with(s, b'[') && !(s.starts_with(b"[M+") || s.starts_with(b"[M-"))
 }
 
-// 3: `I`, a letter, optional modification.
+// `I`, a letter, optional modification.
 fn immonium(s: &[u8], end: usize, f: Fault) -> IonRead
     ensures { result ≡ immonium_of end s.now f }
 {
@@ -222,10 +254,10 @@ fn immonium(s: &[u8], end: usize, f: Fault) -> IonRead
     let t = rest(s, at);
     if opens_modification(t) {
         let x = name_in_brackets(t, end, f);
-        return with_text(3, letter, 0, 0, at, x, s.len());
+        return with_text(IonKind::Immonium, letter, 0, 0, at, x, s.len());
     }
     IonRead {
-        kind: 3,
+        kind: IonKind::Immonium,
         letter,
         position: 0,
         last: 0,
@@ -237,30 +269,30 @@ fn immonium(s: &[u8], end: usize, f: Fault) -> IonRead
     }
 }
 
-// 6 and 8: a letter, and a text in braces.
-fn braced(kind: u8, s: &[u8], end: usize, f: Fault) -> IonRead
+// A letter, and a text in braces.
+fn braced(kind: IonKind, s: &[u8], end: usize, f: Fault) -> IonRead
     ensures { result ≡ braced_of kind end s.now f }
 {
     let x = text_in_braces(rest(s, 1), end, f);
     with_text(kind, 0, 0, 0, 1, x, s.len())
 }
 
-// 5: `r` and a name in brackets.
+// `r` and a name in brackets.
 fn reference(s: &[u8], end: usize, f: Fault) -> IonRead
     ensures { result ≡ reference_of end s.now f }
 {
     let x = name_in_brackets(rest(s, 1), end, f);
-    with_text(5, 0, 0, 0, 1, x, s.len())
+    with_text(IonKind::Reference, 0, 0, 0, 1, x, s.len())
 }
 
-// 7: a formula between `f{` and `}`.
+// a formula between `f{` and `}`.
 fn composed(s: &[u8], end: usize, f: Fault) -> IonRead
     ensures { result ≡ composed_of end s.now f }
 {
     let x = formula(rest(s, 2), end, f);
     let fault = x.fault;
     IonRead {
-        kind: 7,
+        kind: IonKind::Composed,
         letter: 0,
         position: 0,
         last: 0,
@@ -272,7 +304,7 @@ fn composed(s: &[u8], end: usize, f: Fault) -> IonRead
     }
 }
 
-// 9: `?`, optional label.
+// `?`, optional label.
 fn unknown(s: &[u8], end: usize, f: Fault) -> IonRead
     ensures { result ≡ unknown_of end s.now f }
 {
@@ -284,7 +316,7 @@ fn unknown(s: &[u8], end: usize, f: Fault) -> IonRead
         minus_or_zero(end, minus_or_zero(s.len(), 1)),
     );
     IonRead {
-        kind: 9,
+        kind: IonKind::Unknown,
         letter: 0,
         position: n.value,
         last: 0,
@@ -296,12 +328,12 @@ fn unknown(s: &[u8], end: usize, f: Fault) -> IonRead
     }
 }
 
-// 4: `p`.
+// `p`.
 fn precursor(all: usize, f: Fault) -> IonRead
     ensures { result ≡ precursor_of all f }
 {
     IonRead {
-        kind: 4,
+        kind: IonKind::Precursor,
         letter: 0,
         position: 0,
         last: 0,
@@ -329,9 +361,9 @@ pub fn ion(s: &[u8], end: usize, f: Fault) -> IonRead
         b'I' => immonium(s, end, f),
         b'p' => precursor(s.len(), f),
         b'r' => reference(s, end, f),
-        b'_' => braced(6, s, end, f),
+        b'_' => braced(IonKind::Named, s, end, f),
         b'f' => composed(s, end, f),
-        b's' => braced(8, s, end, f),
+        b's' => braced(IonKind::Smiles, s, end, f),
         b'?' => unknown(s, end, f),
         _ => series(s, end, f),
     }

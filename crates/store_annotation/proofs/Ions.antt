@@ -16,6 +16,7 @@ use Rattle.put_formula.specs.Chains.{chain}
 use Rattle.put_formula.specs.Records.{records_of}
 use Rattle.put_formula.proofs.PutUnits.{records_read}
 use Rattle.store_sections.specs.Pages.{bytes_of}
+use Rattle.read_ion.specs.Stored.{kind_number}
 use Rattle.read_ion.proofs.SpelledIon.{ion_read, ion_spelled_text, ion_spelled_formula}
 use Rattle.sort_changes.proofs.Fits.{units_told}
 use Rattle.store_annotation.specs.Events.{ion_events}
@@ -25,7 +26,7 @@ use Rattle.store_annotation.proofs.Numbers.{label_told}
 -- ---- its fields
 
 pub record IonStored (x : SpelledIon) (g : Fault) : Type 0 where
-  pub kind : (ion_read x g).kind ≡ kind (ion_map filled filled_cut x)
+  pub kind : kind_number (ion_read x g).kind ≡ kind (ion_map filled filled_cut x)
   pub letter : (ion_read x g).letter ≡ (ion_fields (ion_map filled filled_cut x)).letter
   pub position : (ion_read x g).position ≡ (ion_fields (ion_map filled filled_cut x)).position
   pub end : (ion_read x g).last ≡ (ion_fields (ion_map filled filled_cut x)).end

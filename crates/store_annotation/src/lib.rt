@@ -56,7 +56,7 @@ fn put_front(out: &mut [u8], to: usize, a: Front) -> usize
     ensures { Put out.old to (front_bytes a) out.new result }
 {
     let x = a.ion;
-    let p = put_le(out, to, x.kind as u64, 1);
+    let p = put_le(out, to, u8::from(x.kind) as u64, 1);
     let q = put_le(out, p, u64::from(a.marked), 1);
     let r = put_le(out, q, u64::from(a.analyte.is_some()), 1);
     let s = put_le(out, r, x.letter as u64, 1);
