@@ -30,9 +30,10 @@ fn put_count(out: &mut [u8], to: usize, n: u32) -> usize
     ensures { Put out.old to (count_text n) out.new result }
 {
     if n <= 1 {
-        return to;
+        to
+    } else {
+        put_number(out, to, n as u64)
     }
-    put_number(out, to, n as u64)
 }
 
 // Both.
