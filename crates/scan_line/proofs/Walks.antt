@@ -4,8 +4,6 @@ use mathlib.Core.Path.{◌≡◌, sym, ap, ap₂, ◌∙◌}
 use mathlib.Core.List.{List, ◌∷◌}
 use native.Mathlib.Omega.{arith}
 use native.Mathlib.Numerals.{add-one}
-use native.Mathlib.Decide.{dec_lt}
-use Rattle.std.proofs.Common.{Some, None}
 use lib.ListN.{length, get_or, drop, drop_of_length-le}
 use lib.Seq.{drop-cons}
 use borrow.Author.Tests.{lt-ltb, le-ltb, le-leb, lt-leb}
@@ -15,30 +13,8 @@ use Rattle.lang.proofs.Moved.{moved_le}
 use Rattle.rules.specs.Texts.{name_brackets}
 use Rattle.shape.specs.Tables.{states, size}
 use Rattle.scan_line.specs.declared.Progress.{Progress}
-use Rattle.scan_line.specs.Steps.{deep_at, step_by, move_by, going_on, standing, run_by, taken_by}
-
--- ---- where a step leads
-
-module _ (p : ℕ × ℕ) where
-  pub going : p.0 < states → Some p ≡ going_on p
-  going h = rw (lt-ltb p.0 states h)
-
-  pub gone : states ≤ p.0 → None ≡ going_on p
-  gone h = rw (le-ltb p.0 states h)
-
-  gone_past : None ≡ going_on p → states ≤ p.0
-  gone_past e = by (dec_lt p.0 states)
-    where
-      by : Dec (p.0 < states) → states ≤ p.0
-      by (yes h) = let g = going h in cc
-      by (no h) = omega arith
-
-  went : {s : ℕ × ℕ} → Some s ≡ going_on p → (p.0 < states) × (s ≡ p)
-  went {s} e = by (dec_lt p.0 states)
-    where
-      by : Dec (p.0 < states) → (p.0 < states) × (s ≡ p)
-      by (yes h) = (h, let g = going h in cc)
-      by (no h) = let g = gone (omega arith) in cc
+use Rattle.scan_line.specs.declared.Stand.{Stand}
+use Rattle.scan_line.specs.Steps.{deep_at, step_by, move_by, stand_of, standing, run_by, taken_by}
 
 -- a list from its byte i on
 pub from_byte : (l : List ℕ) (i : ℕ) → i < length l → drop i l ≡ get_or l i 0 ∷ drop (i + 1) l
@@ -112,46 +88,46 @@ module _ {m part : List ℕ} {start q₀ d₀ : ℕ} where
         same = ap (λ (n : ℕ). run_by m q₀ d₀ n part) e;
       }
 
-  module _ {q d i : ℕ} (w : Walking m part start q₀ d₀ q d i) (h : i < length part) where
+  module _ {q d i : ℕ} {s : Stand} (w : Walking m part start q₀ d₀ q d i) (h : i < length part) (p : s ≡ stand_of (move_by m q d (get_or part i 0))) where
     abbrev byte : ℕ
     byte = get_or part i 0
 
-    abbrev next : ℕ × ℕ
-    next = move_by m q d byte
+    to_state : s.state ≡ (move_by m q d byte).0
+    to_state = ap (λ (x : Stand). x.state) p
+
+    to_depth : s.depth ≡ (move_by m q d byte).1
+    to_depth = ap (λ (x : Stand). x.depth) p
 
     one_more : run_by m q₀ d₀ start part ≡ run_by m q d (start + i) (byte ∷ drop (i + 1) part)
     one_more = w.same ∙ ap (run_by m q d (start + i)) (from_byte part i h)
 
-    pub stops : None ≡ going_on next → run_by m q₀ d₀ start part ≡ standing states 0 (start + i)
-    stops e = one_more ∙ run_stops m q d (start + i) byte (drop (i + 1) part) (gone_past next e)
+    pub stops : states ≤ s.state → run_by m q₀ d₀ start part ≡ standing states 0 (start + i)
+    stops g = one_more ∙ run_stops m q d (start + i) byte (drop (i + 1) part) (omega (arith, to_state))
 
-    pub turn : {s : ℕ × ℕ} → Some s ≡ going_on next → Walking m part start q₀ d₀ s.0 s.1 (i + 1)
-    turn {s} e =
-        let g = went next e in
-        let to_state : s.0 ≡ next.0 = ap (λ (x : ℕ × ℕ). x.0) g.1 in
-        let to_depth : s.1 ≡ next.1 = ap (λ (x : ℕ × ℕ). x.1) g.1 in
-        let place : start + i + 1 ≡ start + (i + 1) = omega arith in
+    pub turn : s.state < states → Walking m part start q₀ d₀ s.state s.depth (i + 1)
+    turn g =
+        let e : start + i + 1 ≡ start + (i + 1) = omega arith in
         record {
           long = w.long;
           begun = w.begun;
           shallow = w.shallow;
-          small = omega (arith, to_state, g.0);
+          small = g;
           below = omega (arith, to_depth, move_le m q d byte, w.below);
           inside = omega arith;
           room = w.room;
           same =
-              one_more ∙ run_on m q d (start + i) byte (drop (i + 1) part) g.0
+              one_more ∙ run_on m q d (start + i) byte (drop (i + 1) part) (omega (arith, to_state))
               ∙ ap₂ (λ (x y : ℕ). run_by m x y (start + i + 1) (drop (i + 1) part)) (sym to_state) (sym to_depth)
-              ∙ ap (λ (n : ℕ). run_by m s.0 s.1 n (drop (i + 1) part)) place;
+              ∙ ap (λ (n : ℕ). run_by m s.state s.depth n (drop (i + 1) part)) e;
         }
 
   whole : {q d i : ℕ} → Walking m part start q₀ d₀ q d i → taken_by m (standing q₀ d₀ start) part ≡ run_by m q₀ d₀ start part
   whole w = taken_run m (standing q₀ d₀ start) part w.long w.begun w.shallow w.room
 
   -- what the loop leaves
-  pub stopped : {q d i : ℕ} → Walking m part start q₀ d₀ q d i → i < length part → None ≡ going_on (move_by m q d (get_or part i 0))
+  pub stopped : {q d i : ℕ} {s : Stand} → Walking m part start q₀ d₀ q d i → i < length part → s ≡ stand_of (move_by m q d (get_or part i 0)) → states ≤ s.state
       → standing states 0 (start + i) ≡ taken_by m (standing q₀ d₀ start) part
-  stopped w h e = sym (stops w h e) ∙ sym (whole w)
+  stopped w h p g = sym (stops w h p g) ∙ sym (whole w)
 
   pub ends : {q d i : ℕ} → Walking m part start q₀ d₀ q d i → length part ≤ i → standing q d (start + length part) ≡ taken_by m (standing q₀ d₀ start) part
   unfolding run_by

@@ -1,6 +1,6 @@
 -- What the functions of the scan mean, for a machine of any bytes: a step, a walk over a part of a line, and the verdict at its end.
 -- That the verdicts by `machine_bytes` are what the rules say is a law (proofs/Scans.antt). Assumes nothing.
-use Rattle.std.specs.Prelude.{ℕ, ◌+◌, ◌*◌, ◌^◌, Bool, cond, ◌&&◌, List, [], ◌∷◌, Option, Some, None, ltb, leb, eqb, length, get_or, set}
+use Rattle.std.specs.Prelude.{ℕ, ◌+◌, ◌*◌, ◌^◌, Bool, cond, ◌&&◌, List, [], ◌∷◌, ltb, leb, eqb, length, get_or, set}
 use Rattle.lang.specs.Re.{in_c}
 use Rattle.lang.specs.Parts.{flat}
 use Rattle.lang.specs.Scan.{moved}
@@ -9,6 +9,7 @@ use Rattle.rules.specs.Stored.{little}
 use Rattle.rules.specs.Texts.{name_brackets}
 use Rattle.shape.specs.Tables.{states, deeps, flats, kinds, rows_at, ends_at, size, x_at, y_at, z_at, packed}
 use Rattle.scan_line.specs.declared.Progress.{Progress}
+use Rattle.scan_line.specs.declared.Stand.{Stand}
 use Rattle.scan_line.specs.declared.Verdict.{Verdict}
 use Rattle.scan_line.specs.declared.Verdict.TheVariants.{Fine, Short, Stray}
 
@@ -37,9 +38,8 @@ deep_at q = leb deeps q && ltb q flats
 unfoldable pub move_by : List ℕ → ℕ → ℕ → ℕ → ℕ × ℕ
 move_by m q d b = moved (deep_at q) (in_c name_brackets.opens b) (in_c name_brackets.closes b) q d (step_by m q b)
 
--- where a shape goes on: at one of the machine's states
-abbrev pub going_on : ℕ × ℕ → Option (ℕ × ℕ)
-going_on p = cond (ltb p.0 states) (Some p) None
+abbrev pub stand_of : ℕ × ℕ → Stand
+stand_of p = record { state = p.0; depth = p.1 }
 
 unfoldable pub ends_by : List ℕ → ℕ → Bool
 ends_by m q = eqb (get_or m (ends_at + q) 0) 1

@@ -1,20 +1,15 @@
 -- `scan_line::Progress::over` meets its contract: the loop is the walk. Assumes nothing.
-use mathlib.Core.Path.{ap, ◌∙◌}
-use Prim.Native.Nat.{ℕ, ◌+◌}
-use native.Mathlib.Omega.{arith}
-use lib.ListN.{length, get_or}
-use Rattle.scan_line.specs.Steps.{standing}
-use Rattle.scan_line.proofs.Moves.{first_moves}
 use Rattle.scan_line.proofs.Walks.{stays_few, stays_dead, stays_deep, stays_full, begin, stopped, turn, ends}
+use native.Mathlib.Omega.{arith}
 use Rattle.scan_line.proofs.Progress.over.Goals as goal
 use Rattle.scan_line.proofs.Progress.over.Goals.{then-self-ge-STATES-via-then-self-ge-STATES, then-self-ge-STATES-via-else-self-ge-STATES+then-self, then-self-ge-STATES-via-else-self-ge-STATES+else-self+then-self-part}
 
-pub returns-in_default : goal.returns-in_default
-returns-in_default c = stays_few _ _ _ c.in_default.ensures.cases
+pub returns-then-machine-lt-SIZE : goal.returns-then-machine-lt-SIZE
+returns-then-machine-lt-SIZE c = stays_few _ _ _ c.if-machine-lt-SIZE.true
 
 pub returns-then-self-ge-STATES : goal.returns-then-self-ge-STATES
 returns-then-self-ge-STATES c =
-    let l = c.in-Some.ensures.cases.enough in
+    let l = c.if-machine-lt-SIZE.false in
     elim c.then-self-ge-STATES.branch [
       | then-self-ge-STATES-via-then-self-ge-STATES w ↦ stays_dead _ _ _ l w.if-self-ge-STATES.true
       | then-self-ge-STATES-via-else-self-ge-STATES+then-self w ↦ stays_deep _ _ _ l w.if-self-ge-STATES.false w.if-self.true
@@ -22,28 +17,18 @@ returns-then-self-ge-STATES c =
     ]
 
 pub loop-i-init : goal.loop-i-init
-loop-i-init c = begin c.in-Some.ensures.cases.enough c.if-self-ge-STATES.false c.if-self.false (omega arith)
+loop-i-init c = begin c.if-machine-lt-SIZE.false c.if-self-ge-STATES.false c.if-self.false (omega arith)
 
-pub step-requires : goal.step-requires
-step-requires c = let w = c.loop-i.invariant in omega (arith, w.below, w.room, c.loop-i-test.true)
-
-pub returns-in_default-step : goal.returns-in_default-step
-returns-in_default-step c =
-    let chunk = c.in-Some.ensures.cases in
+pub step-s-requires : goal.step-s-requires
+step-s-requires c =
     let w = c.loop-i.invariant in
-    let b = get_or c.args.part.now c.loop-i.i 0 in
-    stopped w c.loop-i-test.true
-    (c.in_default-step.ensures ∙ first_moves c.args.machine.now chunk.same chunk.enough w.small c.loop-i.stand.1 b (c.type_inv.part c.loop-i.i).fits (c.type_inv.machine b).fits)
+    (w.long, (w.small, omega (arith, w.below, w.room, c.loop-i-test.true)))
+
+pub returns-then-q-ge-STATES : goal.returns-then-q-ge-STATES
+returns-then-q-ge-STATES c = stopped c.loop-i.invariant c.loop-i-test.true c.step-s.ensures c.if-q-ge-STATES.true
 
 pub loop-i-preserved : goal.loop-i-preserved
-loop-i-preserved c =
-    let chunk = c.in-Some.ensures.cases in
-    let w = c.loop-i.invariant in
-    let b = get_or c.args.part.now c.loop-i.i 0 in
-    turn w c.loop-i-test.true
-    (c.in-Some-step.ensures ∙ first_moves c.args.machine.now chunk.same chunk.enough w.small c.loop-i.stand.1 b (c.type_inv.part c.loop-i.i).fits (c.type_inv.machine b).fits)
+loop-i-preserved c = turn c.loop-i.invariant c.loop-i-test.true c.step-s.ensures c.if-q-ge-STATES.false
 
 pub returns : goal.returns
-returns c =
-    let a = c.args in
-    ap (λ (p : ℕ × ℕ). standing p.0 p.1 (a.self.at + length a.part.now)) c.stand.view_is ∙ ends c.loop-i.invariant c.loop-i-test.false
+returns c = ends c.loop-i.invariant c.loop-i-test.false
