@@ -46,14 +46,13 @@ pub fn put_symbol(out: &mut [u8], at: usize, element: u16) -> usize
     ensures { Put out.old at (symbol_text element) out.new result }
 {
     let l = letters_of(element);
-    if l.first == 0 {
-        return at;
-    }
-    let p = put8(out, at, l.first);
-    if l.second == 0 {
-        p
-    } else {
-        put8(out, p, l.second)
+    match (l.first, l.second) {
+        (0, _) => at,
+        (first, 0) => put8(out, at, first),
+        (first, second) => {
+            let p = put8(out, at, first);
+            put8(out, p, second)
+        }
     }
 }
 
