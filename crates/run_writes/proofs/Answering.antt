@@ -6,7 +6,8 @@ use mathlib.Core.List.{List, [], ◌∷◌, ◌++◌}
 use native.Mathlib.Omega.{arith}
 use lib.Dec.{eqb}
 use lib.ListN.{length, take, drop, replicate}
-use lib.Seq.{length-take-le, take_all, take-take, take_at, drop_at, drop-length}
+use lib.Seq.{length-take-le, take_all, take-take, take_at, drop_at, drop-length, take-append-le, drop-append-le}
+use Rattle.std.proofs.lemmas.List.{take-append-drop}
 use Rattle.rules.specs.Answers as rules
 use Rattle.rules.specs.Answers.{refuses}
 use Rattle.rules.specs.Largest.{max_any_table}
@@ -100,6 +101,32 @@ module _ (task : Task) (machine : List ℕ) (sized : Bool) (asked : List ℕ) (t
   pub one_plain : {d e : List ℕ} {r : Answer} → sized ≡ false → length e ≡ length d → answered r e ≡ hex_of task machine asked tableRoom (length d)
       → WrittenBy sized d e r
   one_plain {d} {e} {r} h same q = subst (λ (b : Bool). WrittenBy b d e r) (sym h) (written_whole task machine asked tableRoom same q)
+
+-- as much of the line is lent as is answered at most
+room_small : (b : Bool) (asked : List ℕ) (all : ℕ) → room_in b asked all ≤ all
+room_small true asked all = omega arith
+room_small false asked all = omega arith
+
+written_front : {room n : ℕ} {a : rules.Answer} {d p : List ℕ} {r : Answer} → room ≤ n → n ≤ length d → length p ≡ n → Written room a (take n d) p r
+    → Written room a d (p ++ drop n d) r
+written_front {room} {n} {a} {d} {p} {r} small h same w =
+    record {
+      is = ap (answered r) (take-append-le room p (drop n d) (omega (arith, same))) ∙ w.is;
+      rest =
+          drop-append-le room p (drop n d) (omega (arith, same))
+          ∙ ap (λ (l : List ℕ). l ++ drop n d) w.rest
+          ∙ sym (drop-append-le room (take n d) (drop n d) (omega (arith, length-take-le n d h)))
+          ∙ ap (drop room) (take-append-drop n d);
+    }
+
+pub written_most : (task : Task) (machine : List ℕ) (sized : Bool) (asked : List ℕ) (tableRoom most : ℕ) {n : ℕ} {d p : List ℕ} {r : Answer} → n ≡ most → most ≤ length d
+    → length p ≡ length (take n d)
+    → Written (room_in sized asked (length (take n d))) (answer_to task machine sized asked tableRoom (length (take n d))) (take n d) p r
+    → Written (room_in sized asked most) (answer_to task machine sized asked tableRoom most) d (p ++ drop n d) r
+written_most task machine sized asked tableRoom most {n} {d} {p} {r} q h same w =
+    let k : length (take n d) ≡ most = length-take-le n d (omega (arith, q)) ∙ q in
+    written_front (omega (arith, room_small sized asked most, q)) (omega (arith, q)) (same ∙ k ∙ sym q)
+    (subst (λ (m : ℕ). Written (room_in sized asked m) (answer_to task machine sized asked tableRoom m) (take n d) p r) k w)
 
 -- ---- as text
 

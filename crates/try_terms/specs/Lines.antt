@@ -1,5 +1,5 @@
 -- What is said to a line, as text. Assumes nothing.
-use Rattle.std.specs.Prelude.{ℕ, cond, List, [], ◌∷◌, ◌++◌, eqb, ltb, length, drop, get_or, Option, Some, None}
+use Rattle.std.specs.Prelude.{ℕ, cond, List, ◌++◌, eqb, ltb, length, drop, get_or, Option, Some, None}
 use Prim.Native.Char.{code}
 use Rattle.rules.specs.Bytes.{bytes}
 use Rattle.rules.specs.Numbers.{digits}
