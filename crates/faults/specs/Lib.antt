@@ -1,2 +1,2 @@
-pub mod Faults
 pub mod Refusals
+pub mod Faults

@@ -1,6 +1,5 @@
 -- Why a call is refused, by number: document 01, "Numbers of refusal", and the numbers of the later documents. Assumes nothing.
-use Rattle.std.specs.Prelude.{ℕ, cond, eqb, Option, Some, None}
-use Rattle.faults.specs.declared.Fault.{Fault}
+use Rattle.std.specs.Prelude.{ℕ, cond, eqb, Option, Some}
 use Rattle.faults.specs.declared.Refusal.{Refusal}
 use Rattle.faults.specs.declared.Why.{Why}
 use Rattle.faults.specs.declared.Why.TheVariants.{LineTooLong, StrayByte, Unfinished, PastBound, TooMany, RuleBroken, ConfidencesExceedOne, OutputTooShort, NoTable, FirstEditionTable, SequenceForm, BadMz, BadIntensity, Letters}
@@ -32,6 +31,6 @@ why_of n =
 abbrev pub refusal : Why → ℕ → Refusal
 refusal w p = record { why = w; place = p }
 
--- a fault that is one, as a refusal
-abbrev pub refused : Fault → Option Refusal
-refused f = cond (eqb f.number 0) None (Some (refusal (why_of f.number) f.place))
+-- a number of refusal with its place
+abbrev pub refused_by : ℕ → ℕ → Option Refusal
+refused_by n p = Some (refusal (why_of n) p)

@@ -1,10 +1,10 @@
-// The first broken limit of a line, kept while its parts are read: document 01, "Numbers of refusal", 4 and 5.
+// Why a call is refused, and the first broken limit of a line, kept while its parts are read: document 01, "Numbers of refusal", 4 and 5.
 #![tactic(auto)]
 
 ghost use Rattle.std.specs.Prelude.{◌≡◌};
 ghost use Rattle.rules.specs.Limits.{number_mark, many_mark};
-ghost use Rattle.faults.specs.Faults.{numbered, join, after};
-ghost use Rattle.faults.specs.Refusals.{number_of, why_of, refused};
+ghost use Rattle.faults.specs.Refusals.{number_of};
+ghost use Rattle.faults.specs.Faults.{mark, join, after};
 
 // Why a call is refused. The discriminants are the numbers of refusal.
 #[derive(Clone, Copy, PartialEq, Eq)]
@@ -55,107 +55,28 @@ pub struct Refusal {
     pub place: usize,
 }
 
-// The first limit that was broken: its number and place. Number 0: none was. Both are of one size, so that a copy has no gap in it.
-#[derive(Clone, Copy)]
-pub struct Fault {
-    pub number: usize,
-    pub place: usize,
+// A limit at a place counts where it is broken, and none was broken before it.
+#[tactic(auto, unfolding(crate::specs::Faults::join))]
+pub fn note(f: Option<Refusal>, why: Why, place: usize, broken: bool) -> Option<Refusal>
+    ensures { result ≡ join f (mark why place broken) }
+{
+    match f {
+        Some(_) => f,
+        None if broken => Some(Refusal { why, place }),
+        None => None,
+    }
 }
 
 // A number at a place, against its bound.
-pub fn check_number(f: Fault, bound: u32, value: u32, place: usize) -> Fault
+pub fn check_number(f: Option<Refusal>, bound: u32, value: u32, place: usize) -> Option<Refusal>
     ensures { result ≡ after f (number_mark bound value place) }
 {
-    if f.number != 0 {
-        return f;
-    }
-    if bound < value {
-        return Fault { number: 4, place };
-    }
-    f
+    note(f, Why::PastBound, place, bound < value)
 }
 
 // A thing at a place, of which i stand before it, against how many there may be.
-pub fn check_count(f: Fault, bound: usize, i: usize, place: usize) -> Fault
+pub fn check_count(f: Option<Refusal>, bound: usize, i: usize, place: usize) -> Option<Refusal>
     ensures { result ≡ join f (many_mark bound i place) }
 {
-    if f.number != 0 {
-        return f;
-    }
-    if bound <= i {
-        return Fault { number: 5, place };
-    }
-    f
-}
-
-// A limit at a place, by the number of its refusal: 0 where it is kept.
-pub fn check_refusal(f: Fault, number: usize, place: usize) -> Fault
-    ensures { result ≡ join f (numbered number place) }
-{
-    if f.number != 0 {
-        return f;
-    }
-    if number != 0 {
-        return Fault { number, place };
-    }
-    f
-}
-
-// The reason of a number of refusal; that of no table where the number is none.
-fn why_of(number: usize) -> Why
-    ensures { result ≡ why_of number }
-{
-    if number == 1 {
-        return Why::LineTooLong;
-    }
-    if number == 2 {
-        return Why::StrayByte;
-    }
-    if number == 3 {
-        return Why::Unfinished;
-    }
-    if number == 4 {
-        return Why::PastBound;
-    }
-    if number == 5 {
-        return Why::TooMany;
-    }
-    if number == 6 {
-        return Why::RuleBroken;
-    }
-    if number == 7 {
-        return Why::ConfidencesExceedOne;
-    }
-    if number == 8 {
-        return Why::OutputTooShort;
-    }
-    if number == 10 {
-        return Why::FirstEditionTable;
-    }
-    if number == 11 {
-        return Why::SequenceForm;
-    }
-    if number == 12 {
-        return Why::BadMz;
-    }
-    if number == 13 {
-        return Why::BadIntensity;
-    }
-    if number == 20 {
-        return Why::Letters;
-    }
-    Why::NoTable
-}
-
-// A fault that is one, as a refusal.
-pub fn refused(f: Fault) -> Option<Refusal>
-    ensures { result ≡ refused f }
-{
-    if f.number == 0 {
-        return None;
-    }
-    Some(Refusal {
-        why: why_of(f.number),
-        place: f.place,
-    })
+    note(f, Why::TooMany, place, bound <= i)
 }

@@ -16,11 +16,6 @@ made_of v p = cond (fits (record { value = v; places = p })) (Some (record { val
 abbrev pub zero_decimal : Decimal
 zero_decimal = record { value = 0; places = 0 }
 
--- the paper's number for each answer ("Numbers of refusal": 0 and 4)
-abbrev pub made_number : Option Decimal → ℕ
-made_number (Some d) = 0
-made_number None = 4
-
 -- the decimal of each answer; past its bounds it is told as 0
 abbrev pub made_decimal : Option Decimal → Decimal
 made_decimal m = unwrap_or m zero_decimal

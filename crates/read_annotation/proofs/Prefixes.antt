@@ -19,7 +19,7 @@ use Rattle.rules.specs.Stored.{flag}
 use Rattle.numbers.specs.declared.Number.{Number}
 use Rattle.numbers.specs.Leading.{number_of}
 use Rattle.numbers.proofs.SpelledNumbers.{number_begins, number_read}
-use Rattle.faults.specs.declared.Fault.{Fault}
+use Rattle.faults.specs.declared.Refusal.{Refusal}
 use Rattle.faults.specs.Faults.{after}
 use Rattle.read_formula.proofs.Spelled.{capped}
 use Rattle.read_formula.proofs.Limits.{mark_told}
@@ -39,7 +39,7 @@ abbrev pub analyte_number : Opt ℕ → Option ℕ
 analyte_number silent = None
 analyte_number (written n) = Some (capped n)
 
-abbrev pub prefix_read : Bool → Opt ℕ → Fault → PrefixRead
+abbrev pub prefix_read : Bool → Opt ℕ → Option Refusal → PrefixRead
 prefix_read m n g = record { marked = m; analyte = analyte_number n; len = prefix_length m n; fault = g }
 
 -- a digit is no `&`
@@ -71,7 +71,7 @@ module _ (k : List ℕ) (mark : starts_with (bytes "&") k ≡ false) (no_digit :
   flag_long false = refl
 
   -- behind `&`: `at` bytes of s stand before t
-  analyte_read : (n : Opt ℕ) (m : Bool) (end : ℕ) (f : Fault) (s : List ℕ) → drop (flag m) s ≡ opt_text analyte_text n ++ k → length s ≡ flag m + length (opt_text analyte_text n ++ k)
+  analyte_read : (n : Opt ℕ) (m : Bool) (end : ℕ) (f : Option Refusal) (s : List ℕ) → drop (flag m) s ≡ opt_text analyte_text n ++ k → length s ≡ flag m + length (opt_text analyte_text n ++ k)
       → length (opt_text analyte_text n ++ k) ≤ end
       → prefix_in end s m f ≡ prefix_read m n (after f ((opt_part analyte_part n).marks (end - length (opt_text analyte_text n ++ k))))
   analyte_read silent m end f s d l h =
@@ -85,10 +85,10 @@ module _ (k : List ℕ) (mark : starts_with (bytes "&") k ≡ false) (no_digit :
       let w : min (min (flag m + length (digits n)) (length s) + 1) (length s) ≡ prefix_length m (written n) = omega (arith, flag_long m) in
       rw (d, analyte_begins n k)
       (ap (λ (x : Number). prefix_with s m (flag m) x (after f (number_mark max_position x.value (end - length t)))) r
-      ∙ ap₂ (λ (x : ℕ) (g : Fault). record { marked = m; analyte = Some (capped n); len = x; fault = g }) w
+      ∙ ap₂ (λ (x : ℕ) (g : Option Refusal). record { marked = m; analyte = Some (capped n); len = x; fault = g }) w
       (mark_told f max_position n (end - length t) (end - length t) (omega arith) refl))
 
-  pub prefix_read_lem : (m : Bool) (n : Opt ℕ) (end : ℕ) (f : Fault) → length (flag_text (bytes "&") m ++ (opt_text analyte_text n ++ k)) ≤ end
+  pub prefix_read_lem : (m : Bool) (n : Opt ℕ) (end : ℕ) (f : Option Refusal) → length (flag_text (bytes "&") m ++ (opt_text analyte_text n ++ k)) ≤ end
       → prefix_of end (flag_text (bytes "&") m ++ (opt_text analyte_text n ++ k)) f ≡ prefix_read m n (after f ((opt_part analyte_part n).marks (end - length (opt_text analyte_text n ++ k))))
   unfolding prefix_of
   prefix_read_lem m n end f h =

@@ -12,7 +12,7 @@ ghost use Rattle.read_annotation.specs.House.{ion_rule_of, deviation_rule_of, co
 ghost use Rattle.read_annotation.specs.Measured.{own_counts, parts_of, is_free, measured_of};
 
 use counts::{Counts, plus, sum};
-use faults::{Fault, check_count, check_number};
+use faults::{Refusal, check_count, check_number};
 use layout::Edition;
 use limits::{MAX_ANNOTATIONS, MAX_ITEMS, MAX_LOSSES, MAX_POSITION, ONE};
 use numbers::{billionths, read_number};
@@ -30,7 +30,7 @@ pub struct PrefixRead {
     pub marked: bool,
     pub analyte: Option<u32>,
     pub len: usize,
-    pub fault: Fault,
+    pub fault: Option<Refusal>,
 }
 
 // Prefix and ion; the ion begins at `at`. Its sequence has so many residues, and is of the plain form or not; without one it has none, and is.
@@ -50,7 +50,7 @@ pub struct Front {
 pub struct Middle {
     pub counts: Counts,
     pub len: usize,
-    pub fault: Fault,
+    pub fault: Option<Refusal>,
 }
 
 // Charge, deviation and confidence.
@@ -80,11 +80,11 @@ pub struct Measured {
     pub formed: bool,
     pub kept: bool,
     pub len: usize,
-    pub fault: Fault,
+    pub fault: Option<Refusal>,
 }
 
 // `&` and analyte, both optional. No ion begins with a digit.
-pub fn read_prefix(s: &[u8], end: usize, f: Fault) -> PrefixRead
+pub fn read_prefix(s: &[u8], end: usize, f: Option<Refusal>) -> PrefixRead
     ensures { result ≡ prefix_of end s.now f }
 {
     let marked = begins_with(s, b'&');
@@ -123,7 +123,7 @@ fn adduct_len(items: usize, all: usize) -> usize
 }
 
 // The adduct that a part begins with.
-pub fn read_adduct(s: &[u8], end: usize, f: Fault) -> Row
+pub fn read_adduct(s: &[u8], end: usize, f: Option<Refusal>) -> Row
     ensures { result ≡ adduct_of end s.now f }
 {
     if !begins_adduct(s) {
@@ -171,7 +171,7 @@ fn sequence_of(s: &[u8], x: IonRead) -> SequenceRead
 }
 
 // Prefix and ion.
-fn read_front(s: &[u8], end: usize, f: Fault) -> Front
+fn read_front(s: &[u8], end: usize, f: Option<Refusal>) -> Front
     ensures { result ≡ front_of end s.now f }
 {
     let p = read_prefix(s, end, f);
@@ -202,7 +202,7 @@ fn begins_middle(s: &[u8]) -> bool
 }
 
 // Losses, isotopes, adduct.
-fn read_middle(s: &[u8], end: usize, f: Fault) -> Middle
+fn read_middle(s: &[u8], end: usize, f: Option<Refusal>) -> Middle
     ensures { result ≡ middle_of end s.now f }
 {
     // Most annotations have none of the three.
@@ -236,7 +236,7 @@ fn read_middle(s: &[u8], end: usize, f: Fault) -> Middle
 }
 
 // Charge, deviation, confidence.
-fn read_tail(s: &[u8], end: usize, f: Fault) -> Tail
+fn read_tail(s: &[u8], end: usize, f: Option<Refusal>) -> Tail
     ensures { result ≡ tail_of end s.now f }
 {
     let c = read_charge(s, end, f);
@@ -344,7 +344,7 @@ fn share_of(c: DecimalPart) -> u64
 }
 
 // Annotation number i of a line of `end` bytes.
-pub fn read_parts(i: usize, s: &[u8], end: usize, f: Fault) -> Parts
+pub fn read_parts(i: usize, s: &[u8], end: usize, f: Option<Refusal>) -> Parts
     ensures { result ≡ parts_of i end s.now f }
 {
     let g = check_count(f, MAX_ANNOTATIONS, i, minus_or_zero(end, s.len()));

@@ -5,6 +5,7 @@ use mathlib.Core.Bool.{true, false}
 use mathlib.Core.List.{List, [], ◌∷◌, ◌++◌, map}
 use native.Mathlib.Omega.{arith}
 use lib.ListN.{length, length-map}
+use Rattle.std.specs.Prelude.{Option, None}
 use Rattle.lang.specs.Re.{Rng, in_c}
 use Rattle.lang.specs.Parts.{items, flat}
 use Rattle.lang.specs.Walk.{walk}
@@ -18,8 +19,8 @@ use Rattle.rules.specs.Limits.{max_losses, max_items, row_marks, loss_marks, ite
 use Rattle.rules.specs.Fields.{filled}
 use Rattle.rules.specs.Stored.{lost_units, lost_name, added_units}
 use Rattle.changes.specs.Contents.{content_units, content_bytes}
-use Rattle.faults.specs.declared.Fault.{Fault}
-use Rattle.faults.specs.Faults.{fault, after}
+use Rattle.faults.specs.declared.Refusal.{Refusal}
+use Rattle.faults.specs.Faults.{after}
 use Rattle.read_formula.proofs.Ends.{EndsFormula}
 use Rattle.read_opening.specs.Heads.{begins_change}
 use Rattle.read_changes.specs.Rows.{Sums, sums, change_size, count_change, changes_of}
@@ -46,7 +47,7 @@ lost_names : (w : Lost Written) → content_bytes (what_content (of_lost w)) ≡
 lost_names (lost_formula x) = refl
 lost_names (lost_name_lem n) = refl
 
-pub losses_read : (xs : List (Loss Written)) (k : List ℕ) (end : ℕ) (f : Fault) → EndsChanges k → length (flat loss_text xs ++ k) ≤ end
+pub losses_read : (xs : List (Loss Written)) (k : List ℕ) (end : ℕ) (f : Option Refusal) → EndsChanges k → length (flat loss_text xs ++ k) ≤ end
     → changes_of max_losses end (flat loss_text xs ++ k) f
     ≡ record {
       n = length xs;
@@ -79,7 +80,7 @@ flat_none : {B : Type 0} (xs : List B) → length (flat {B = ℕ} (λ x. []) xs)
 flat_none [] = refl
 flat_none (x ∷ xs) = flat_none xs
 
-pub items_read : (xs : List (Item Written)) (k : List ℕ) (end : ℕ) (f : Fault) → EndsChanges k → length (flat item_text xs ++ k) ≤ end
+pub items_read : (xs : List (Item Written)) (k : List ℕ) (end : ℕ) (f : Option Refusal) → EndsChanges k → length (flat item_text xs ++ k) ≤ end
     → changes_of max_items end (flat item_text xs ++ k) f
     ≡ record {
       n = length xs;
@@ -108,7 +109,7 @@ items_end xs k e = row_ends of_item item_text item_text_lem xs k e
 
 -- ---- of any text
 
-module _ (bound end : ℕ) (s : List ℕ) (f : Fault) where
+module _ (bound end : ℕ) (s : List ℕ) (f : Option Refusal) where
   pub changes_within : (changes_of bound end s f).len ≤ length s
   unfolding changes_of
   changes_within = omega arith
@@ -138,5 +139,5 @@ module _ (bound end : ℕ) (s : List ℕ) (f : Fault) where
       grows : (a : Sums) (t : List ℕ) → begins_change t ≡ true → ((count_change bound end a t).units + (count_change bound end a t).text ≤ a.units + a.text + change_size t) × (change_size t ≤ length t)
       grows a t e =
           let m = size_moves t e in
-          let l = change_long bound a.n end 0 0 0 t a.fault (fault 0 0) in
+          let l = change_long bound a.n end 0 0 0 t a.fault None in
           (omega (arith, l, change_stored bound a.n end t a.fault), m.1)

@@ -7,7 +7,7 @@ ghost use Rattle.read_changes.specs.Changes.{head_fault, change_with, content_of
 ghost use Rattle.read_changes.specs.Rows.{changes_of};
 
 use changes::{Content, Sign};
-use faults::{Fault, check_count, check_number};
+use faults::{Refusal, check_count, check_number};
 use limits::MAX_COUNT;
 use read_formula::{begins_unit, formula};
 use read_opening::{Head, begins_change, name_in_brackets, read_head};
@@ -21,7 +21,7 @@ pub struct ChangeRead {
     pub start: usize,
     pub content: Content,
     pub len: usize,
-    pub fault: Fault,
+    pub fault: Option<Refusal>,
 }
 
 // Losses, or adduct items: how many, how many units and name bytes they have in all, how many bytes, and the first broken limit.
@@ -31,11 +31,18 @@ pub struct Row {
     pub units: usize,
     pub text: usize,
     pub len: usize,
-    pub fault: Fault,
+    pub fault: Option<Refusal>,
 }
 
 // The limits of sign and count, where `i` stand before this one and no more than `bound` may stand in all.
-fn head_fault(bound: usize, i: usize, h: Head, end: usize, left: usize, f: Fault) -> Fault
+fn head_fault(
+    bound: usize,
+    i: usize,
+    h: Head,
+    end: usize,
+    left: usize,
+    f: Option<Refusal>,
+) -> Option<Refusal>
     ensures { result ≡ head_fault bound i h end left f }
 {
     let g = check_count(f, bound, i, minus_or_zero(end, left));
@@ -48,7 +55,7 @@ fn head_fault(bound: usize, i: usize, h: Head, end: usize, left: usize, f: Fault
 }
 
 // A loss or adduct item with its head, as far as the part goes.
-fn with_head(s: &[u8], h: Head, content: Content, len: usize, fault: Fault) -> ChangeRead
+fn with_head(s: &[u8], h: Head, content: Content, len: usize, fault: Option<Refusal>) -> ChangeRead
     ensures { result ≡ change_with s.now h content len fault }
 {
     ChangeRead {
@@ -62,7 +69,7 @@ fn with_head(s: &[u8], h: Head, content: Content, len: usize, fault: Fault) -> C
 }
 
 // What stands behind sign and count.
-fn read_content(s: &[u8], h: Head, end: usize, f: Fault) -> ChangeRead
+fn read_content(s: &[u8], h: Head, end: usize, f: Option<Refusal>) -> ChangeRead
     ensures { result ≡ content_of end s.now h f }
 {
     let t = rest(s, h.len);
@@ -80,7 +87,7 @@ fn read_content(s: &[u8], h: Head, end: usize, f: Fault) -> ChangeRead
 }
 
 // The loss or adduct item that a part begins with.
-pub fn read_change(bound: usize, i: usize, s: &[u8], end: usize, f: Fault) -> ChangeRead
+pub fn read_change(bound: usize, i: usize, s: &[u8], end: usize, f: Option<Refusal>) -> ChangeRead
     ensures { result ≡ change_of bound i end s.now f }
 {
     let h = read_head(s);
@@ -89,7 +96,7 @@ pub fn read_change(bound: usize, i: usize, s: &[u8], end: usize, f: Fault) -> Ch
 }
 
 // All that a part begins with.
-pub fn read_changes(bound: usize, s: &[u8], end: usize, f: Fault) -> Row
+pub fn read_changes(bound: usize, s: &[u8], end: usize, f: Option<Refusal>) -> Row
     ensures { result ≡ changes_of bound end s.now f }
 {
     let mut at: usize = 0;

@@ -6,8 +6,9 @@ use mathlib.Core.List.{List}
 use native.Mathlib.Omega.{arith}
 use lib.Dec.{eqb}
 use lib.ListN.{length, get_or, drop, length-drop}
+use Rattle.std.specs.Prelude.{Option}
 use Rattle.lang.specs.Walk.{walk_in}
-use Rattle.faults.specs.declared.Fault.{Fault}
+use Rattle.faults.specs.declared.Refusal.{Refusal}
 use Rattle.read_formula.specs.Units.{begins_unit}
 use Rattle.read_formula.specs.Formulas.{Counted, counted, unit_size, count_unit, formula_of}
 use Rattle.read_formula.proofs.Measures.{unit_moves}
@@ -39,7 +40,7 @@ units_in end (suc n) s a = by (units_in end n (drop (unit_size s) s) (count_unit
     by ih true e = let m = unit_moves s e in rw e (omega (arith, ih, count_more end a s, length-drop (unit_size s) s))
     by ih false e = rw e (omega arith)
 
-pub formula_units : (end : ℕ) (s : List ℕ) (f : Fault) → (formula_of end s f).units ≤ (formula_of end s f).len
+pub formula_units : (end : ℕ) (s : List ℕ) (f : Option Refusal) → (formula_of end s f).units ≤ (formula_of end s f).len
 unfolding formula_of
 formula_units end s f = omega (arith, units_in end (length s) s (counted 0 f))
 
@@ -60,7 +61,7 @@ module _ (kind : IonKind) (letter position last at : ℕ) (s : List ℕ) where
   with_within : (c : Enclosed) → openings.Within c (drop at s) → Within (with_text kind letter position last at c (length s)) s
   with_within c w = record { len = omega arith; units = omega arith; text = omega (arith, w.size, length-drop at s) }
 
-module _ (end : ℕ) (s : List ℕ) (f : Fault) where
+module _ (end : ℕ) (s : List ℕ) (f : Option Refusal) where
   series_within : Within (series_of end s f) s
   unfolding series_of
   series_within = with_within _ _ _ _ _ s _ (openings.text_within end _ _)
@@ -116,11 +117,11 @@ module _ (end : ℕ) (s : List ℕ) (f : Fault) where
   unfolding ion_of
   ion_bounds = by_within (get_or s 0 0)
 
-pub ion_within : (end : ℕ) (s : List ℕ) (f : Fault) → (ion_of end s f).len ≤ length s
+pub ion_within : (end : ℕ) (s : List ℕ) (f : Option Refusal) → (ion_of end s f).len ≤ length s
 ion_within end s f = (ion_bounds end s f).len
 
-pub ion_units_lem : (end : ℕ) (s : List ℕ) (f : Fault) → (ion_of end s f).units ≤ length s
+pub ion_units_lem : (end : ℕ) (s : List ℕ) (f : Option Refusal) → (ion_of end s f).units ≤ length s
 ion_units_lem end s f = (ion_bounds end s f).units
 
-pub ion_text_lem : (end : ℕ) (s : List ℕ) (f : Fault) → (ion_of end s f).text ≤ length s
+pub ion_text_lem : (end : ℕ) (s : List ℕ) (f : Option Refusal) → (ion_of end s f).text ≤ length s
 ion_text_lem end s f = (ion_bounds end s f).text

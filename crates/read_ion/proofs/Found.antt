@@ -10,7 +10,7 @@ use Rattle.read_ion.specs.Letters.{one_letter, two_letters, letters_of}
 use Rattle.rules.specs.Limits.{max_position, number_mark}
 use Rattle.numbers.specs.declared.Number.{Number}
 use Rattle.numbers.specs.Leading.{number_of}
-use Rattle.faults.specs.declared.Fault.{Fault}
+use Rattle.faults.specs.declared.Refusal.{Refusal}
 use Rattle.faults.specs.Faults.{after}
 use Rattle.read_opening.specs.declared.Enclosed.{Enclosed}
 use Rattle.read_opening.specs.Enclosed.{text_of}
@@ -45,7 +45,7 @@ module _ (s : List ℕ) {a b : ℕ} {two : Option ℕ} (pa : a ≡ get_or s 0 0)
 
 -- ---- an internal ion, call by call
 
-module _ (s : List ℕ) (end : ℕ) (f : Fault) {u r q t : List ℕ} {c : CutRead} {a b : Number} {g h : Fault} {from l m l₂ m₂ colon p at : ℕ} {x : Enclosed} {i : IonRead}
+module _ (s : List ℕ) (end : ℕ) (f : Option Refusal) {u r q t : List ℕ} {c : CutRead} {a b : Number} {g h : Option Refusal} {from l m l₂ m₂ colon p at : ℕ} {x : Enclosed} {i : IonRead}
     (pu : u ≡ drop 1 s) (pk : c ≡ cut_of u) (po : from ≡ min (1 + c.len) (length s))
     (pr : r ≡ drop from s) (pa : a ≡ number_of r) (pl : l ≡ length s - from) (pm : m ≡ end - l) (pg : g ≡ after f (number_mark max_position a.value m))
     (pc : colon ≡ min (from + a.len) (length s)) (pp : p ≡ min (colon + 1) (length s)) (pq : q ≡ drop p s) (pb : b ≡ number_of q)
@@ -57,7 +57,7 @@ module _ (s : List ℕ) (end : ℕ) (f : Fault) {u r q t : List ℕ} {c : CutRea
 
 -- ---- ions, by the first byte
 
-module _ (s : List ℕ) (end : ℕ) (f : Fault) {b : ℕ} (pb : b ≡ get_or s 0 0) where
+module _ (s : List ℕ) (end : ℕ) (f : Option Refusal) {b : ℕ} (pb : b ≡ get_or s 0 0) where
   pub first_is : (k : ℕ) → b ≡ k → ion_by k end s f ≡ ion_of end s f
   unfolding ion_of
   first_is k e = ap (λ (x : ℕ). ion_by x end s f) (sym e ∙ pb)

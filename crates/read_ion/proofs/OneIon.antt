@@ -3,13 +3,14 @@ use Prim.Native.Nat.{ℕ, ◌+◌}
 use mathlib.Core.Path.{◌≡◌, sym, ap}
 use mathlib.Core.List.{List, [], ◌++◌, append-nil}
 use lib.ListN.{length}
+use Rattle.std.specs.Prelude.{Option}
 use Rattle.lang.specs.Parts.{Opt, silent, written, opt_text, items, word_of}
 use Rattle.lang.specs.Mark.{Mark}
 use Rattle.rules.specs.Numbers.{Number, number_text}
 use Rattle.rules.specs.Ions.{SpelledIon, series, internal, immonium, precursor, reference, named, composed, smiles, unknown, ion_text}
 use Rattle.rules.specs.Fields.{filled_cut}
 use Rattle.rules.specs.Stored.{bytes_of, held_cut}
-use Rattle.faults.specs.declared.Fault.{Fault}
+use Rattle.faults.specs.declared.Refusal.{Refusal}
 use Rattle.faults.specs.Faults.{after}
 use Rattle.read_formula.proofs.Spelled.{capped}
 use Rattle.read_ion.specs.declared.IonKind.TheVariants as kinds
@@ -21,7 +22,7 @@ label_read silent = 0
 label_read (written n) = capped n.value
 
 -- an ion as it is read, with the first broken limit
-abbrev pub ion_read : SpelledIon → Fault → IonRead
+abbrev pub ion_read : SpelledIon → Option Refusal → IonRead
 ion_read (series s n t) g =
     record { kind = kinds.Series; letter = s.which + 1; position = capped n.value; last = 0; start = length (word_of s) + length (number_text n); units = 0; text = length (bytes_of t); len = length (ion_text (series s n t)); fault = g }
 ion_read (internal c m n t) g =
@@ -36,5 +37,5 @@ ion_read (smiles t) g = record { kind = kinds.Smiles; letter = 0; position = 0; 
 ion_read (unknown n) g = record { kind = kinds.Unknown; letter = 0; position = label_read n; last = 0; start = 1; units = 0; text = 0; len = length (ion_text (unknown n)); fault = g }
 
 -- nothing comes after the last marks
-pub ended : (g : Fault) (ms : List Mark) → after g ms ≡ after g (ms ++ [])
+pub ended : (g : Option Refusal) (ms : List Mark) → after g ms ≡ after g (ms ++ [])
 ended g ms = ap (after g) (sym (append-nil ms))

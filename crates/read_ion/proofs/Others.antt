@@ -4,6 +4,7 @@ use mathlib.Core.Path.{◌≡◌, refl, ap, ap₂, ◌∙◌}
 use mathlib.Core.List.{List, [], ◌∷◌, ◌++◌}
 use native.Mathlib.Omega.{arith}
 use lib.ListN.{length, length-append}
+use Rattle.std.specs.Prelude.{Option}
 use Rattle.lang.specs.Re.{Byte}
 use Rattle.lang.specs.Parts.{Opt, silent, written, opt_text, items}
 use Rattle.lang.specs.Mark.{marks_of}
@@ -15,7 +16,7 @@ use Rattle.rules.specs.Formulas.{Written, Formula, formula_text}
 use Rattle.rules.specs.Ions.{immonium, precursor, reference, named, composed, smiles, unknown, ion_text}
 use Rattle.rules.specs.Limits.{max_position, closed_part, formula_part, ion_parts}
 use Rattle.numbers.proofs.SpelledNumbers.{number_read, number_silent}
-use Rattle.faults.specs.declared.Fault.{Fault}
+use Rattle.faults.specs.declared.Refusal.{Refusal}
 use Rattle.faults.specs.Faults.{after}
 use Rattle.faults.proofs.Marks.{join_kept}
 use Rattle.read_formula.proofs.Spelled.{capped}
@@ -30,7 +31,7 @@ use Rattle.read_ion.specs.Ions.{ion_by, ion_of}
 use Rattle.read_ion.proofs.OneIon.{ion_read, ended}
 use Rattle.read_ion.proofs.Ends.{EndsIon, opens_written}
 
-module _ (k : List ℕ) (end : ℕ) (f : Fault) where
+module _ (k : List ℕ) (end : ℕ) (f : Option Refusal) where
   -- ---- immonium ions
 
   immonium_long : (a : ℕ) (w : List ℕ) → min (2 + 0) (length (73 ∷ (a ∷ w))) ≡ 2
@@ -46,7 +47,7 @@ module _ (k : List ℕ) (end : ℕ) (f : Fault) where
       let o : length (bracket_text m ++ k) ≤ end = omega arith in
       let l = length-append (bracket_text m) k in
       rw (immonium_long a.val (bracket_text m ++ k), opens_written m k, name_here m (and_0 (is_name m.bytes) _ m.good) k end f o)
-      (ap₂ (λ (l : ℕ) (g : Fault). record { kind = kinds.Immonium; letter = a.val; position = 0; last = 0; start = 2; units = 0; text = length m.bytes; len = l; fault = g })
+      (ap₂ (λ (l : ℕ) (g : Option Refusal). record { kind = kinds.Immonium; letter = a.val; position = 0; last = 0; start = 2; units = 0; text = length m.bytes; len = l; fault = g })
       (let z : min (2 + length (bracket_text m)) (length s) ≡ length (ion_text (immonium a (written m))) = omega arith in z)
       (ap (λ (at : ℕ). after f ((closed_part bracket_text m).marks at)) (let q : end - length (bracket_text m ++ k) ≡ end - length s + 1 + 1 = omega arith in q)
       ∙ ended f ((closed_part bracket_text m).marks (end - length s + 1 + 1))))
@@ -69,7 +70,7 @@ module _ (k : List ℕ) (end : ℕ) (f : Fault) where
       let o : length (bracket_text n ++ k) ≤ end = omega arith in
       let l = length-append (bracket_text n) k in
       rw (name_here n n.good k end f o)
-      (ap₂ (λ (l : ℕ) (g : Fault). record { kind = kinds.Reference; letter = 0; position = 0; last = 0; start = 1; units = 0; text = length n.bytes; len = l; fault = g })
+      (ap₂ (λ (l : ℕ) (g : Option Refusal). record { kind = kinds.Reference; letter = 0; position = 0; last = 0; start = 1; units = 0; text = length n.bytes; len = l; fault = g })
       (let z : min (1 + length (bracket_text n)) (length s) ≡ length (ion_text (reference n)) = omega arith in z)
       (ap (λ (at : ℕ). after f ((closed_part bracket_text n).marks at)) (let q : end - length (bracket_text n ++ k) ≡ end - length s + 1 = omega arith in q)))
 
@@ -83,7 +84,7 @@ module _ (k : List ℕ) (end : ℕ) (f : Fault) where
       let o : length (braced_text t ++ k) ≤ end = omega arith in
       let l = length-append (braced_text t) k in
       rw (text_here t k end f o)
-      (ap₂ (λ (l : ℕ) (g : Fault). record { kind = kind; letter = 0; position = 0; last = 0; start = 1; units = 0; text = length t.bytes; len = l; fault = g })
+      (ap₂ (λ (l : ℕ) (g : Option Refusal). record { kind = kind; letter = 0; position = 0; last = 0; start = 1; units = 0; text = length t.bytes; len = l; fault = g })
       (let z : min (1 + length (braced_text t)) (length s) ≡ suc (length (braced_text t)) = omega arith in z)
       (ap (λ (at : ℕ). after f ((closed_part braced_text t).marks at)) (let q : end - length (braced_text t ++ k) ≡ end - length s + 1 = omega arith in q)))
 
@@ -108,7 +109,7 @@ module _ (k : List ℕ) (end : ℕ) (f : Fault) where
       let o : length (formula_text x ++ (125 ∷ k)) ≤ end = omega arith in
       let l = length-append (formula_text x) (125 ∷ k) in
       rw (formula_read x (125 ∷ k) end f (ends_apart (125 ∷ k) refl) o)
-      (ap₂ (λ (l : ℕ) (g : Fault). record { kind = kinds.Composed; letter = 0; position = 0; last = 0; start = 2; units = length (items x); text = 0; len = l; fault = g })
+      (ap₂ (λ (l : ℕ) (g : Option Refusal). record { kind = kinds.Composed; letter = 0; position = 0; last = 0; start = 2; units = length (items x); text = 0; len = l; fault = g })
       (let z : min (min (2 + length (formula_text x)) (length s) + 1) (length s) ≡ length (ion_text (composed x)) = omega (arith, length-append (formula_text x) (125 ∷ [])) in z)
       (ap (λ (at : ℕ). after f ((formula_part x).marks at)) (let q : end - length (formula_text x ++ (125 ∷ k)) ≡ end - length s + 2 = omega arith in q)
       ∙ ended f ((formula_part x).marks (end - length s + 2))))
@@ -120,12 +121,12 @@ module _ (k : List ℕ) (end : ℕ) (f : Fault) where
   unfolding ion_of ion_by unknown_of
   unknown_read silent e h =
       rw (number_silent k e.no_digit)
-      (ap₂ (λ (l : ℕ) (g : Fault). record { kind = kinds.Unknown; letter = 0; position = 0; last = 0; start = 1; units = 0; text = 0; len = l; fault = g })
+      (ap₂ (λ (l : ℕ) (g : Option Refusal). record { kind = kinds.Unknown; letter = 0; position = 0; last = 0; start = 1; units = 0; text = 0; len = l; fault = g })
       (let z : min (1 + 0) (length (63 ∷ k)) ≡ 1 = omega arith in z) (join_kept f (record { place = end - (length (63 ∷ k) - 1); number = 4; broken = _ }) refl))
   unknown_read (written n) e h =
       let s : List ℕ = 63 ∷ (number_text n ++ k) in
       let l = length-append (number_text n) k in
       rw (number_read n.value k e.no_digit)
-      (ap₂ (λ (l : ℕ) (g : Fault). record { kind = kinds.Unknown; letter = 0; position = capped n.value; last = 0; start = 1; units = 0; text = 0; len = l; fault = g })
+      (ap₂ (λ (l : ℕ) (g : Option Refusal). record { kind = kinds.Unknown; letter = 0; position = capped n.value; last = 0; start = 1; units = 0; text = 0; len = l; fault = g })
       (let z : min (1 + length (number_text n)) (length s) ≡ length (ion_text (unknown (written n))) = omega arith in z)
       (mark_told f max_position n.value (end - (length s - 1)) (end - length s + 1) (omega arith) (omega arith)))

@@ -18,7 +18,7 @@ use Rattle.lang.proofs.Ranges.{in_range}
 use Rattle.rules.specs.Bytes.{bytes, digit}
 use Rattle.rules.specs.Texts.{first_in}
 use Rattle.rules.specs.Ions.{series_names, Series}
-use Rattle.faults.specs.declared.Fault.{Fault}
+use Rattle.faults.specs.declared.Refusal.{Refusal}
 use Rattle.read_ion.specs.Letters.{place_from, one_letter, two_letters, letters_of}
 use Rattle.read_ion.specs.Kinds.{series_of}
 use Rattle.read_ion.specs.Ions.{ion_of}
@@ -97,5 +97,5 @@ first_in_lem n (a ∷ []) k t = apart a (and_0 (is_apart a) (is_told n (one_lett
 first_in_lem n (a ∷ b ∷ []) k t = apart a (and_0 (is_apart a) (is_told n (two_letters a b)) t)
 first_in_lem n (a ∷ b ∷ d ∷ w) k t = absurd t
 
-pub series_first : (s : Series) (k : List ℕ) (end : ℕ) (f : Fault) → series_of end (word_of s ++ k) f ≡ ion_of end (word_of s ++ k) f
+pub series_first : (s : Series) (k : List ℕ) (end : ℕ) (f : Option Refusal) → series_of end (word_of s ++ k) f ≡ ion_of end (word_of s ++ k) f
 series_first s k end f = first_other (word_of s ++ k) end f refl (first_in_lem (suc s.which) (word_of s) k (placed s))

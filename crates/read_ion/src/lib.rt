@@ -10,7 +10,7 @@ ghost use Rattle.read_ion.specs.Cuts.{place_in, held_of, cut_of};
 ghost use Rattle.read_ion.specs.Kinds.{with_text, series_of, internal_of, opens_modification, immonium_of, braced_of, reference_of, composed_of, unknown_of, precursor_of};
 ghost use Rattle.read_ion.specs.Ions.{ion_of};
 
-use faults::{Fault, check_number};
+use faults::{Refusal, check_number};
 use limits::MAX_POSITION;
 use numbers::read_number;
 use read_formula::formula;
@@ -52,7 +52,7 @@ pub struct IonRead {
     pub units: usize,
     pub text: usize,
     pub len: usize,
-    pub fault: Fault,
+    pub fault: Option<Refusal>,
 }
 
 // A series: 1 to 13 in the listed order, where there is one, and how many bytes.
@@ -152,7 +152,7 @@ fn with_text(
 }
 
 // series, position, optional text.
-fn series(s: &[u8], end: usize, f: Fault) -> IonRead
+fn series(s: &[u8], end: usize, f: Option<Refusal>) -> IonRead
     ensures { result ≡ series_of end s.now f }
 {
     let l = series_name(s);
@@ -211,7 +211,7 @@ fn read_cut(s: &[u8]) -> CutRead
 }
 
 // `m`, letters, number, `:`, number, optional text.
-fn internal(s: &[u8], end: usize, f: Fault) -> IonRead
+fn internal(s: &[u8], end: usize, f: Option<Refusal>) -> IonRead
     ensures { result ≡ internal_of end s.now f }
 {
     let c = read_cut(rest(s, 1));
@@ -246,7 +246,7 @@ fn opens_modification(s: &[u8]) -> bool
 }
 
 // `I`, a letter, optional modification.
-fn immonium(s: &[u8], end: usize, f: Fault) -> IonRead
+fn immonium(s: &[u8], end: usize, f: Option<Refusal>) -> IonRead
     ensures { result ≡ immonium_of end s.now f }
 {
     let letter = byte_of(s, 1);
@@ -270,7 +270,7 @@ fn immonium(s: &[u8], end: usize, f: Fault) -> IonRead
 }
 
 // A letter, and a text in braces.
-fn braced(kind: IonKind, s: &[u8], end: usize, f: Fault) -> IonRead
+fn braced(kind: IonKind, s: &[u8], end: usize, f: Option<Refusal>) -> IonRead
     ensures { result ≡ braced_of kind end s.now f }
 {
     let x = text_in_braces(rest(s, 1), end, f);
@@ -278,7 +278,7 @@ fn braced(kind: IonKind, s: &[u8], end: usize, f: Fault) -> IonRead
 }
 
 // `r` and a name in brackets.
-fn reference(s: &[u8], end: usize, f: Fault) -> IonRead
+fn reference(s: &[u8], end: usize, f: Option<Refusal>) -> IonRead
     ensures { result ≡ reference_of end s.now f }
 {
     let x = name_in_brackets(rest(s, 1), end, f);
@@ -286,7 +286,7 @@ fn reference(s: &[u8], end: usize, f: Fault) -> IonRead
 }
 
 // a formula between `f{` and `}`.
-fn composed(s: &[u8], end: usize, f: Fault) -> IonRead
+fn composed(s: &[u8], end: usize, f: Option<Refusal>) -> IonRead
     ensures { result ≡ composed_of end s.now f }
 {
     let x = formula(rest(s, 2), end, f);
@@ -305,7 +305,7 @@ fn composed(s: &[u8], end: usize, f: Fault) -> IonRead
 }
 
 // `?`, optional label.
-fn unknown(s: &[u8], end: usize, f: Fault) -> IonRead
+fn unknown(s: &[u8], end: usize, f: Option<Refusal>) -> IonRead
     ensures { result ≡ unknown_of end s.now f }
 {
     let n = read_number(rest(s, 1));
@@ -329,7 +329,7 @@ fn unknown(s: &[u8], end: usize, f: Fault) -> IonRead
 }
 
 // `p`.
-fn precursor(all: usize, f: Fault) -> IonRead
+fn precursor(all: usize, f: Option<Refusal>) -> IonRead
     ensures { result ≡ precursor_of all f }
 {
     IonRead {
@@ -353,7 +353,7 @@ pub fn spells_yb(s: &[u8]) -> bool
 }
 
 // The ion that a part begins with, told by its first byte.
-pub fn ion(s: &[u8], end: usize, f: Fault) -> IonRead
+pub fn ion(s: &[u8], end: usize, f: Option<Refusal>) -> IonRead
     ensures { result ≡ ion_of end s.now f }
 {
     match byte_of(s, 0) {

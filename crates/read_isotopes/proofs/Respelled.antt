@@ -5,6 +5,7 @@ use mathlib.Core.List.{List, [], ◌∷◌, ◌++◌, append_assoc, append-nil, 
 use native.Mathlib.Omega.{arith}
 use lib.ListN.{length, take, drop, length-append}
 use lib.Seq.{take-append_seam}
+use Rattle.std.specs.Prelude.{Option, None}
 use Rattle.lang.specs.Parts.{items, flat, word_of}
 use Rattle.lang.specs.Mark.{In, here, later}
 use Rattle.lang.specs.Walk.{walked, folded}
@@ -16,8 +17,7 @@ use Rattle.rules.specs.Isotopes.{Shift, shift_text, shift_map, Specific, specifi
 use Rattle.rules.specs.Fields.{filled}
 use Rattle.rules.specs.Preferred.{shortened}
 use Rattle.changes.proofs.Signs.{sign_read}
-use Rattle.faults.specs.declared.Fault.{Fault}
-use Rattle.faults.specs.Faults.{fault}
+use Rattle.faults.specs.declared.Refusal.{Refusal}
 use Rattle.print_count.specs.Heads.{count_text, head_text}
 use Rattle.print_count.proofs.SpelledCount.{number_text_lem, head_text_lem}
 use Rattle.read_opening.specs.declared.Head.{Head}
@@ -38,7 +38,7 @@ abbrev read_text : Shift Written → List ℕ → List ℕ
 read_text x w = head_text (sign_read x.sign) (count_told x.count) ++ (105 ∷ w)
 
 -- all that stands behind the count is taken, and nothing of what follows the isotope
-shift_spelled : (x : Shift Written) (w k s : List ℕ) (kind : IsotopeKind) (len : ℕ) (f : Fault)
+shift_spelled : (x : Shift Written) (w k s : List ℕ) (kind : IsotopeKind) (len : ℕ) (f : Option Refusal)
     → s ≡ shift_text x ++ (w ++ k) → len ≡ length (shift_text x) + length w
     → isotope_spelled s (isotope_with (head_read x) kind len f) ≡ read_text x w
 unfolding isotope_spelled
@@ -76,7 +76,7 @@ specific_spelled a x xs k e =
     let t = flat specific_text xs ++ k in
     let s = specific_text x ++ t in
     ap (λ (w : List ℕ). a ++ w)
-    (ap (isotope_spelled s) (specific_here 0 0 (fault 0 0) x xs k e)
+    (ap (isotope_spelled s) (specific_here 0 0 None x xs k e)
     ∙ shift_spelled x.shift (behind_i x) t s _ _ _ (specific_front x t) (length-append (shift_text x.shift) (behind_i x)))
 
 row_spelled : (xs : List (Specific Written)) (a : List ℕ) (left : ℕ) → folded specific_text spell_specific a xs left ≡ a ++ flat read_specific xs
@@ -98,14 +98,14 @@ isotopes_spelled (plain_isotope x) k e h =
     let s = shift_text x ++ k in
     walk_plain spell_isotope x k [] e
     ∙ ap (walked k)
-    (ap (isotope_spelled s) (plain_read 0 0 x k (fault 0 0) (ends_digit k e) (ends_average k e))
+    (ap (isotope_spelled s) (plain_read 0 0 x k None (ends_digit k e) (ends_average k e))
     ∙ shift_spelled x [] k s _ _ _ refl (omega arith)
     ∙ shift_preferred x [] h ∙ append-nil (shift_text (shift_map shortened (shift_map filled x))))
 isotopes_spelled (average_isotope x) k e h =
     let s = (shift_text x ++ bytes "A") ++ k in
     walk_average spell_isotope x k [] e
     ∙ ap (walked k)
-    (ap (isotope_spelled s) (average_read 0 0 x k (fault 0 0))
+    (ap (isotope_spelled s) (average_read 0 0 x k None)
     ∙ shift_spelled x (bytes "A") k s _ _ _ (append_assoc (shift_text x) (bytes "A") k) (length-append (shift_text x) (bytes "A"))
     ∙ shift_preferred x (bytes "A") h)
 isotopes_spelled (specific_isotopes xs) k e h =

@@ -6,6 +6,7 @@ use mathlib.Core.List.{List, ◌∷◌, ◌++◌, append_assoc}
 use native.Mathlib.Omega.{arith}
 use lib.ListN.{length, drop, length-append}
 use lib.Seq.{drop-append_seam}
+use Rattle.std.specs.Prelude.{Option}
 use Rattle.lang.specs.Parts.{word_of}
 use Rattle.lang.proofs.Ranges.{first_below}
 use Rattle.rules.specs.Bytes.{bytes, digit}
@@ -19,7 +20,7 @@ use Rattle.changes.proofs.Signs.{sign_read}
 use Rattle.numbers.proofs.SpelledNumbers.{number_begins, number_read}
 use Rattle.elements.specs.Symbols.{small}
 use Rattle.elements.proofs.Begins.{element_read, symbol_begins}
-use Rattle.faults.specs.declared.Fault.{Fault}
+use Rattle.faults.specs.declared.Refusal.{Refusal}
 use Rattle.read_formula.proofs.Spelled.{capped}
 use Rattle.read_opening.specs.declared.Head.{Head}
 use Rattle.read_opening.specs.Heads.{head_of, begins_isotope, begins_change}
@@ -49,7 +50,7 @@ module _ (x : Shift Written) (t : List ℕ) where
   pub shift_head : head_of (shift_text x ++ t) ≡ head_read x
   shift_head = ap head_of shift_text_lem ∙ head_read_lem x.sign x.count (105 ∷ t) refl
 
-  shift_read : (i end : ℕ) (f : Fault) → isotope_of i end (shift_text x ++ t) f ≡ isotope_in i end (shift_text x ++ t) (head_read x) (length (shift_text x)) f
+  shift_read : (i end : ℕ) (f : Option Refusal) → isotope_of i end (shift_text x ++ t) f ≡ isotope_in i end (shift_text x ++ t) (head_read x) (length (shift_text x)) f
   unfolding isotope_of
   shift_read i end f =
       let s = shift_text x ++ t in
@@ -68,16 +69,16 @@ module _ (x : Shift Written) (t : List ℕ) where
 -- ---- plain and average isotopes
 
 -- the limits, where `left` bytes are left of a line of `end` bytes
-abbrev pub shift_fault : ℕ → Shift Written → ℕ → ℕ → ℕ → Fault → Fault
+abbrev pub shift_fault : ℕ → Shift Written → ℕ → ℕ → ℕ → Option Refusal → Option Refusal
 shift_fault i x nucleons end left f = isotope_fault i (head_read x) nucleons (length (shift_text x)) end left f
 
-pub plain_read : (i end : ℕ) (x : Shift Written) (k : List ℕ) (f : Fault) → first_in digit k ≡ false → starts_with (bytes "A") k ≡ false
+pub plain_read : (i end : ℕ) (x : Shift Written) (k : List ℕ) (f : Option Refusal) → first_in digit k ≡ false → starts_with (bytes "A") k ≡ false
     → isotope_of i end (shift_text x ++ k) f ≡ isotope_with (head_read x) kind.Plain (length (shift_text x)) (shift_fault i x 0 end (length (shift_text x ++ k)) f)
 plain_read i end x k f d a =
     shift_read x k i end f
     ∙ in_plain i end (shift_text x ++ k) (head_read x) (length (shift_text x)) f (ap (first_in digit) (behind_shift x k) ∙ d) (ap (starts_with (bytes "A")) (behind_shift x k) ∙ a)
 
-pub average_read : (i end : ℕ) (x : Shift Written) (k : List ℕ) (f : Fault)
+pub average_read : (i end : ℕ) (x : Shift Written) (k : List ℕ) (f : Option Refusal)
     → isotope_of i end ((shift_text x ++ bytes "A") ++ k) f
     ≡ isotope_with (head_read x) kind.Average (length (shift_text x ++ bytes "A")) (shift_fault i x 0 end (length ((shift_text x ++ bytes "A") ++ k)) f)
 average_read i end x k f =
@@ -90,7 +91,7 @@ average_read i end x k f =
 
 -- ---- specific isotopes
 
-abbrev pub specific_read : ℕ → ℕ → Specific Written → ℕ → Fault → IsotopeRead
+abbrev pub specific_read : ℕ → ℕ → Specific Written → ℕ → Option Refusal → IsotopeRead
 specific_read i end x left f =
     isotope_with (head_read x.shift) (kind.Specific (capped x.nucleons.value) (atomic_number x.symbol)) (length (specific_text x))
     (shift_fault i x.shift (capped x.nucleons.value) end left f)
@@ -114,7 +115,7 @@ module _ (x : Specific Written) (k : List ℕ) where
         length-append (number_text x.nucleons) (word_of x.symbol),
       )
 
-  pub specific_read_lem : (i end : ℕ) (f : Fault) → first_in small k ≡ false → isotope_of i end (specific_text x ++ k) f ≡ specific_read i end x (length (specific_text x ++ k)) f
+  pub specific_read_lem : (i end : ℕ) (f : Option Refusal) → first_in small k ≡ false → isotope_of i end (specific_text x ++ k) f ≡ specific_read i end x (length (specific_text x ++ k)) f
   specific_read_lem i end f e =
       let g = x.shift in
       let s = shift_text g ++ behind_i in

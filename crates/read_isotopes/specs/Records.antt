@@ -1,10 +1,9 @@
 -- The records of isotopes. Assumes nothing.
-use Rattle.std.specs.Prelude.{ℕ, ◌+◌, ◌-◌, ◌≡◌, List, [], ◌∷◌, ◌++◌, length}
+use Rattle.std.specs.Prelude.{ℕ, ◌+◌, ◌-◌, ◌≡◌, List, [], ◌∷◌, ◌++◌, length, None}
 use Rattle.lang.specs.Walk.{Walked, walk}
 use Rattle.rules.specs.Stored.{u8, u16, stores}
 use Rattle.changes.specs.Signs.{sign_number}
 use Rattle.put_bytes.specs.Puts.{Put}
-use Rattle.faults.specs.Faults.{fault}
 use Rattle.read_opening.specs.Heads.{begins_isotope}
 use Rattle.read_isotopes.specs.declared.IsotopeRead.{IsotopeRead}
 use Rattle.read_isotopes.specs.declared.IsotopesStored.{IsotopesStored}
@@ -22,7 +21,7 @@ pub record Filed : Type 0 where
   pub bytes : List ℕ
 
 unfoldable pub file_isotope : Filed → List ℕ → Filed
-file_isotope a s = record { n = a.n + 1; bytes = a.bytes ++ record_of (isotope_of 0 0 s (fault 0 0)) }
+file_isotope a s = record { n = a.n + 1; bytes = a.bytes ++ record_of (isotope_of 0 0 s None) }
 
 -- all that bytes begin with
 unfoldable pub filed_isotopes : List ℕ → Walked Filed

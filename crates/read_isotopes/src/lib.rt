@@ -11,7 +11,7 @@ ghost use Rattle.read_isotopes.specs.Spelled.{isotope_spelled, SpellsIsotopes};
 
 use changes::Sign;
 use elements::read_element;
-use faults::Fault;
+use faults::Refusal;
 use limits::MAX_ISOTOPES;
 use numbers::read_number;
 use print_count::{Respelled, put_head};
@@ -67,7 +67,7 @@ pub struct IsotopeRead {
     pub count: u32,
     pub kind: IsotopeKind,
     pub len: usize,
-    pub fault: Fault,
+    pub fault: Option<Refusal>,
 }
 
 // Isotopes: how many, how many bytes, and the first broken limit.
@@ -75,7 +75,7 @@ pub struct IsotopeRead {
 pub struct IsotopesRead {
     pub n: usize,
     pub len: usize,
-    pub fault: Fault,
+    pub fault: Option<Refusal>,
 }
 
 // Isotopes that are stored: how many, how many bytes they have in the line, and the place behind their records.
@@ -87,7 +87,7 @@ pub struct IsotopesStored {
 }
 
 // The isotope that a part begins with.
-pub fn isotope(i: usize, s: &[u8], end: usize, f: Fault) -> IsotopeRead
+pub fn isotope(i: usize, s: &[u8], end: usize, f: Option<Refusal>) -> IsotopeRead
     ensures { result ≡ isotope_of i end s.now f }
 {
     let h = read_head(s);
@@ -127,7 +127,7 @@ pub fn isotope(i: usize, s: &[u8], end: usize, f: Fault) -> IsotopeRead
 }
 
 // All isotopes that a part begins with.
-pub fn isotopes(s: &[u8], end: usize, f: Fault) -> IsotopesRead
+pub fn isotopes(s: &[u8], end: usize, f: Option<Refusal>) -> IsotopesRead
     ensures { result ≡ isotopes_of end s.now f }
 {
     let mut at: usize = 0;
@@ -157,15 +157,11 @@ pub fn put_isotope(out: &mut [u8], to: usize, x: IsotopeRead) -> usize
 pub fn store_isotopes(s: &[u8], out: &mut [u8], to: usize) -> IsotopesStored
     ensures { StoresIsotopes s.now out.old to out.new result }
 {
-    let none = Fault {
-        number: 0,
-        place: 0,
-    };
     let mut at: usize = 0;
     let mut n: usize = 0;
     let mut next = to;
     while begins_isotope(rest(s, at)) {
-        let x = isotope(0, rest(s, at), 0, none);
+        let x = isotope(0, rest(s, at), 0, None);
         next = put_isotope(out, next, x);
         at += x.len;
         n += 1;
@@ -186,14 +182,10 @@ fn spell_isotope(out: &mut [u8], to: usize, s: &[u8], x: IsotopeRead) -> usize
 pub fn spell_isotopes(out: &mut [u8], to: usize, s: &[u8]) -> Respelled
     ensures { SpellsIsotopes s.now out.old to out.new result }
 {
-    let none = Fault {
-        number: 0,
-        place: 0,
-    };
     let mut len: usize = 0;
     let mut end = to;
     while begins_isotope(rest(s, len)) {
-        let x = isotope(0, rest(s, len), 0, none);
+        let x = isotope(0, rest(s, len), 0, None);
         end = spell_isotope(out, end, rest(s, len), x);
         len += x.len;
     }

@@ -78,9 +78,8 @@ fn read_spelled(edition: Edition, line: &[u8], out: &mut [u8]) -> Answer
 {
     let first = read_at(line, 0);
     let t = total(edition, line, first);
-    let found = first_refusal(t);
-    if found.number != 0 {
-        return refuse(found.number, found.place);
+    if let Some(refusal) = first_refusal(t) {
+        return refuse(refusal.why.number(), refusal.place);
     }
     let n = t.counts;
     let size = size_of(edition, n);
@@ -109,8 +108,7 @@ pub fn keeps_all(edition: Edition, line: &[u8]) -> bool
     ensures { result ≡ keeps_all (edition_of edition) line.now }
 {
     let t = total(edition, line, read_at(line, 0));
-    let found = first_refusal(t);
-    found.number == 0
+    first_refusal(t).is_none()
 }
 
 // A line of any length, by a lent machine, into a cleared output.

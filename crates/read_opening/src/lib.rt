@@ -9,7 +9,7 @@ ghost use Rattle.read_opening.specs.Heads.{sign_of, head_of, behind, begins_sign
 ghost use Rattle.read_opening.specs.Enclosed.{long_mark, enclosed_of, text_of, name_of};
 
 use changes::Sign;
-use faults::Fault;
+use faults::{Refusal, Why, note};
 use limits::MAX_TEXT;
 use numbers::read_number;
 use read_formula::or_one;
@@ -29,7 +29,7 @@ pub struct Head {
 pub struct Enclosed {
     pub size: usize,
     pub len: usize,
-    pub fault: Fault,
+    pub fault: Option<Refusal>,
 }
 
 // ---- sign and count
@@ -90,20 +90,14 @@ pub fn begins_change(s: &[u8]) -> bool
 // ---- texts in braces, names in brackets
 
 // A text or name of n bytes, against how many it may have; `place` is that of the first byte too many.
-fn check_length(f: Fault, n: usize, place: usize) -> Fault
+fn check_length(f: Option<Refusal>, n: usize, place: usize) -> Option<Refusal>
     ensures { result ≡ join f (long_mark n place) }
 {
-    if f.number != 0 {
-        return f;
-    }
-    if MAX_TEXT < n {
-        return Fault { number: 5, place };
-    }
-    f
+    note(f, Why::TooMany, place, MAX_TEXT < n)
 }
 
 // n bytes behind an opening byte, in a part of which `left` bytes are left of a line of `end` bytes.
-fn close_text(n: usize, left: usize, end: usize, f: Fault) -> Enclosed
+fn close_text(n: usize, left: usize, end: usize, f: Option<Refusal>) -> Enclosed
     ensures { result ≡ enclosed_of n left end f }
 {
     // The first byte too many has the opening byte and 255 bytes before it.
@@ -116,7 +110,7 @@ fn close_text(n: usize, left: usize, end: usize, f: Fault) -> Enclosed
 }
 
 // The text in braces that a part begins with; nothing where it begins with no brace.
-pub fn text_in_braces(s: &[u8], end: usize, f: Fault) -> Enclosed
+pub fn text_in_braces(s: &[u8], end: usize, f: Option<Refusal>) -> Enclosed
     ensures { result ≡ text_of end s.now f }
 {
     if !begins_with(s, b'{') {
@@ -130,7 +124,7 @@ pub fn text_in_braces(s: &[u8], end: usize, f: Fault) -> Enclosed
 }
 
 // The name in brackets that a part begins with; nothing where it begins with no bracket.
-pub fn name_in_brackets(s: &[u8], end: usize, f: Fault) -> Enclosed
+pub fn name_in_brackets(s: &[u8], end: usize, f: Option<Refusal>) -> Enclosed
     ensures { result ≡ name_of end s.now f }
 {
     if !begins_with(s, b'[') {

@@ -8,7 +8,7 @@ ghost use Rattle.read_tail.specs.Kinds.{part_number};
 ghost use Rattle.read_tail.specs.Charges.{charge_of};
 ghost use Rattle.read_tail.specs.Decimals.{no_part, part_of, digit_at, confidence_of, deviation_of};
 
-use faults::{Fault, check_number, check_refusal};
+use faults::{Refusal, Why, check_number, note};
 use limits::MAX_CHARGE;
 use numbers::{Decimal, FirstByte, read_decimal, read_number};
 use slices::{begins_with, minus_or_zero, rest};
@@ -18,7 +18,7 @@ use slices::{begins_with, minus_or_zero, rest};
 pub struct ChargeRead {
     pub value: u32,
     pub len: usize,
-    pub fault: Fault,
+    pub fault: Option<Refusal>,
 }
 
 // Whether there is a deviation or a confidence; a deviation may be in ppm.
@@ -46,11 +46,11 @@ pub struct DecimalPart {
     pub bare: bool,
     pub size: Decimal,
     pub len: usize,
-    pub fault: Fault,
+    pub fault: Option<Refusal>,
 }
 
 // The charge that a part begins with, where the part is the rest of a line of `end` bytes.
-pub fn read_charge(s: &[u8], end: usize, f: Fault) -> ChargeRead
+pub fn read_charge(s: &[u8], end: usize, f: Option<Refusal>) -> ChargeRead
     ensures { result ≡ charge_of end s.now f }
 {
     if !begins_with(s, b'^') {
@@ -75,7 +75,7 @@ pub fn read_charge(s: &[u8], end: usize, f: Fault) -> ChargeRead
 }
 
 // No part, with the first limit that was broken before it.
-fn no_part(f: Fault) -> DecimalPart
+fn no_part(f: Option<Refusal>) -> DecimalPart
     ensures { result ≡ no_part f }
 {
     DecimalPart {
@@ -89,6 +89,7 @@ fn no_part(f: Fault) -> DecimalPart
 }
 
 // A decimal at a place, as a part.
+#[tactic(auto, unfolding(crate::specs::Decimals::part_of))]
 fn made_part(
     made: Option<Decimal>,
     kind: PartKind,
@@ -96,32 +97,23 @@ fn made_part(
     bare: bool,
     len: usize,
     place: usize,
-    f: Fault,
+    f: Option<Refusal>,
 ) -> DecimalPart
     ensures { result ≡ part_of made kind minus bare len place f }
 {
-    match made {
-        Some(size) => DecimalPart {
-            kind,
-            minus,
-            bare,
-            size,
-            len,
-            fault: f,
-        },
-        None => DecimalPart {
-            kind,
-            minus,
-            bare,
-            size: Decimal::zero(),
-            len,
-            fault: check_refusal(f, 4, place),
-        },
+    let past = made.is_none();
+    DecimalPart {
+        kind,
+        minus,
+        bare,
+        size: made.unwrap_or(Decimal::zero()),
+        len,
+        fault: note(f, Why::PastBound, place, past),
     }
 }
 
 // The confidence that a part begins with.
-pub fn read_confidence(s: &[u8], end: usize, f: Fault) -> DecimalPart
+pub fn read_confidence(s: &[u8], end: usize, f: Option<Refusal>) -> DecimalPart
     ensures { result ≡ confidence_of end s.now f }
 {
     if !begins_with(s, b'*') {
@@ -150,7 +142,7 @@ fn digit_at(second: bool) -> usize
 }
 
 // The deviation that a part begins with.
-pub fn read_deviation(s: &[u8], end: usize, f: Fault) -> DecimalPart
+pub fn read_deviation(s: &[u8], end: usize, f: Option<Refusal>) -> DecimalPart
     ensures { result ≡ deviation_of end s.now f }
 {
     if !begins_with(s, b'/') {

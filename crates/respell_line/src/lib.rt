@@ -64,10 +64,9 @@ pub fn relabel_spelled(line: &[u8], out: &mut [u8]) -> Answer
 {
     let first = read_at(line, 0);
     let t = total(Edition::Second, line, first);
-    let found = first_refusal(t);
-    if found.number != 0 {
+    if let Some(refusal) = first_refusal(t) {
         clear(out);
-        return refuse(found.number, found.place);
+        return refuse(refusal.why.number(), refusal.place);
     }
     let n = put_spelling(out, line, t, first);
     close_line(out, n)

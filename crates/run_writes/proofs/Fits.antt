@@ -7,6 +7,8 @@ use native.Mathlib.Omega.{arith}
 use lib.Dec.{eqb, ltb}
 use lib.ListN.{length, take, length-replicate}
 use borrow.Author.Tests.{ltb-false}
+use Rattle.std.specs.Prelude.{Option, Some, None}
+use Rattle.std.specs.Option.{option_map_or}
 use Rattle.rules.specs.Limits.{max_line}
 use Rattle.rules.specs.Rows.{tab}
 use Rattle.rules.specs.Answers.{Answer}
@@ -60,7 +62,11 @@ spelled_fits : (e : Edition) (d w : List ℕ) → Fits (length d) (spelled_over 
 unfolding spelled_over
 spelled_fits e d w =
     let t = totals_of e w in
-    either (eqb (first_of t).number 0) (within (length d) (end_at e t.counts) d (table_over e d w t.counts)) (refused (length d) (first_of t).number (first_of t).place)
+    by (λ r. record { is = omega arith }) (first_of t) (within (length d) (end_at e t.counts) d (table_over e d w t.counts))
+  where
+    by : {A : Type 0} {g : A → Answer} {a : Answer} → ((x : A) → Fits (length d) (g x)) → (f : Option A) → Fits (length d) a → Fits (length d) (option_map_or g f a)
+    by h None i = i
+    by h (Some x) i = h x
 
 handed_fits : (wanted : Wanted) (e : Edition) (w : List ℕ) (room : ℕ) → Fits room (handed_of wanted e w room)
 handed_fits Line ed1 w room = refused room (first_number w) 0

@@ -6,11 +6,11 @@ use mathlib.Core.List.{List}
 use native.Mathlib.Omega.{arith}
 use lib.ListN.{length, drop, length-drop}
 use lib.Seq.{drop-drop, length-sets}
+use Rattle.std.specs.Prelude.{None}
 use Rattle.lang.specs.Walk.{Walked, walk}
 use Rattle.lang.specs.Parts.{flat}
 use Rattle.lang.proofs.Walks.{walk_on, walk_ends}
 use Rattle.put_bytes.specs.Puts.{max_place}
-use Rattle.faults.specs.Faults.{fault}
 use Rattle.read_opening.specs.Heads.{begins_change}
 use Rattle.read_changes.specs.Rows.{change_size}
 use Rattle.read_changes.proofs.Measures.{change_long}
@@ -48,7 +48,7 @@ gathered_one keys s e z =
     (gather_on (length s) s (got_none keys) e ∙ walk_ends begins_change change_size (gather_one (length s)) size_moves (drop (change_size s) s) a z)
 
 pub here_long : (s : List ℕ) → (change_here s).len ≡ change_size s
-here_long s = change_long 0 0 (length s) 0 0 0 s (fault 0 0) (fault 0 0)
+here_long s = change_long 0 0 (length s) 0 0 0 s None None
 
 pub one_at : (all : ℕ) (a : Got) (s : List ℕ) → (gather_one all a s).at ≡ min (a.at + change_size s) all
 unfolding gather_one

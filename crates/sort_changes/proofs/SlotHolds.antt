@@ -5,6 +5,7 @@ use mathlib.Core.List.{List, [], ◌∷◌, ◌++◌, map, map-map, append_assoc
 use native.Mathlib.Omega.{arith}
 use lib.ListN.{length, take, drop, length-append}
 use lib.Seq.{take-append_seam}
+use Rattle.std.specs.Prelude.{Option, None}
 use Rattle.lang.specs.Parts.{Opt, silent, written, opt_text, items, flat}
 use Rattle.rules.specs.Bytes.{bytes}
 use Rattle.rules.specs.Numbers.{From, number_text}
@@ -20,8 +21,7 @@ use Rattle.changes.specs.Signs.{sign_number}
 use Rattle.changes.specs.Contents.{content_number, content_size}
 use Rattle.changes.proofs.Signs.{sign_read, sign_ranked}
 use Rattle.print_count.specs.Heads.{head_text}
-use Rattle.faults.specs.declared.Fault.{Fault}
-use Rattle.faults.specs.Faults.{fault}
+use Rattle.faults.specs.declared.Refusal.{Refusal}
 use Rattle.read_formula.proofs.Ends.{EndsFormula}
 use Rattle.put_formula.proofs.Chains.{AllOf}
 use Rattle.put_formula.proofs.PutUnits.{EndsUnits, UnitTold, preferred_read, records_read}
@@ -124,10 +124,10 @@ module _ {m : ℕ} (x : Spelled m) (k : List ℕ) (e : EndsFormula k) where
       let b = length-append (opt_text number_text x.count) (content_text x.what) in
       omega (arith, a, b, sign_long x.sign)
 
-  pub here_told : (g : Fault) × (change_here (change_text x ++ k) ≡ change_read x g)
-  here_told = (_, change_read_lem x k 0 0 (length (change_text x ++ k)) (fault 0 0) e (omega arith))
+  pub here_told : (g : Option Refusal) × (change_here (change_text x ++ k) ≡ change_read x g)
+  here_told = (_, change_read_lem x k 0 0 (length (change_text x ++ k)) None e (omega arith))
 
-  pub key_told : (g : Fault) → AllOf UnitTold (what_units x.what) → key_text (change_text x ++ k) (change_read x g) ≡ what_key x.what
+  pub key_told : (g : Option Refusal) → AllOf UnitTold (what_units x.what) → key_text (change_text x ++ k) (change_read x g) ≡ what_key x.what
   unfolding key_text
   key_told g a =
       let n = length (change_text x) - start_of in

@@ -6,6 +6,7 @@ use mathlib.Core.List.{List, [], ◌∷◌, ◌++◌, append_assoc, append-nil}
 use native.Mathlib.Omega.{arith}
 use lib.ListN.{length, take, drop, length-take, length-append, length-replicate}
 use lib.Seq.{sets, sets-eq, length-sets, take-append_seam, drop-append_seam, drop_at, drop-drop}
+use Rattle.std.specs.Prelude.{Option, None}
 use Rattle.lang.specs.Parts.{opt_text, flat}
 use Rattle.lang.specs.Order.{Each, none, next, insert}
 use Rattle.lang.specs.Walk.{Walked}
@@ -15,8 +16,7 @@ use Rattle.rules.specs.Limits.{max_losses, max_text}
 use Rattle.rules.proofs.Totals.{perm_length}
 use Rattle.changes.proofs.Signs.{sign_read}
 use Rattle.put_bytes.specs.Puts.{max_place}
-use Rattle.faults.specs.declared.Fault.{Fault}
-use Rattle.faults.specs.Faults.{fault}
+use Rattle.faults.specs.declared.Refusal.{Refusal}
 use Rattle.read_formula.proofs.Ends.{EndsFormula}
 use Rattle.put_formula.proofs.Chains.{AllOf, all_more}
 use Rattle.read_opening.specs.Heads.{begins_change}
@@ -70,7 +70,7 @@ text_there l i t h =
 module _ {m : ℕ} (j : ℕ) (all : List ℕ) (a : Got) (x : Spelled m) (k : List ℕ) (e : EndsFormula k) (f : ChangeFits x)
     (here : drop a.at all ≡ change_text x ++ k) (long : a.at + length (change_text x ++ k) ≡ length all)
     (room : a.used + (max_text + 2) ≤ length a.keys) (small : length a.keys ≤ max_place) where
-  one_is : (g : Fault) → change_here (change_text x ++ k) ≡ change_read x g → gather_one (length all) a (change_text x ++ k) ≡ got_with (length all) a (change_read x g) (what_key x.what)
+  one_is : (g : Option Refusal) → change_here (change_text x ++ k) ≡ change_read x g → gather_one (length all) a (change_text x ++ k) ≡ got_with (length all) a (change_read x g) (what_key x.what)
   unfolding gather_one
   one_is g p =
       let t : key_text (change_text x ++ k) (change_here (change_text x ++ k)) ≡ what_key x.what = ap (key_text (change_text x ++ k)) p ∙ key_told x k e g f.units in
@@ -79,7 +79,7 @@ module _ {m : ℕ} (j : ℕ) (all : List ℕ) (a : Got) (x : Spelled m) (k : Lis
   abbrev next_used : ℕ
   next_used = min (a.used + length (what_key x.what)) max_place
 
-  next_got : (g : Fault) → Next j all a (got_with (length all) a (change_read x g) (what_key x.what)) (slot_of (length all) a (change_read x g) next_used) x
+  next_got : (g : Option Refusal) → Next j all a (got_with (length all) a (change_read x g) (what_key x.what)) (slot_of (length all) a (change_read x g) next_used) x
   next_got g =
       let t = what_key x.what in
       let s = f.short in
@@ -155,7 +155,7 @@ module _ {m : ℕ} {j : ℕ} {all : List ℕ} where
 pub change_size_lem : {m : ℕ} (x : Spelled m) (k : List ℕ) → EndsFormula k → change_size (change_text x ++ k) ≡ length (change_text x)
 change_size_lem x k e =
     let s = change_text x ++ k in
-    change_long 0 0 0 0 0 (length s) s (fault 0 0) (fault 0 0) ∙ ap (λ (p : ChangeRead). p.len) (here_told x k e).1
+    change_long 0 0 0 0 0 (length s) s None None ∙ ap (λ (p : ChangeRead). p.len) (here_told x k e).1
 
 -- what follows one of a row
 pub row_ends : {m : ℕ} (xs : List (Spelled m)) (k : List ℕ) → EndsFormula k → EndsFormula (flat change_text xs ++ k)

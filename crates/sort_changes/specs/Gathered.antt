@@ -1,9 +1,8 @@
 -- Losses, or adduct items, gathered in preferred order from the bytes that begin with them. Assumes nothing.
-use Rattle.std.specs.Prelude.{ℕ, ◌+◌, ◌-◌, min, ◌≡◌, List, [], length, drop}
+use Rattle.std.specs.Prelude.{ℕ, ◌+◌, ◌-◌, min, ◌≡◌, List, [], length, drop, None}
 use Rattle.std.proofs.lemmas.List.Edits.{sets}
 use Rattle.lang.specs.Walk.{walk}
 use Rattle.put_bytes.specs.Puts.{max_place, Put}
-use Rattle.faults.specs.Faults.{fault}
 use Rattle.read_opening.specs.Heads.{begins_change}
 use Rattle.read_changes.specs.declared.ChangeRead.{ChangeRead}
 use Rattle.read_changes.specs.Changes.{change_of}
@@ -36,7 +35,7 @@ got_with all a x t =
 
 -- the first of the bytes s; its limits are not asked for
 abbrev pub change_here : List ℕ → ChangeRead
-change_here s = change_of 0 0 (length s) s (fault 0 0)
+change_here s = change_of 0 0 (length s) s None
 
 -- one more, where the bytes s begin with it
 unfoldable pub gather_one : ℕ → Got → List ℕ → Got

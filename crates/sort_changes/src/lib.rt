@@ -11,7 +11,6 @@ ghost use Rattle.sort_changes.specs.Events.{slot_record, slot_events, slots_even
 ghost use Rattle.sort_changes.specs.Spelled.{slot_spelled, slots_spelled, SpellsMany, SpellsChanges};
 
 use changes::Content;
-use faults::Fault;
 use layout::{TEXT_SECTION, UNIT_SECTION};
 use limits::{MAX_LOSSES, MAX_TEXT};
 use print_count::{Respelled, put_head};
@@ -60,11 +59,7 @@ fn put_key(keys: &mut [u8], to: usize, s: &[u8], x: ChangeRead) -> usize
 fn first_of(s: &[u8]) -> ChangeRead
     ensures { result ≡ change_here s.now }
 {
-    let none = Fault {
-        number: 0,
-        place: 0,
-    };
-    read_change(0, 0, s, s.len(), none)
+    read_change(0, 0, s, s.len(), None)
 }
 
 // One more.

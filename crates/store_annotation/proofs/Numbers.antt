@@ -5,6 +5,7 @@ use mathlib.Core.Bool.{Bool, true, false, cond, not}
 use mathlib.Core.List.{[], ◌∷◌}
 use native.Mathlib.Omega.{arith}
 use borrow.Author.Tests.{ne_eqb}
+use Rattle.std.specs.Prelude.{Option}
 use Rattle.std.specs.Option.{is_some, unwrap_or}
 use Rattle.lang.specs.Parts.{Opt, silent, written, opt_map}
 use Rattle.lang.specs.Mark.{Kept, here, later}
@@ -17,7 +18,7 @@ use Rattle.rules.specs.Preferred.{count_or1}
 use Rattle.rules.specs.Limits.{max_position, max_charge, bare, opt_part, number_part, decimal_part, analyte_part, charge_part, deviation_part, confidence_part}
 use Rattle.rules.specs.Stored.{little, flag, present, value_or0, number, deviation_kind, signed}
 use Rattle.rules.proofs.Keeps.{kept_part, not_past}
-use Rattle.faults.specs.declared.Fault.{Fault}
+use Rattle.faults.specs.declared.Refusal.{Refusal}
 use Rattle.read_tail.specs.declared.DecimalPart.{DecimalPart}
 use Rattle.read_tail.specs.Kinds.{part_number}
 use Rattle.read_tail.proofs.SpelledTail.{charge_read, kind_read, size_read, deviation_read, confidence_read}
@@ -63,7 +64,7 @@ kind_told : (p : Bool) → part_number (kind_read p) ≡ 1 + flag p
 kind_told true = refl
 kind_told false = refl
 
-pub deviation_told : (d : Opt Deviation) (at : ℕ) (g : Fault) → Kept ((opt_part deviation_part d).marks at) → DeviationTold d (deviation_read d g)
+pub deviation_told : (d : Opt Deviation) (at : ℕ) (g : Option Refusal) → Kept ((opt_part deviation_part d).marks at) → DeviationTold d (deviation_read d g)
 deviation_told silent at g k = record { kind = refl; places = refl; value = signed_bytes false 0 }
 deviation_told (written d) at g k =
     let p = kept_part at (bare (bytes "/") ∷ bare (flag_text (bytes "-") d.minus) ∷ decimal_part d.size ∷ []) k (decimal_part d.size) (later (later here)) in
@@ -79,7 +80,7 @@ pub record ConfidenceTold (c : Opt Decimal) (p : DecimalPart) : Type 0 where
   pub places : p.size.places ≡ value_or0 (λ d. d.places) c
   pub value : p.size.value ≡ value_or0 (λ d. d.value) c
 
-pub confidence_told : (c : Opt Confidence) (at : ℕ) (g : Fault) → Kept ((opt_part confidence_part c).marks at)
+pub confidence_told : (c : Opt Confidence) (at : ℕ) (g : Option Refusal) → Kept ((opt_part confidence_part c).marks at)
     → ConfidenceTold (opt_map meant_decimal c) (confidence_read c g)
 confidence_told silent at g k = record { kind = refl; places = refl; value = refl }
 confidence_told (written c) at g k =

@@ -3,6 +3,7 @@ use Prim.Native.Nat.{ℕ}
 use mathlib.Core.Path.{◌≡◌, refl, sym, ap, ap₂, ◌∙◌}
 use mathlib.Core.List.{List, [], ◌∷◌, ◌++◌}
 use lib.ListN.{length}
+use Rattle.std.specs.Prelude.{Option}
 use Rattle.lang.specs.Mark.{Kept, here, later, marks_of}
 use Rattle.rules.specs.Numbers.{Number}
 use Rattle.rules.specs.Ions.{ion_text, ion_map, series, internal, immonium, precursor, reference, named, composed, smiles, unknown, SpelledIon}
@@ -16,7 +17,7 @@ use Rattle.rules.specs.Editions.{Edition, ed1, ed2}
 use Rattle.rules.specs.Stored.{little, flag, u8, u16, u32, stores, isotope_records, residue_count, common_fields, added_fields, annotation_record}
 use Rattle.rules.proofs.Keeps.{kept_tail, kept_part}
 use Rattle.counts.specs.declared.Counts.{Counts}
-use Rattle.faults.specs.declared.Fault.{Fault}
+use Rattle.faults.specs.declared.Refusal.{Refusal}
 use Rattle.read_annotation.specs.declared.Parts.{Parts}
 use Rattle.read_annotation.proofs.SaysWhat.{table_of}
 use Rattle.read_annotation.proofs.Ions.{ion_told}
@@ -39,15 +40,15 @@ count_filled (smiles t) = refl
 count_filled (unknown n) = refl
 
 -- of the annotation a, followed by k, read as number `nth` of a line of `end` bytes, from f on
-module _ (a : SpelledAnnotation) (k : List ℕ) (nth end : ℕ) (f : Fault) where
+module _ (a : SpelledAnnotation) (k : List ℕ) (nth end : ℕ) (f : Option Refusal) where
   abbrev pub seen : Parts
   seen = parts_read a k nth end f
 
   -- the first broken limit behind the ion, and behind the adduct
-  abbrev pub ion_seen : Fault
+  abbrev pub ion_seen : Option Refusal
   ion_seen = fault1 a k end (fault0 a k nth end f)
 
-  abbrev adduct_seen : Fault
+  abbrev adduct_seen : Option Refusal
   adduct_seen = fault2 a k end (fault0 a k nth end f)
 
   common_stored : (i at : ℕ) → Kept (annotation_marks i a at) → (n : Counts) (ls : List (Loss Number)) (xs : List (Item Number)) → n.losses ≡ length ls

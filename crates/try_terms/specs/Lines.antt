@@ -11,6 +11,8 @@ use Rattle.numbers.specs.Leading.{number_of}
 use Rattle.numbers.specs.Making.{ruled}
 use Rattle.numbers.specs.declared.FirstByte.TheVariants.{DigitOrPoint}
 use Rattle.numbers.specs.Points.{decimal_of}
+use Rattle.faults.specs.declared.Refusal.{Refusal}
+use Rattle.faults.specs.Refusals as faults
 use Rattle.elements.specs.declared.Element.{Element}
 use Rattle.elements.specs.Symbols.{element_of}
 use Rattle.read_formula.specs.declared.FormulaRead.{FormulaRead}
@@ -44,14 +46,19 @@ element_text e = field e.number ++ (field e.len ++ symbol_text e.number)
 abbrev pub symbol_said : List ℕ → List ℕ
 symbol_said text = element_text (element_of text)
 
+-- number and place
+abbrev pub refusal_text : Option Refusal → List ℕ
+refusal_text None = field 0 ++ field 0
+refusal_text (Some r) = field (faults.number_of r.why) ++ field r.place
+
 -- units, bytes, number and place of the first broken limit, and the preferred spelling
 abbrev pub units_text : FormulaRead → List ℕ → List ℕ
 units_text f text =
     field f.units
-    ++ (field f.len ++ (field f.fault.number ++ (field f.fault.place ++ preferred_units f.units text)))
+    ++ (field f.len ++ (refusal_text f.fault ++ preferred_units f.units text))
 
 abbrev pub formula_said : List ℕ → List ℕ
-formula_said text = units_text (formula_of (length text) text (record { number = 0; place = 0 })) text
+formula_said text = units_text (formula_of (length text) text None) text
 
 -- by the first byte
 unfoldable pub said_of : ℕ → List ℕ → List ℕ

@@ -10,10 +10,10 @@
 ghost use Rattle.put_bytes.specs.Puts.{Put};
 ghost use Rattle.io_lines.specs.Streams.{line_in};
 ghost use Rattle.try_terms.specs.Answered.{Answered};
-ghost use Rattle.try_terms.specs.Lines.{number_said, decimal_said, symbol_said, formula_said, answer_to};
+ghost use Rattle.try_terms.specs.Lines.{number_said, decimal_said, symbol_said, refusal_text, formula_said, answer_to};
 
 use elements::read_element;
-use faults::Fault;
+use faults::Refusal;
 use io_answers::put_field;
 use io_lines::{Stream, System, room};
 use numbers::{FirstByte, put_decimal, put_number, read_decimal, read_number};
@@ -126,18 +126,28 @@ fn say_symbol(text: &[u8], out: &mut [u8], at: usize) -> usize
     put_symbol(out, q, e.number)
 }
 
+// Its number and place; 0 0 where nothing is refused.
+fn say_refusal(f: Option<Refusal>, out: &mut [u8], at: usize) -> usize
+    ensures { Put out.old at (refusal_text f) out.new result }
+{
+    match f {
+        Some(refusal) => {
+            let p = put_field(out, at, refusal.why.number() as u64);
+            put_field(out, p, refusal.place as u64)
+        }
+        None => {
+            let p = put_field(out, at, 0);
+            put_field(out, p, 0)
+        }
+    }
+}
+
 fn say_formula(text: &[u8], out: &mut [u8], at: usize) -> usize
     ensures { Put out.old at (formula_said text.now) out.new result }
 {
-    let none = Fault {
-        number: 0,
-        place: 0,
-    };
-    let f = formula(text, text.len(), none);
+    let f = formula(text, text.len(), None);
     let p = put_field(out, at, f.units as u64);
     let q = put_field(out, p, f.len as u64);
-    let fault = f.fault;
-    let r = put_field(out, q, fault.number as u64);
-    let t = put_field(out, r, fault.place as u64);
-    put_preferred(out, t, text, f.units)
+    let r = say_refusal(f.fault, out, q);
+    put_preferred(out, r, text, f.units)
 }
