@@ -61,6 +61,7 @@ impl IsotopeKind {
     }
 }
 
+// An isotope.
 #[derive(Clone, Copy)]
 pub struct IsotopeRead {
     pub sign: Sign,
