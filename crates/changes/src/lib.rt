@@ -80,8 +80,7 @@ impl Content {
         ensures { result ≡ content_size self }
     {
         match self {
-            Content::Formula { units } => units,
-            Content::Name { bytes } => bytes,
+            Content::Formula { units: n } | Content::Name { bytes: n } => n,
             Content::Electron => 0,
         }
     }
