@@ -10,8 +10,8 @@ use Rattle.rules.specs.Answers.{refuses}
 use Rattle.rules.specs.Rows.{row_head_size}
 use Rattle.numbers.specs.declared.Decimal.{Decimal}
 use Rattle.put_bytes.specs.Puts.{Put}
-use Rattle.answers.specs.declared.Answer.{Answer}
-use Rattle.answers.specs.Delivered.{answered, refused_of}
+use Rattle.faults.specs.declared.Why.TheVariants.{NoTable}
+use Rattle.answers.specs.Delivered.{Answer, number_in, answered, refused_of}
 use Rattle.answers.specs.Behind.{capped, Behind}
 use Rattle.answers.proofs.Behind.{refused_as}
 use Rattle.write_table.specs.Writings.{converted_of}
@@ -43,16 +43,17 @@ module _ (machine s d : List ℕ) {x : Head} (h : x ≡ head_of s) where
     behind : Behind row_head_size d e b r
     behind = subst (λ (l : List ℕ). Behind row_head_size d e (converted_of machine l (length d - row_head_size)) r) q w
 
-    number_is : r.number ≡ b.number
+    number_is : number_in r ≡ b.number
     number_is = ap (λ (a : rules.Answer). a.number) behind.is
 
-    pub converted_none : {e2 : List ℕ} {a : Answer} → r.number ≡ 9 → e2 ≡ replicate (length e) 0 → a ≡ refused_of 9 0 → answered a e2 ≡ convert_row_of machine s (length d)
+    pub converted_none : {e2 : List ℕ} {a : Answer} → number_in r ≡ 9 → e2 ≡ replicate (length e) 0 → a ≡ refused_of NoTable 0
+        → answered a e2 ≡ convert_row_of machine s (length d)
     unfolding held_of
     converted_none {e2} n z f =
-        ap (λ (y : Answer). answered y e2) f ∙ refused_as d e 9 0 w.same z
+        ap (λ (y : Answer). answered y e2) f ∙ refused_as d e NoTable 0 w.same z
         ∙ subst (λ (a : rules.Answer). refuses (length d) 9 0 ≡ a) head_is (rw (g, eq-eqb b.number 9 (sym number_is ∙ n)))
 
-    pub converted_held : {at : ℕ} → (r.number ≡ 9 → ⊥) → at ≡ third_place x.mz x.intensity
+    pub converted_held : {at : ℕ} → (number_in r ≡ 9 → ⊥) → at ≡ third_place x.mz x.intensity
         → ended_over e (head_bytes x.mz x.intensity) at r ≡ convert_row_of machine s (length d)
     unfolding held_of
     converted_held {at} n z =

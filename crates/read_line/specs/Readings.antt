@@ -13,8 +13,7 @@ use Rattle.store_sections.specs.Headers.{starts_of, end_at, header_bytes}
 use Rattle.scan_line.specs.declared.Verdict.{Verdict}
 use Rattle.scan_line.specs.Verdicts as verdicts
 use Rattle.scan_line.specs.Verdicts.{place_of}
-use Rattle.answers.specs.declared.Answer.{Answer}
-use Rattle.answers.specs.Delivered.{answered}
+use Rattle.answers.specs.Delivered.{Answer, answered}
 use Rattle.measure_line.specs.declared.Totals.{Totals}
 use Rattle.measure_line.specs.Totals.{totals_of}
 use Rattle.measure_line.specs.Refusals.{first_of}

@@ -1,5 +1,5 @@
 -- The answer to a row, by what its columns are read as. Assumes nothing.
-use Rattle.std.specs.Prelude.{ℕ, ◌+◌, ◌-◌, min, cond, List, ◌++◌, eqb, ltb, length, drop}
+use Rattle.std.specs.Prelude.{ℕ, ◌+◌, ◌-◌, min, cond, List, ◌++◌, eqb, ltb, length, drop, Ok, Err}
 use Rattle.std.proofs.lemmas.List.Edits.{sets}
 use Rattle.rules.specs.Stored.{stores}
 use Rattle.rules.specs.Answers as rules
@@ -11,7 +11,8 @@ use Rattle.numbers.specs.declared.Decimal.{Decimal}
 use Rattle.numbers.specs.Making.{ruled}
 use Rattle.read_line.specs.Readings.{read_of}
 use Rattle.read_row.specs.declared.Column.{Column}
-use Rattle.answers.specs.declared.Answer.{Answer}
+use Rattle.faults.specs.Refusals.{number_of}
+use Rattle.answers.specs.Delivered.{Answer}
 use Rattle.answers.specs.Behind.{capped}
 use Rattle.read_row.specs.Columns.{column_of}
 
@@ -27,9 +28,9 @@ filled_over d head size =
 
 -- the line, which begins at a place, was answered so
 unfoldable pub ended_over : List ℕ → List ℕ → ℕ → Answer → rules.Answer
-ended_over d head at r =
-    cond (eqb r.number 0) (filled_over d head (capped row_head_size r.len))
-    (cond (eqb r.number 8) (refuses (length d) 8 (capped row_head_size r.place)) (refuses (length d) r.number (capped at r.place)))
+ended_over d head at (Ok n) = filled_over d head (capped row_head_size n)
+ended_over d head at (Err r) =
+    cond (eqb (number_of r.why) 8) (refuses (length d) 8 (capped row_head_size r.place)) (refuses (length d) (number_of r.why) (capped at r.place))
 
 -- ---- the whole
 

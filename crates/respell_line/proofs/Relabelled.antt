@@ -3,7 +3,7 @@ use Prim.Native.Nat.{ℕ}
 use mathlib.Core.Path.{◌≡◌, ap, ap₂, ◌∙◌}
 use mathlib.Core.List.{List}
 use lib.ListN.{replicate}
-use Rattle.std.specs.Prelude.{Option, Some, None}
+use Rattle.std.specs.Prelude.{Option, Some, None, Err}
 use Rattle.std.specs.Option.{option_map_or}
 use Rattle.rules.specs.Answers as rules
 use Rattle.rules.specs.Answers.{refuses}
@@ -11,8 +11,7 @@ use Rattle.rules.specs.Editions.{current}
 use Rattle.faults.specs.declared.Refusal.{Refusal}
 use Rattle.faults.specs.Refusals.{number_of}
 use Rattle.read_annotation.specs.declared.Parts.{Parts}
-use Rattle.answers.specs.declared.Answer.{Answer}
-use Rattle.answers.specs.Delivered.{answered, refused_of, line_over}
+use Rattle.answers.specs.Delivered.{answered, line_over}
 use Rattle.measure_line.specs.declared.Totals.{Totals}
 use Rattle.measure_line.specs.Totals.{parts_at, totals_by}
 use Rattle.measure_line.specs.Refusals.{first_of}
@@ -28,10 +27,9 @@ module _ (line : List ℕ) (room : ℕ) {t : Totals} {p : Parts} {f : Option Ref
   abbrev answer_by : Option Refusal → rules.Answer
   answer_by g = option_map_or (λ q. refuses room (number_of q.why) q.place) g (line_over (spelling_of line t p) room)
 
-  pub refused_over : {out : List ℕ} {r : Answer} {q : Refusal} {n : ℕ} → f ≡ Some q → out ≡ replicate room 0 → n ≡ number_of q.why → r ≡ refused_of n q.place
-      → answered r out ≡ relabelled_over line room
-  refused_over {out} {r} h z k e =
-      let w : answered r out ≡ answer_by f = rw (h, e, k, z) in w ∙ ap answer_by pf ∙ over_is
+  pub refused_over : {out : List ℕ} {q : Refusal} → f ≡ Some q → out ≡ replicate room 0 → answered (Err q) out ≡ relabelled_over line room
+  refused_over {out} {q} h z =
+      let w : answered (Err q) out ≡ answer_by f = rw (h, z) in w ∙ ap answer_by pf ∙ over_is
 
   pub given_over : {b : rules.Answer} → f ≡ None → b ≡ line_over (spelling_of line t p) room → b ≡ relabelled_over line room
   given_over {b} h e = let w : b ≡ answer_by f = rw h e in w ∙ ap answer_by pf ∙ over_is

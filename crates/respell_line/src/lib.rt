@@ -8,8 +8,9 @@ ghost use Rattle.answers.specs.Delivered.{answered};
 ghost use Rattle.respell_line.specs.Plain.{is_plain, line_spelled, spelling_of};
 ghost use Rattle.respell_line.specs.Relabelled.{relabelled_over};
 
-use answers::{Answer, close_line, refuse};
+use answers::close_line;
 use counts::Counts;
+use faults::Refusal;
 use layout::Edition;
 use measure_line::{Totals, first_refusal, read_at, total};
 use put_bytes::{clear, put_run, put8};
@@ -59,14 +60,14 @@ fn put_spelling(out: &mut [u8], line: &[u8], t: Totals, first: Parts) -> usize
 }
 
 // A line with a shape: its refusal, or its preferred spelling.
-pub fn relabel_spelled(line: &[u8], out: &mut [u8]) -> Answer
+pub fn relabel_spelled(line: &[u8], out: &mut [u8]) -> Result<usize, Refusal>
     ensures { answered result out.new ≡ relabelled_over line.now (length out.old) }
 {
     let first = read_at(line, 0);
     let t = total(Edition::Second, line, first);
     if let Some(refusal) = first_refusal(t) {
         clear(out);
-        return refuse(refusal.why.number(), refusal.place);
+        return Err(refusal);
     }
     let n = put_spelling(out, line, t, first);
     close_line(out, n)

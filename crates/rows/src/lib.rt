@@ -9,8 +9,8 @@ ghost use Rattle.answers.specs.Delivered.{answered};
 ghost use Rattle.rows.specs.Relabels.{RelabelsRow};
 ghost use Rattle.rows.specs.Walks.{next_row_of};
 
-use answers::Answer;
 use convert_row::convert_row_by;
+use faults::Refusal;
 use io_parts::line_end;
 use read_row::read_row_by;
 use respell_row::relabel_row_by;
@@ -26,7 +26,7 @@ pub enum NextRow {
 }
 
 // The stored row that a row spells, by lines of an edition, or why there is none.
-pub fn read_row_in(lines: Lines, row: &[u8], out: &mut [u8]) -> Answer
+pub fn read_row_in(lines: Lines, row: &[u8], out: &mut [u8]) -> Result<usize, Refusal>
     ensures { ReadsRow (lines_in lines) row.now (length out.old) (answered result out.new) }
 {
     let made = machine(lines);
@@ -34,14 +34,14 @@ pub fn read_row_in(lines: Lines, row: &[u8], out: &mut [u8]) -> Answer
 }
 
 // By lines of the first edition.
-pub fn read_row(row: &[u8], out: &mut [u8]) -> Answer
+pub fn read_row(row: &[u8], out: &mut [u8]) -> Result<usize, Refusal>
     ensures { ReadsRow first_lines row.now (length out.old) (answered result out.new) }
 {
     read_row_in(Lines::First, row, out)
 }
 
 // The preferred row, by lines of an edition, of a stored row, or why there is none.
-pub fn write_row_in(lines: Lines, stored: &[u8], out: &mut [u8]) -> Answer
+pub fn write_row_in(lines: Lines, stored: &[u8], out: &mut [u8]) -> Result<usize, Refusal>
     ensures { WritesRow (lines_in lines) stored.now (length out.old) (answered result out.new) }
 {
     let made = machine(lines);
@@ -49,14 +49,14 @@ pub fn write_row_in(lines: Lines, stored: &[u8], out: &mut [u8]) -> Answer
 }
 
 // By lines of the first edition.
-pub fn write_row(stored: &[u8], out: &mut [u8]) -> Answer
+pub fn write_row(stored: &[u8], out: &mut [u8]) -> Result<usize, Refusal>
     ensures { WritesRow first_lines stored.now (length out.old) (answered result out.new) }
 {
     write_row_in(Lines::First, stored, out)
 }
 
 // The stored row whose table is that of edition 2 for the line of a stored row's table of edition 1, or why there is none.
-pub fn convert_row(stored: &[u8], out: &mut [u8]) -> Answer
+pub fn convert_row(stored: &[u8], out: &mut [u8]) -> Result<usize, Refusal>
     ensures { ConvertsRow stored.now (length out.old) (answered result out.new) }
 {
     let made = machine(Lines::First);
@@ -64,7 +64,7 @@ pub fn convert_row(stored: &[u8], out: &mut [u8]) -> Answer
 }
 
 // The preferred spelling of a row, by lines of an edition, or why there is none.
-pub fn relabel_row_in(lines: Lines, row: &[u8], out: &mut [u8]) -> Answer
+pub fn relabel_row_in(lines: Lines, row: &[u8], out: &mut [u8]) -> Result<usize, Refusal>
     ensures { RelabelsRow (lines_in lines) row.now (length out.old) (answered result out.new) }
 {
     let made = machine(lines);
@@ -72,7 +72,7 @@ pub fn relabel_row_in(lines: Lines, row: &[u8], out: &mut [u8]) -> Answer
 }
 
 // By lines of the first edition.
-pub fn relabel_row(row: &[u8], out: &mut [u8]) -> Answer
+pub fn relabel_row(row: &[u8], out: &mut [u8]) -> Result<usize, Refusal>
     ensures { RelabelsRow first_lines row.now (length out.old) (answered result out.new) }
 {
     relabel_row_in(Lines::First, row, out)

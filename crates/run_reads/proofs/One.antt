@@ -6,7 +6,7 @@ use Prim.Native.Nat.{ℕ}
 use lib.ListN.{length}
 use Rattle.put_bytes.proofs.Putting.{put_as}
 use Rattle.put_bytes.proofs.One.{put_one}
-use Rattle.answers.specs.declared.Answer.{Answer}
+use Rattle.answers.specs.Delivered.{Answer}
 use Rattle.read_line.proofs.One.{answered_in_one}
 use Rattle.io_lines.specs.declared.Stream.{Stream}
 use Rattle.io_lines.specs.Streams.{waiting_of}

@@ -11,7 +11,7 @@ ghost use Rattle.io_lines.specs.Streams.{line_in};
 ghost use Rattle.run_reads.specs.Answered.{Answered};
 ghost use Rattle.run_reads.specs.Reads.{read_as, ReadInto};
 
-use answers::Answer;
+use faults::Refusal;
 use io_answers::{behind_size, put_answer, size_in};
 use io_lines::{Stream, System, room};
 use layout::ROW_HEAD_SIZE;
@@ -78,7 +78,13 @@ impl Answers for Reader<'_> {
 }
 
 // A line behind its number, or, where lines are not sized, all of it into the whole table.
-fn read_one(input: Input, machine: &[u8], line: &[u8], table: &mut [u8], sized: bool) -> Answer
+fn read_one(
+    input: Input,
+    machine: &[u8],
+    line: &[u8],
+    table: &mut [u8],
+    sized: bool,
+) -> Result<usize, Refusal>
     ensures { ReadInto input machine.now line.now sized table.old table.new result }
 {
     if sized {
@@ -89,7 +95,12 @@ fn read_one(input: Input, machine: &[u8], line: &[u8], table: &mut [u8], sized: 
 }
 
 // The line behind a number and a blank, into so many bytes, or into all where they are fewer.
-fn read_sized(input: Input, machine: &[u8], asked: &[u8], table: &mut [u8]) -> Answer
+fn read_sized(
+    input: Input,
+    machine: &[u8],
+    asked: &[u8],
+    table: &mut [u8],
+) -> Result<usize, Refusal>
     ensures { ReadInto input machine.now asked.now true table.old table.new result }
 {
     let line = behind_size(asked);
@@ -98,7 +109,7 @@ fn read_sized(input: Input, machine: &[u8], asked: &[u8], table: &mut [u8]) -> A
 }
 
 // A line of annotations, or a row.
-fn read_as(input: Input, machine: &[u8], line: &[u8], out: &mut [u8]) -> Answer
+fn read_as(input: Input, machine: &[u8], line: &[u8], out: &mut [u8]) -> Result<usize, Refusal>
     ensures { answered result out.new ≡ read_as input machine.now line.now (length out.old) }
 {
     match input {

@@ -15,7 +15,7 @@ ghost use Rattle.answers.specs.Delivered.{answered};
 ghost use Rattle.run_relabel.specs.Spelled.{relabel_as, Spelled};
 ghost use Rattle.run_relabel.specs.AnswerPut.{AnswerPut};
 
-use answers::Answer;
+use faults::Refusal;
 use io_answers::put_refusal;
 use io_lines::{Stream, System, room};
 use limits::{MAX_ANNOTATIONS, MAX_ROW};
@@ -70,7 +70,7 @@ impl Answers for Relabeller<'_> {
 impl Relabeller<'_> {
     // The preferred spelling at a place of the output. It is longer than the line, or the row, by no more than a byte for each annotation, so that as many bytes
     // are lent and the answer is never 8.
-    fn spell(&self, line: &[u8], out: &mut [u8], at: usize) -> Answer
+    fn spell(&self, line: &[u8], out: &mut [u8], at: usize) -> Result<usize, Refusal>
         requires { at + max_row ≤ length out.old }
         ensures { Spelled (lines_in self.now.lines) self.now.input line.now out.old at out.new result }
     {
@@ -80,7 +80,7 @@ impl Relabeller<'_> {
 }
 
 // A line of annotations, or a row.
-fn relabel_as(input: Input, machine: &[u8], line: &[u8], out: &mut [u8]) -> Answer
+fn relabel_as(input: Input, machine: &[u8], line: &[u8], out: &mut [u8]) -> Result<usize, Refusal>
     ensures { answered result out.new ≡ relabel_as input machine.now line.now (length out.old) }
 {
     match input {
@@ -90,11 +90,11 @@ fn relabel_as(input: Input, machine: &[u8], line: &[u8], out: &mut [u8]) -> Answ
 }
 
 // The place behind a spelling that stands at a place already, or behind the refusal that is put there.
-fn put_answer(out: &mut [u8], at: usize, a: Answer) -> usize
+fn put_answer(out: &mut [u8], at: usize, a: Result<usize, Refusal>) -> usize
     ensures { AnswerPut out.old at a out.new result }
 {
-    if a.number != 0 {
-        return put_refusal(out, at, a);
+    match a {
+        Ok(len) => advance(at, len, out.len()),
+        Err(r) => put_refusal(out, at, r),
     }
-    advance(at, a.len, out.len())
 }

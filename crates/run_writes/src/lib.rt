@@ -13,7 +13,8 @@ ghost use Rattle.io_answers.specs.Asked.{room_in};
 ghost use Rattle.io_lines.specs.Streams.{line_in};
 ghost use Rattle.run_writes.specs.Answered.{most_of, answer_as, hex_of, answer_to, Written, told_as, Answered};
 
-use answers::{Answer, refuse};
+use answers::refuse;
+use faults::{Refusal, Why};
 use io_answers::{behind_size, put_answer, put_briefly, size_in};
 use io_hex::{is_hex, put_unhexed};
 use io_lines::{Stream, System, room};
@@ -131,7 +132,7 @@ fn answer_most(
     table: &mut [u8],
     line: &mut [u8],
     sized: bool,
-) -> Answer
+) -> Result<usize, Refusal>
     requires { most_of task ≤ length line.old }
     ensures { Written (room_in sized asked.now (most_of task)) (answer_to task machine.now sized asked.now (length table.old) (most_of task)) line.old line.new result }
 {
@@ -147,7 +148,7 @@ fn answer_one(
     table: &mut [u8],
     line: &mut [u8],
     sized: bool,
-) -> Answer
+) -> Result<usize, Refusal>
     ensures { Written (room_in sized asked.now (length line.old)) (answer_to task machine.now sized asked.now (length table.old) (length line.old)) line.old line.new result }
 {
     if sized {
@@ -164,7 +165,7 @@ fn answer_sized(
     asked: &[u8],
     table: &mut [u8],
     line: &mut [u8],
-) -> Answer
+) -> Result<usize, Refusal>
     ensures { Written (room_in true asked.now (length line.old)) (answer_to task machine.now true asked.now (length table.old) (length line.old)) line.old line.new result }
 {
     let digits = behind_size(asked);
@@ -179,19 +180,19 @@ fn answer_hex(
     digits: &[u8],
     table: &mut [u8],
     line: &mut [u8],
-) -> Answer
+) -> Result<usize, Refusal>
     ensures { answered result line.new ≡ hex_of task machine.now digits.now (length table.old) (length line.old) }
 {
     if !is_hex(digits) {
         clear(line);
-        return refuse(9, 0);
+        return refuse(Why::NoTable, 0);
     }
     let n = put_unhexed(table, 0, digits);
     answer_as(task, machine, first_of(table, n), line)
 }
 
 // By what is to be done with the bytes.
-fn answer_as(task: Task, machine: &[u8], table: &[u8], out: &mut [u8]) -> Answer
+fn answer_as(task: Task, machine: &[u8], table: &[u8], out: &mut [u8]) -> Result<usize, Refusal>
     ensures { answered result out.new ≡ answer_as task machine.now table.now (length out.old) }
 {
     match task {
@@ -202,7 +203,7 @@ fn answer_as(task: Task, machine: &[u8], table: &[u8], out: &mut [u8]) -> Answer
 }
 
 // An answer, and what it speaks of; it ends with a line feed.
-fn put_told(form: Form, out: &mut [u8], at: usize, a: Answer, line: &[u8]) -> usize
+fn put_told(form: Form, out: &mut [u8], at: usize, a: Result<usize, Refusal>, line: &[u8]) -> usize
     ensures { Put out.old at (told_as form a line.now) out.new result }
 {
     match form {

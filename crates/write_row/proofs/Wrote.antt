@@ -9,7 +9,7 @@ use Rattle.rules.specs.Answers as rules
 use Rattle.rules.specs.Rows.{row_head_size}
 use Rattle.put_bytes.specs.Puts.{Put}
 use Rattle.put_bytes.proofs.Putting.{put_length}
-use Rattle.answers.specs.declared.Answer.{Answer}
+use Rattle.answers.specs.Delivered.{Answer}
 use Rattle.write_table.specs.Writings.{written_of}
 use Rattle.write_row.specs.declared.Head.{Head}
 use Rattle.answers.specs.Behind.{capped, Behind}

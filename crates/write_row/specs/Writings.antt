@@ -1,5 +1,5 @@
 -- The answer to bytes that may be a stored row. Assumes nothing.
-use Rattle.std.specs.Prelude.{ℕ, ◌-◌, Bool, false, cond, List, ◌++◌, eqb, ltb, length, get_or, drop, replicate, Option, is_some}
+use Rattle.std.specs.Prelude.{ℕ, ◌-◌, Bool, false, cond, List, ◌++◌, eqb, ltb, length, get_or, drop, replicate, Option, is_some, Ok, Err}
 use Rattle.std.proofs.lemmas.List.Edits.{sets}
 use Rattle.rules.specs.Decimals.{decimal_text}
 use Rattle.rules.specs.Answers as rules
@@ -8,7 +8,8 @@ use Rattle.rules.specs.Rows.{tab, row_head_size}
 use Rattle.slices.specs.Numbers.{u16_at, u64_at}
 use Rattle.numbers.specs.declared.Decimal.{Decimal}
 use Rattle.numbers.specs.Making.{ruled, made_of, made_decimal}
-use Rattle.answers.specs.declared.Answer.{Answer}
+use Rattle.faults.specs.Refusals.{number_of}
+use Rattle.answers.specs.Delivered.{Answer}
 use Rattle.put_bytes.specs.Puts.{cleared}
 use Rattle.write_table.specs.Writings.{written_of}
 use Rattle.write_row.specs.declared.Head.{Head}
@@ -47,9 +48,9 @@ labelled_over d to n =
 
 -- the line was answered so
 unfoldable pub finished_over : List ℕ → ℕ → Answer → rules.Answer
-finished_over d to r =
-    cond (eqb r.number 0) (cond (eqb r.len 0) (bare_over d to) (labelled_over d to r.len))
-    (cond (eqb r.number 8) (refuses (length d) 8 (capped (capped to 1) r.place)) (refuses (length d) r.number r.place))
+finished_over d to (Ok n) = cond (eqb n 0) (bare_over d to) (labelled_over d to n)
+finished_over d to (Err r) =
+    cond (eqb (number_of r.why) 8) (refuses (length d) 8 (capped (capped to 1) r.place)) (refuses (length d) (number_of r.why) r.place)
 
 -- ---- the whole
 

@@ -8,7 +8,8 @@ ghost use Rattle.answers.specs.Behind.{Behind};
 ghost use Rattle.write_table.specs.Writings.{written_of};
 ghost use Rattle.write_row.specs.Writings.{is_head, head_of, columns_text, bare_over, labelled_over, finished_over, write_row_of};
 
-use answers::{Answer, plus, refuse};
+use answers::{plus, refuse};
+use faults::{Refusal, Why};
 use layout::ROW_HEAD_SIZE;
 use numbers::{Decimal, put_decimal};
 use put_bytes::{clear, clear_from, put8};
@@ -70,7 +71,7 @@ pub fn put_columns(out: &mut [u8], mz: Decimal, intensity: Decimal) -> usize
 }
 
 // The line of a table, written into what stands behind a place: it is not moved.
-fn write_behind(machine: &[u8], table: &[u8], at: usize, out: &mut [u8]) -> Answer
+fn write_behind(machine: &[u8], table: &[u8], at: usize, out: &mut [u8]) -> Result<usize, Refusal>
     ensures { Behind at out.old out.new (written_of machine.now table.now (length out.old - at)) result }
 {
     let from = advance(0, at, out.len());
@@ -78,63 +79,55 @@ fn write_behind(machine: &[u8], table: &[u8], at: usize, out: &mut [u8]) -> Answ
 }
 
 // A row without a line: its columns end at a place.
-pub fn end_bare(to: usize, out: &mut [u8]) -> Answer
+pub fn end_bare(to: usize, out: &mut [u8]) -> Result<usize, Refusal>
     ensures { answered result out.new ≡ bare_over out.old to }
 {
     if out.len() < to {
         clear(out);
-        return refuse(8, to);
+        return refuse(Why::OutputTooShort, to);
     }
     clear_from(out, to);
-    Answer {
-        number: 0,
-        place: 0,
-        len: to,
-    }
+    Ok(to)
 }
 
 // A row with a line of n bytes, which stands behind the byte at a place: a tab.
-fn end_labelled(n: usize, to: usize, out: &mut [u8]) -> Answer
+fn end_labelled(n: usize, to: usize, out: &mut [u8]) -> Result<usize, Refusal>
     ensures { answered result out.new ≡ labelled_over out.old to n }
 {
     let size = plus(plus(to, 1), n);
     if out.len() < size {
         clear(out);
-        return refuse(8, size);
+        return refuse(Why::OutputTooShort, size);
     }
     put8(out, to, b'\t');
-    Answer {
-        number: 0,
-        place: 0,
-        len: size,
-    }
+    Ok(size)
 }
 
 // A row whose columns end at a place, by the answer to its table, whose line stands behind the byte there.
-fn finish_row(line: Answer, to: usize, out: &mut [u8]) -> Answer
+fn finish_row(line: Result<usize, Refusal>, to: usize, out: &mut [u8]) -> Result<usize, Refusal>
     ensures { answered result out.new ≡ finished_over out.old to line }
 {
-    if line.number == 0 {
-        if line.len == 0 {
-            return end_bare(to, out);
+    match line {
+        Ok(0) => end_bare(to, out),
+        Ok(len) => end_labelled(len, to, out),
+        Err(line) => {
+            clear(out);
+            match line.why {
+                Why::OutputTooShort => refuse(line.why, plus(plus(to, 1), line.place)),
+                _ => Err(line),
+            }
         }
-        return end_labelled(line.len, to, out);
     }
-    clear(out);
-    if line.number == 8 {
-        return refuse(8, plus(plus(to, 1), line.place));
-    }
-    refuse(line.number, line.place)
 }
 
 // A stored row by a lent machine.
-pub fn write_row_by(machine: &[u8], stored: &[u8], out: &mut [u8]) -> Answer
+pub fn write_row_by(machine: &[u8], stored: &[u8], out: &mut [u8]) -> Result<usize, Refusal>
     ensures { answered result out.new ≡ write_row_of machine.now stored.now (length out.old) }
 {
     let head = read_head(stored);
     if !head.good {
         clear(out);
-        return refuse(9, 0);
+        return refuse(Why::NoTable, 0);
     }
     let to = put_columns(out, head.mz, head.intensity);
     let line = write_behind(machine, rest(stored, ROW_HEAD_SIZE), plus(to, 1), out);

@@ -6,5 +6,5 @@ use Rattle.run_relabel.proofs.Relabeller.spell.Goals as goal
 
 pub returns : goal.returns
 returns c =
-    spelled_there _ _ _ _ _ _ _ c.args.self.now.made (λ i h. (c.type_inv.line i).fits) (omega arith) c.requires c.advance-n.ensures
+    spelled_there _ _ _ _ _ _ _ _ c.args.self.now.made (λ i h. (c.type_inv.line i).fits) (omega arith) c.requires c.advance-n.ensures
     c.relabel_as.ensures refl
