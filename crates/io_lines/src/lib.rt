@@ -155,6 +155,7 @@ impl Stream {
     }
 
     // With a line found, or none, behind which the next begins.
+    #[inline(always)]
     fn at_line(self, found: Option<Span>, next: usize) -> Stream
         ensures { result ≡ line_of self found next }
     {
@@ -199,6 +200,7 @@ pub fn next_line(system: &mut System, buf: &mut [u8], out: &[u8], s: Stream) -> 
 
 // The next part of a line, up to its line feed or to the end of what was read, for whoever takes lines of any length; none where the
 // input is over.
+#[inline(always)]
 pub fn next_part(system: &mut System, buf: &mut [u8], out: &[u8], s: Stream) -> Stream
     ensures { NextPart buf.old s buf.new result }
 {
@@ -222,6 +224,7 @@ fn look(buf: &[u8], s: Stream) -> Stream
 }
 
 // What was read up to the next line feed, or all of it where there is none.
+#[inline(always)]
 fn part(buf: &[u8], s: Stream) -> Stream
     ensures { result ≡ part_of s (left buf.now s) }
 {

@@ -62,6 +62,7 @@ impl Answers for Shapes<'_> {
     ghost least = { 0 };
 
     // Lines are taken part by part.
+    #[inline(always)]
     fn next(&mut self, system: &mut System, buf: &mut [u8], out: &[u8], s: Stream) -> Stream {
         next_part(system, buf, out, s)
     }
