@@ -85,20 +85,21 @@ pub struct Span {
 // How far the lines were taken.
 #[derive(Clone, Copy)]
 pub struct Stream {
-    // The line, or the part of one, that was found last.
-    pub found: Option<Span>,
     // What was read and not taken yet, from one place of the buffer up to another.
     pub next: usize,
     pub filled: usize,
-    // Whether nothing more comes.
-    pub ended: bool,
     // How many bytes of answers wait.
     pub waiting: usize,
+    // The line, or the part of one, that was found last.
+    pub found: Option<Span>,
+    // Whether nothing more comes.
+    pub ended: bool,
     pub failed: Option<Failure>,
 }
 
 impl Stream {
     // Before the first line.
+    #[inline(always)]
     pub fn begin() -> Stream
         ensures { result ≡ begun }
     {
@@ -124,6 +125,7 @@ impl Stream {
     }
 
     // With so many bytes of answers waiting.
+    #[inline(always)]
     pub fn answered(self, waiting: usize) -> Stream
         ensures { result ≡ waiting_of self waiting }
     {
@@ -131,6 +133,7 @@ impl Stream {
     }
 
     // The bytes of the line that was found, or of the part of one; none where there is none.
+    #[inline(always)]
     pub fn line(self, buf: &[u8]) -> &[u8]
         ensures { result.now ≡ line_in buf.now self }
     {
@@ -184,6 +187,7 @@ impl Stream {
 
 // The next line, or none where the input is over. Answers that wait are written before more is read, so that whoever types lines is
 // answered at once. A proved loop has to end, so it counts up to a number that no run reaches.
+#[inline(always)]
 pub fn next_line(system: &mut System, buf: &mut [u8], out: &[u8], s: Stream) -> Stream
     ensures { Next buf.old s buf.new result }
 {
@@ -213,6 +217,7 @@ pub fn next_part(system: &mut System, buf: &mut [u8], out: &[u8], s: Stream) -> 
 }
 
 // The line that ends in what was read. The last one of all may lack its line feed.
+#[inline(always)]
 fn look(buf: &[u8], s: Stream) -> Stream
     ensures { result ≡ looked_at s (left buf.now s) }
 {
@@ -266,6 +271,7 @@ fn read_behind(system: &mut System, buf: &mut [u8], held: usize) -> io::Result<u
 }
 
 // The stream, whose next answer, of no more than `need` bytes, goes where the answers that wait end. They are written first where it might not fit.
+#[inline(always)]
 pub fn room(system: &mut System, out: &[u8], s: Stream, need: usize) -> Stream
     ensures { Roomed (length out.now) need s result }
 {

@@ -17,7 +17,7 @@ ghost use Rattle.run_relabel.specs.AnswerPut.{AnswerPut};
 
 use faults::Refusal;
 use io_answers::put_refusal;
-use io_lines::{Stream, System, room};
+use io_lines::{Stream, System, next_line, room};
 use limits::{MAX_ANNOTATIONS, MAX_ROW};
 use lines::relabel_by;
 use put_bytes::put8;
@@ -55,7 +55,14 @@ struct Relabeller<'a> {
 impl Answers for Relabeller<'_> {
     ghost least = { max_row + 1 };
 
+    // In line, so that no stream is copied for each line.
+    #[inline(always)]
+    fn next(&mut self, system: &mut System, buf: &mut [u8], out: &[u8], s: Stream) -> Stream {
+        next_line(system, buf, out, s)
+    }
+
     // The line that was found is answered, behind the answers that wait; a line feed ends its own.
+    #[inline(always)]
     fn answer(&mut self, system: &mut System, buf: &[u8], out: &mut [u8], s: Stream) -> Stream
         requires { max_row + 1 ≤ length out.old }
         ensures { Answered (lines_in self.old.lines) self.old.input (line_in buf.now s) s out.old out.new result }
