@@ -1,10 +1,10 @@
 -- What each step of converting a row gives, in the words of its model. Assumes nothing.
 use Prim.Native.Nat.{ℕ, ◌-◌}
 use mathlib.Core.Path.{◌≡◌, refl, sym, ap, ◌∙◌, subst}
-use mathlib.Core.Bool.{true, false}
 use mathlib.Core.List.{List}
 use lib.ListN.{length, drop, replicate}
 use borrow.Author.Tests.{eq-eqb, ne_eqb}
+use Rattle.std.specs.Prelude.{Option, Some, None}
 use Rattle.rules.specs.Answers as rules
 use Rattle.rules.specs.Answers.{refuses}
 use Rattle.rules.specs.Rows.{row_head_size}
@@ -26,17 +26,20 @@ pub third_put : (mz intensity : Decimal) {d e : List ℕ} {to at : ℕ} → Put 
 unfolding third_place capped
 third_put mz intensity p q = q ∙ ap (λ (n : ℕ). capped n 1) p.next
 
-module _ (machine s d : List ℕ) {x : Head} (h : x ≡ head_of s) where
-  head_is : converted_in machine s (length d) x ≡ convert_row_of machine s (length d)
+module _ (machine s d : List ℕ) {o : Option Head} (h : o ≡ head_of s) where
+  head_is : converted_in machine s (length d) o ≡ convert_row_of machine s (length d)
   unfolding convert_row_of
   head_is = ap (converted_in machine s (length d)) h
 
   -- no head
-  pub converted_bad : x.good ≡ false → refuses (length d) 9 0 ≡ convert_row_of machine s (length d)
-  converted_bad g = subst (λ (a : rules.Answer). refuses (length d) 9 0 ≡ a) head_is (rw g)
+  pub converted_bad : o ≡ None → refuses (length d) 9 0 ≡ convert_row_of machine s (length d)
+  converted_bad g = ap (converted_in machine s (length d)) (sym g) ∙ head_is
 
   -- a head, and what stands behind it was converted
-  module _ (g : x.good ≡ true) {t e : List ℕ} {r : Answer} (q : t ≡ drop row_head_size s) (w : Behind row_head_size d e (converted_of machine t (length d - row_head_size)) r) where
+  module _ {x : Head} (g : o ≡ Some x) {t e : List ℕ} {r : Answer} (q : t ≡ drop row_head_size s) (w : Behind row_head_size d e (converted_of machine t (length d - row_head_size)) r) where
+    found_is : converted_in machine s (length d) (Some x) ≡ convert_row_of machine s (length d)
+    found_is = ap (converted_in machine s (length d)) (sym g) ∙ head_is
+
     abbrev b : rules.Answer
     b = converted_of machine (drop row_head_size s) (length d - row_head_size)
 
@@ -51,12 +54,12 @@ module _ (machine s d : List ℕ) {x : Head} (h : x ≡ head_of s) where
     unfolding held_of
     converted_none {e2} n z f =
         ap (λ (y : Answer). answered y e2) f ∙ refused_as d e NoTable 0 w.same z
-        ∙ subst (λ (a : rules.Answer). refuses (length d) 9 0 ≡ a) head_is (rw (g, eq-eqb b.number 9 (sym number_is ∙ n)))
+        ∙ subst (λ (a : rules.Answer). refuses (length d) 9 0 ≡ a) found_is (rw (eq-eqb b.number 9 (sym number_is ∙ n)))
 
     pub converted_held : {at : ℕ} → (number_in r ≡ 9 → ⊥) → at ≡ third_place x.mz x.intensity
         → ended_over e (head_bytes x.mz x.intensity) at r ≡ convert_row_of machine s (length d)
     unfolding held_of
     converted_held {at} n z =
         ended_is (head_bytes x.mz x.intensity) at refl behind
-        ∙ subst (λ (a : rules.Answer). moved_of (head_bytes x.mz x.intensity) at (length d) b ≡ a) head_is
-        (rw (g, ne_eqb b.number 9 (λ e. n (number_is ∙ e))) (ap (λ (m : ℕ). moved_of (head_bytes x.mz x.intensity) m (length d) b) z))
+        ∙ subst (λ (a : rules.Answer). moved_of (head_bytes x.mz x.intensity) at (length d) b ≡ a) found_is
+        (rw (ne_eqb b.number 9 (λ e. n (number_is ∙ e))) (ap (λ (m : ℕ). moved_of (head_bytes x.mz x.intensity) m (length d) b) z))

@@ -52,11 +52,10 @@ fn is_no_table(table: Result<usize, Refusal>) -> bool
 pub fn convert_row_by(machine: &[u8], stored: &[u8], out: &mut [u8]) -> Result<usize, Refusal>
     ensures { answered result out.new ≡ convert_row_of machine.now stored.now (length out.old) }
 {
-    let head = read_head(stored);
-    if !head.good {
+    let Some(head) = read_head(stored) else {
         clear(out);
         return refuse(Why::NoTable, 0);
-    }
+    };
     let table = convert_behind(machine, rest(stored, ROW_HEAD_SIZE), out);
     if is_no_table(table) {
         clear(out);

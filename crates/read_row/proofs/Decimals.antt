@@ -36,7 +36,7 @@ use Rattle.numbers.specs.Points.{point, fraction, pointed, decimal_from, decimal
 use Rattle.numbers.proofs.Leads.{leading_silent}
 use Rattle.numbers.proofs.SpelledNumbers.{decimal_read}
 use Rattle.read_row.specs.declared.Column.{Column}
-use Rattle.read_row.specs.Columns.{begins_decimal, ends_column, is_column, column_of}
+use Rattle.read_row.specs.Columns.{begins_decimal, ends_column, is_column, good_column, column_in, column_of}
 use Rattle.read_row.proofs.Cuts.{lacks_more, lacks_append}
 
 -- ---- a decimal has no tab
@@ -92,25 +92,25 @@ module _ (d : rules.Decimal) (f : T (fits d)) (k : List ℕ) (n : first_in digit
   read : decimal_of Digit (w ++ k) ≡ record { made = Some (kept d); len = length w }
   read = decimal_read Digit d k n p ∙ ap (λ (m : Option Decimal). record { made = m; len = length w }) (fits_made d f)
 
-  pub column_read : column_of (w ++ k) ≡ record { good = true; decimal = kept d; len = length w; next = min (length w + 1) (length (w ++ k)) }
-  unfolding column_of is_column
+  pub column_read : column_of (w ++ k) ≡ Some (record { decimal = kept d; len = length w; next = min (length w + 1) (length (w ++ k)) })
+  unfolding good_column column_in is_column
   column_read = rw (read, begins_text d k n, drop-append_seam w k, z)
 
 -- where the column ends
 pub good_read : {s column more : List ℕ} {place : ℕ} {d : rules.Decimal} → Cut s column more place → GoodColumn column d
-    → column_of s ≡ record { good = true; decimal = kept d; len = length column; next = place }
+    → column_of s ≡ Some (record { decimal = kept d; len = length column; next = place })
 unfolding ends_column
 good_read {d = d} (at_tab column more l e) g =
     let w = decimal_text d in
     let q : length w + 1 ≤ length (w ++ (9 ∷ more)) = omega (arith, length-append w (9 ∷ more)) in
     let m : min (length w + 1) (length (w ++ (9 ∷ more))) ≡ length column + 1 = omega (arith, ap length g.text) in
     ap column_of (sym e ∙ ap (λ (x : List ℕ). x ++ (9 ∷ more)) (sym g.text)) ∙ column_read d g.bounds (9 ∷ more) refl refl refl
-    ∙ ap₂ (λ (n x : ℕ). record { good = true; decimal = kept d; len = n; next = x }) (ap length g.text) m
+    ∙ ap₂ (λ (n x : ℕ). Some (record { decimal = kept d; len = n; next = x })) (ap length g.text) m
 good_read {s} {d = d} (no_tab l) g =
     let w = decimal_text d in
     let m : min (length w + 1) (length (w ++ [])) ≡ length s = omega (arith, length-append {A = ℕ} w [], ap length g.text) in
     ap column_of (sym (append-nil w ∙ g.text)) ∙ column_read d g.bounds [] refl refl refl
-    ∙ ap₂ (λ (n x : ℕ). record { good = true; decimal = kept d; len = n; next = x }) (ap length g.text) m
+    ∙ ap₂ (λ (n x : ℕ). Some (record { decimal = kept d; len = n; next = x })) (ap length g.text) m
 
 -- ---- and none else is
 
@@ -282,8 +282,8 @@ digit_first : (s : List ℕ) → first_in digit s ≡ true → decimal_of Digit 
 unfolding decimal_of
 digit_first s e = rw e
 
-pub read_good : (s : List ℕ) → (column_of s).good ≡ true → ColumnRead s (column_of s)
-unfolding column_of is_column
+pub read_good : (s : List ℕ) → good_column s ≡ true → ColumnRead s (column_in s)
+unfolding good_column column_in is_column
 read_good s e =
     let x = decimal_of Digit s in
     let a = both (begins_decimal s) (cond (is_some x.made) (ends_column (drop x.len s)) false) e in
@@ -306,8 +306,10 @@ read_good s e =
     }
 
 -- no other column is good
-pub read_bad : (s : List ℕ) → (column_of s).good ≡ false → {column more : List ℕ} {place : ℕ} → Cut s column more place → BadColumn column
-read_bad s e c d g = subst T (sym (ap (λ (x : Column). x.good) (good_read c g)) ∙ e) tt
+pub read_bad : (s : List ℕ) → good_column s ≡ false → {column more : List ℕ} {place : ℕ} → Cut s column more place → BadColumn column
+read_bad s e c d g =
+    let none : is_some (column_of s) ≡ false = ap (λ (t : Bool). is_some (cond {A = Option Column} t (Some (column_in s)) None)) e in
+    subst T (sym (ap is_some (good_read c g)) ∙ none) tt
 
 -- ---- how long it may be
 

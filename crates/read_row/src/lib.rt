@@ -20,11 +20,9 @@ use put_bytes::{clear, put_le};
 use read_line::read_by;
 use slices::{advance, begins_in, begins_with, rest};
 
-// A column as it was read: whether it is a decimal within its bounds, which, how many bytes it has, and where what stands behind its tab
-// begins.
-#[derive(Drop)]
+// A column as it was read: its decimal, how many bytes that has, and where what stands behind its tab begins.
+#[derive(Clone, Copy)]
 pub struct Column {
-    pub good: bool,
     pub decimal: Decimal,
     pub len: usize,
     pub next: usize,
@@ -63,18 +61,20 @@ fn is_column(s: &[u8], d: DecimalRead) -> bool
     begins_decimal(s) && d.made.is_some() && ends_column(rest(s, d.len))
 }
 
-// The column that a part begins with.
-#[tactic(auto, unfolding(crate::specs::Columns::column_of))]
-pub fn read_column(s: &[u8]) -> Column
+// The column that a part begins with; none where it begins with no decimal within its bounds, or with more behind it.
+#[tactic(auto, unfolding(crate::specs::Columns::good_column, crate::specs::Columns::column_in))]
+pub fn read_column(s: &[u8]) -> Option<Column>
     ensures { result ≡ column_of s.now }
 {
     let d = read_decimal(s, FirstByte::Digit);
-    Column {
-        good: is_column(s, d),
+    if !is_column(s, d) {
+        return None;
+    }
+    Some(Column {
         decimal: d.made.unwrap_or(Decimal::zero()),
         len: d.len,
         next: advance(d.len, 1, s.len()),
-    }
+    })
 }
 
 // ---- reading
@@ -153,11 +153,10 @@ fn read_intensity(
 ) -> Result<usize, Refusal>
     ensures { answered result out.new ≡ intensity_of machine.now row.now at mz (length out.old) }
 {
-    let intensity = read_column(rest(row, at));
-    if !intensity.good {
+    let Some(intensity) = read_column(rest(row, at)) else {
         clear(out);
         return refuse(Why::BadIntensity, at);
-    }
+    };
     let to = advance(at, intensity.next, row.len());
     read_third(machine, rest(row, to), to, mz, intensity.decimal, out)
 }
@@ -170,10 +169,9 @@ pub fn read_row_by(machine: &[u8], row: &[u8], out: &mut [u8]) -> Result<usize, 
         clear(out);
         return refuse(Why::LineTooLong, MAX_ROW);
     }
-    let mz = read_column(row);
-    if !mz.good {
+    let Some(mz) = read_column(row) else {
         clear(out);
         return refuse(Why::BadMz, 0);
-    }
+    };
     read_intensity(machine, row, mz.next, mz.decimal, out)
 }

@@ -4,12 +4,12 @@ use mathlib.Core.Path.{◌≡◌, refl, sym, ap, ap₂, ◌∙◌, subst}
 use mathlib.Core.Bool.{Bool, true, false, cond}
 use mathlib.Core.List.{List, ◌++◌}
 use native.Mathlib.Omega.{arith}
-use lib.Dec.{eqb, ltb}
+use lib.Dec.{ltb}
 use lib.ListN.{length, take, drop, replicate, length-take, take-append-drop}
 use lib.Seq.{take-append_seam}
-use borrow.Author.Tests.{ltb-false, lt-ltb, le-ltb, le-leb, lt-leb, eq-eqb, ne_eqb}
+use borrow.Author.Tests.{ltb-false, lt-ltb, le-ltb, le-leb, lt-leb, ne_eqb}
 use Rattle.rules.specs.Limits.{max_line}
-use Rattle.std.specs.Prelude.{Ok, Err}
+use Rattle.std.specs.Prelude.{Ok, Err, Option, Some, None}
 use Rattle.rules.specs.Answers as rules
 use Rattle.rules.specs.Answers.{refuses}
 use Rattle.rules.specs.RowAnswers.{max_row}
@@ -30,7 +30,7 @@ use Rattle.read_row.specs.declared.Column.{Column}
 use Rattle.read_row.specs.Columns.{column_of}
 use Rattle.write_row.specs.Writings.{bare_over, bare_of}
 use Rattle.write_row.proofs.Over.{bare_stands}
-use Rattle.respell_row.specs.Relabelled.{place_of, refused_over, finished_over, spelled_of, third_of, columns_of, intensity_of, relabelled_row_of}
+use Rattle.respell_row.specs.Relabelled.{place_of, refused_over, finished_over, spelled_of, third_of, columns_of, intensity_in, intensity_of, mz_in, relabelled_row_of}
 
 -- ---- the place of a refusal
 
@@ -156,36 +156,27 @@ module _ (machine row : List ℕ) (room : ℕ) where
 
   -- ---- the columns
 
-  pub intensity_bad : (at : ℕ) {s : List ℕ} {x : Column} → s ≡ drop at row → x ≡ column_of s → x.good ≡ false
-      → refuses room 13 at ≡ intensity_of machine row at room
+  pub intensity_bad : (at : ℕ) {s : List ℕ} {o : Option Column} → s ≡ drop at row → o ≡ column_of s → o ≡ None → refuses room 13 at ≡ intensity_of machine row at room
   unfolding intensity_of
-  intensity_bad at q e g =
-      let z : (column_of (drop at row)).good ≡ false = ap (λ (y : Column). y.good) (sym (e ∙ ap column_of q)) ∙ g in
-      rw z
+  intensity_bad at q e g = ap (intensity_in machine row at room) (sym g ∙ e ∙ ap column_of q)
 
-  pub intensity_good : (at : ℕ) {end to : ℕ} {s : List ℕ} {x : Column} → s ≡ drop at row → x ≡ column_of s → x.good ≡ true
+  pub intensity_good : (at : ℕ) {end to : ℕ} {s : List ℕ} {o : Option Column} {x : Column} → s ≡ drop at row → o ≡ column_of s → o ≡ Some x
       → end ≡ min (at + x.len) (length row) → to ≡ min (at + x.next) (length row)
       → columns_of machine row end to room ≡ intensity_of machine row at room
   unfolding intensity_of
-  intensity_good at {end} {to} {s} {x} q e g m t =
-      let c : x ≡ column_of (drop at row) = e ∙ ap column_of q in
-      let z : (column_of (drop at row)).good ≡ true = ap (λ (y : Column). y.good) (sym c) ∙ g in
-      rw z (ap₂ (λ (i j : ℕ). columns_of machine row i j room) m t
-      ∙ ap (λ (y : Column). columns_of machine row (min (at + y.len) (length row)) (min (at + y.next) (length row)) room) c)
+  intensity_good at q e g m t = ap₂ (λ (i j : ℕ). columns_of machine row i j room) m t ∙ ap (intensity_in machine row at room) (sym g ∙ e ∙ ap column_of q)
 
   pub row_long : max_row < length row → refuses room 1 max_row ≡ relabelled_row_of machine row room
   unfolding relabelled_row_of
   row_long h = rw (lt-ltb max_row (length row) h)
 
-  pub row_bad : {x : Column} → length row ≤ max_row → x ≡ column_of row → x.good ≡ false → refuses room 12 0 ≡ relabelled_row_of machine row room
+  row_in : {o : Option Column} → length row ≤ max_row → o ≡ column_of row → mz_in machine row room o ≡ relabelled_row_of machine row room
   unfolding relabelled_row_of
-  row_bad h e g =
-      let z : (column_of row).good ≡ false = ap (λ (y : Column). y.good) (sym e) ∙ g in
-      rw (le-ltb max_row (length row) h, z)
+  row_in h e = ap (mz_in machine row room) e ∙ rw (le-ltb max_row (length row) h)
 
-  pub row_good : {x : Column} → length row ≤ max_row → x ≡ column_of row → x.good ≡ true
+  pub row_bad : {o : Option Column} → length row ≤ max_row → o ≡ column_of row → o ≡ None → refuses room 12 0 ≡ relabelled_row_of machine row room
+  row_bad h e g = ap (mz_in machine row room) (sym g) ∙ row_in h e
+
+  pub row_good : {o : Option Column} {x : Column} → length row ≤ max_row → o ≡ column_of row → o ≡ Some x
       → intensity_of machine row x.next room ≡ relabelled_row_of machine row room
-  unfolding relabelled_row_of
-  row_good h e g =
-      let z : (column_of row).good ≡ true = ap (λ (y : Column). y.good) (sym e) ∙ g in
-      rw (le-ltb max_row (length row) h, z) (ap (λ (y : Column). intensity_of machine row y.next room) e)
+  row_good h e g = ap (mz_in machine row room) (sym g) ∙ row_in h e

@@ -111,11 +111,10 @@ fn relabel_intensity(
 ) -> Result<usize, Refusal>
     ensures { answered result out.new ≡ intensity_of machine.now row.now at (length out.old) }
 {
-    let intensity = read_column(rest(row, at));
-    if !intensity.good {
+    let Some(intensity) = read_column(rest(row, at)) else {
         clear(out);
         return refuse(Why::BadIntensity, at);
-    }
+    };
     let end = advance(at, intensity.len, row.len());
     let to = advance(at, intensity.next, row.len());
     relabel_columns(machine, row, end, to, out)
@@ -129,10 +128,9 @@ pub fn relabel_row_by(machine: &[u8], row: &[u8], out: &mut [u8]) -> Result<usiz
         clear(out);
         return refuse(Why::LineTooLong, MAX_ROW);
     }
-    let mz = read_column(row);
-    if !mz.good {
+    let Some(mz) = read_column(row) else {
         clear(out);
         return refuse(Why::BadMz, 0);
-    }
+    };
     relabel_intensity(machine, row, mz.next, out)
 }

@@ -27,8 +27,9 @@ use Rattle.read_line.specs.Back.{reads_to, few, zeros}
 use Rattle.write_table.specs.declared.Wanted.{Wanted}
 use Rattle.write_table.specs.declared.Wanted.TheVariants.{Line, Table}
 use Rattle.write_table.specs.Writings.{edition_for, first_number, handed_of, unheld_number, judged_for, found_of, found_in, longest_printed, answer_of}
+use Rattle.write_row.specs.declared.Head.{Head}
 use Rattle.answers.specs.Behind.{capped}
-use Rattle.write_row.specs.Writings.{behind_of, head_of, write_row_of}
+use Rattle.write_row.specs.Writings.{behind_of, head_of, headed_of, write_row_of}
 use Rattle.run_writes.specs.declared.Task.{Task}
 use Rattle.run_writes.specs.declared.Task.TheVariants.{WriteTable, WriteRow, ConvertTable}
 use Rattle.run_writes.specs.Answered.{answer_as, hex_of}
@@ -99,7 +100,11 @@ behind_fits columns to room b =
 
 row_fits : (machine stored : List ℕ) (room : ℕ) → Fits room (write_row_of machine stored room)
 unfolding write_row_of
-row_fits machine stored room = either (head_of stored).good (behind_fits _ _ room _) (refused room 9 0)
+row_fits machine stored room = by (head_of stored)
+  where
+    by : (o : Option Head) → Fits room (headed_of machine stored room o)
+    by (Some h) = behind_fits _ _ room _
+    by None = refused room 9 0
 
 as_fits : (task : Task) (machine table : List ℕ) (room : ℕ) → Fits room (answer_as task machine table room)
 unfolding answer_as

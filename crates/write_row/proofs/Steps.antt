@@ -1,12 +1,11 @@
 -- What each step of writing a row gives, in the words of its model. Assumes nothing.
 use Prim.Native.Nat.{ℕ, ◌≤◌, ◌<◌}
 use mathlib.Core.Path.{◌≡◌, sym, ap, ap₂, ◌∙◌}
-use mathlib.Core.Bool.{false}
 use mathlib.Core.List.{List, [], ◌∷◌}
 use native.Mathlib.Omega.{arith}
 use lib.ListN.{length, replicate}
 use borrow.Author.Tests.{lt-ltb, le-ltb, eq-eqb, ne_eqb}
-use Rattle.std.specs.Prelude.{Ok, Err}
+use Rattle.std.specs.Prelude.{Ok, Err, Option, None}
 use Rattle.rules.specs.Answers as rules
 use Rattle.rules.specs.Answers.{refuses}
 use Rattle.put_bytes.specs.Puts.{Put, cleared}
@@ -18,7 +17,7 @@ use Rattle.answers.proofs.One.{why_one}
 use Rattle.faults.specs.declared.Refusal.{Refusal}
 use Rattle.faults.specs.Refusals.{number_of}
 use Rattle.write_row.specs.declared.Head.{Head}
-use Rattle.write_row.specs.Writings.{head_of, bare_over, labelled_over, finished_over, write_row_of}
+use Rattle.write_row.specs.Writings.{head_of, bare_over, labelled_over, finished_over, headed_of, write_row_of}
 
 pub bare_short : (d : List ℕ) (to : ℕ) {e : List ℕ} {a : Answer} → length d < to → a ≡ refused_of OutputTooShort to → e ≡ replicate (length d) 0 → answered a e ≡ bare_over d to
 unfolding bare_over
@@ -66,6 +65,6 @@ module _ (d : List ℕ) (to : ℕ) {r : Answer} where
     finished_refused n =
         rw (i, ne_eqb (number_of x.why) 8 (λ w. n (why_one x.why OutputTooShort w))) (ap (answered (Err x)) q)
 
-pub written_bad : (machine s : List ℕ) (room : ℕ) {x : Head} → x ≡ head_of s → x.good ≡ false → refuses room 9 0 ≡ write_row_of machine s room
+pub written_bad : (machine s : List ℕ) (room : ℕ) {o : Option Head} → o ≡ head_of s → o ≡ None → refuses room 9 0 ≡ write_row_of machine s room
 unfolding write_row_of
-written_bad machine s room e g = let z : (head_of s).good ≡ false = ap (λ (y : Head). y.good) (sym e) ∙ g in rw z
+written_bad machine s room e g = ap (headed_of machine s room) (sym g ∙ e)

@@ -26,9 +26,8 @@ const INTENSITY_PLACES_AT: usize = 17;
 const ZERO_AT: usize = 18;
 
 // The bytes of a stored row before its table, as they were read.
-#[derive(Drop)]
+#[derive(Clone, Copy)]
 pub struct Head {
-    pub good: bool,
     pub mz: Decimal,
     pub intensity: Decimal,
 }
@@ -44,9 +43,9 @@ fn is_head(stored: &[u8], mz: Option<Decimal>, intensity: Option<Decimal>) -> bo
         && u16_at(rest(stored, ZERO_AT)) == 0
 }
 
-// The head of what may be a stored row.
-#[tactic(auto, unfolding(crate::specs::Writings::head_of))]
-pub fn read_head(stored: &[u8]) -> Head
+// The head of what may be a stored row; none where that is no head.
+#[tactic(auto, unfolding(crate::specs::Writings::good_head, crate::specs::Writings::head_in))]
+pub fn read_head(stored: &[u8]) -> Option<Head>
     ensures { result ≡ head_of stored.now }
 {
     let mz = Decimal::new(u64_at(stored), byte_of(stored, MZ_PLACES_AT));
@@ -54,11 +53,13 @@ pub fn read_head(stored: &[u8]) -> Head
         u64_at(rest(stored, INTENSITY_AT)),
         byte_of(stored, INTENSITY_PLACES_AT),
     );
-    Head {
-        good: is_head(stored, mz, intensity),
+    if !is_head(stored, mz, intensity) {
+        return None;
+    }
+    Some(Head {
         mz: mz.unwrap_or(Decimal::zero()),
         intensity: intensity.unwrap_or(Decimal::zero()),
-    }
+    })
 }
 
 // m/z, a tab, intensity; the place behind them.
@@ -124,11 +125,10 @@ fn finish_row(line: Result<usize, Refusal>, to: usize, out: &mut [u8]) -> Result
 pub fn write_row_by(machine: &[u8], stored: &[u8], out: &mut [u8]) -> Result<usize, Refusal>
     ensures { answered result out.new ≡ write_row_of machine.now stored.now (length out.old) }
 {
-    let head = read_head(stored);
-    if !head.good {
+    let Some(head) = read_head(stored) else {
         clear(out);
         return refuse(Why::NoTable, 0);
-    }
+    };
     let to = put_columns(out, head.mz, head.intensity);
     let line = write_behind(machine, rest(stored, ROW_HEAD_SIZE), plus(to, 1), out);
     finish_row(line, to, out)
