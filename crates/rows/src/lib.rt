@@ -18,11 +18,11 @@ use scan_line::{Lines, machine};
 use slices::{advance, rest};
 use write_row::write_row_by;
 
-// A row of a list: how many bytes it has, and where the next one begins; or that there is none.
-#[derive(Drop)]
-pub enum NextRow {
-    Found(usize, usize),
-    End,
+// A row of a list: how many bytes it has, and where the next one begins.
+#[derive(Clone, Copy)]
+pub struct Row {
+    pub len: usize,
+    pub next: usize,
 }
 
 // The stored row that a row spells, by lines of an edition, or why there is none.
@@ -78,14 +78,18 @@ pub fn relabel_row(row: &[u8], out: &mut [u8]) -> Result<usize, Refusal>
     relabel_row_in(Lines::First, row, out)
 }
 
-// The row of a list that begins at a place: the list is walked row by row, and nothing is copied.
-pub fn next_row(list: &[u8], at: usize) -> NextRow
+// The row of a list that begins at a place; none at the list's end. The list is walked row by row, and nothing is copied.
+#[tactic(auto, unfolding(crate::specs::Walks::next_row_of))]
+pub fn next_row(list: &[u8], at: usize) -> Option<Row>
     ensures { result ≡ next_row_of list.now at }
 {
     if list.len() <= at {
-        return NextRow::End;
+        return None;
     }
     let len = line_end(rest(list, at));
     let end = advance(at, len, list.len());
-    NextRow::Found(len, advance(end, 1, list.len()))
+    Some(Row {
+        len,
+        next: advance(end, 1, list.len()),
+    })
 }
