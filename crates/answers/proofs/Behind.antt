@@ -7,11 +7,12 @@ use native.Mathlib.Decide.{dec_le}
 use native.Mathlib.Nat.{zero-add}
 use lib.ListN.{length, take, drop, replicate, length-append, length-take, length-drop, drop_of_length-le}
 use lib.Seq.{take_at, drop_at, take-length, length-take-le, sets, sets-eq}
+use Rattle.faults.specs.declared.Why.{Why}
+use Rattle.faults.specs.Refusals.{number_of}
 use Rattle.rules.specs.Answers as rules
 use Rattle.rules.specs.Answers.{refuses}
 use Rattle.put_bytes.specs.Puts.{max_place}
-use Rattle.answers.specs.declared.Answer.{Answer}
-use Rattle.answers.specs.Delivered.{answered, refused_of}
+use Rattle.answers.specs.Delivered.{Answer, answered, refused_of}
 use Rattle.answers.specs.Behind.{capped, Behind}
 
 -- ---- sums
@@ -26,12 +27,13 @@ capped_more a b h = omega arith
 
 -- ---- refusals
 
-pub refused_is : {a : Answer} {e : List ℕ} (room n p : ℕ) → a ≡ refused_of n p → e ≡ replicate room 0 → answered a e ≡ refuses room n p
-refused_is room n p x y = ap₂ answered x y
+pub refused_is : {a : Answer} {e : List ℕ} (room : ℕ) (w : Why) (p : ℕ) → a ≡ refused_of w p → e ≡ replicate room 0 → answered a e ≡ refuses room (number_of w) p
+refused_is room w p x y = ap₂ answered x y
 
 -- in an output that is as long
-pub refused_as : (d e : List ℕ) {e2 : List ℕ} (n p : ℕ) → length e ≡ length d → e2 ≡ replicate (length e) 0 → answered (refused_of n p) e2 ≡ refuses (length d) n p
-refused_as d e n p s q = ap (λ (l : List ℕ). record { number = n; place = p; size = 0; out = l }) (q ∙ ap (λ (m : ℕ). replicate m 0) s)
+pub refused_as : (d e : List ℕ) {e2 : List ℕ} (w : Why) (p : ℕ) → length e ≡ length d → e2 ≡ replicate (length e) 0
+    → answered (refused_of w p) e2 ≡ refuses (length d) (number_of w) p
+refused_as d e w p s q = ap (answered (refused_of w p)) (q ∙ ap (λ (m : ℕ). replicate m 0) s)
 
 -- ---- the first bytes of an output
 

@@ -7,25 +7,26 @@ use native.Mathlib.Decide.{dec_le}
 use lib.ListN.{length, take, drop, replicate}
 use lib.Seq.{take-append_seam, sets-eq}
 use borrow.Author.Tests.{lt-ltb, le-ltb}
+use Rattle.std.specs.Prelude.{Ok}
 use Rattle.rules.specs.Limits.{max_line}
+use Rattle.faults.specs.declared.Why.TheVariants.{LineTooLong, OutputTooShort}
 use Rattle.put_bytes.specs.Puts.{Put, cleared}
 use Rattle.put_bytes.proofs.Putting.{put_length}
-use Rattle.answers.specs.declared.Answer.{Answer}
-use Rattle.answers.specs.Delivered.{answered, refused_of, line_over, closed_over}
+use Rattle.answers.specs.Delivered.{Answer, answered, refused_of, line_over, closed_over}
 
 -- ---- the code's answers are those of the model
 
 module _ (e : List ℕ) (n : ℕ) where
-  pub line_long : {out : List ℕ} {r : Answer} → max_line < n → out ≡ replicate (length e) 0 → r ≡ refused_of 1 max_line → answered r out ≡ closed_over e n
+  pub line_long : {out : List ℕ} {r : Answer} → max_line < n → out ≡ replicate (length e) 0 → r ≡ refused_of LineTooLong max_line → answered r out ≡ closed_over e n
   unfolding closed_over
   line_long h z q = rw (lt-ltb max_line n h, q, z)
 
   module _ (short : n ≤ max_line) where
-    pub line_no_room : {out : List ℕ} {r : Answer} → length e < n → out ≡ replicate (length e) 0 → r ≡ refused_of 8 n → answered r out ≡ closed_over e n
+    pub line_no_room : {out : List ℕ} {r : Answer} → length e < n → out ≡ replicate (length e) 0 → r ≡ refused_of OutputTooShort n → answered r out ≡ closed_over e n
     unfolding closed_over
     line_no_room h z q = rw (le-ltb max_line n short, lt-ltb (length e) n h, q, z)
 
-    pub line_fits : {out : List ℕ} → n ≤ length e → out ≡ cleared e n → answered (record { number = 0; place = 0; len = n }) out ≡ closed_over e n
+    pub line_fits : {out : List ℕ} → n ≤ length e → out ≡ cleared e n → answered (Ok n) out ≡ closed_over e n
     unfolding closed_over
     line_fits h z = rw (le-ltb max_line n short, le-ltb (length e) n h, z)
 

@@ -2,8 +2,7 @@
 use Rattle.std.specs.Prelude.{ℕ, ◌+◌, min, ◌≡◌, List, length, take, drop}
 use Rattle.rules.specs.Answers as rules
 use Rattle.put_bytes.specs.Puts.{max_place}
-use Rattle.answers.specs.declared.Answer.{Answer}
-use Rattle.answers.specs.Delivered.{answered}
+use Rattle.answers.specs.Delivered.{Answer, answered}
 
 -- a sum as far as a usize holds it
 unfoldable pub capped : ℕ → ℕ → ℕ

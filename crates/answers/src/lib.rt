@@ -1,55 +1,50 @@
-// What a call answers, and how a line is handed over. Document 01, "Numbers of refusal": a line to be written is tested against 1 and 8, and
+// What a call answers, a number of bytes or a refusal, and how a line is handed over. Document 01, "Numbers of refusal": a line to be written is tested against 1 and 8, and
 // an output holds the result and zeros behind it, or zeros.
 #![tactic(auto)]
 
 ghost use Rattle.std.specs.Prelude.{◌≡◌, length};
-ghost use Rattle.answers.specs.Delivered.{answered, refused_of, line_over, closed_over};
+ghost use Rattle.answers.specs.Delivered.{answered, numbers_of, refused_of, line_over, closed_over};
 ghost use Rattle.answers.specs.Behind.{capped};
 
+use faults::{Refusal, Why};
 use limits::MAX_LINE;
 use put_bytes::{clear, clear_from, put_run};
-use slices::advance;
 
-// The number of refusal, or 0; its place, or the bytes needed; and how many bytes of the output were written.
-#[derive(Drop)]
-pub struct Answer {
-    pub number: usize,
-    pub place: usize,
-    pub len: usize,
+// A refusal: nothing was written.
+pub fn refuse(why: Why, place: usize) -> Result<usize, Refusal>
+    ensures { result ≡ refused_of why place }
+{
+    Err(Refusal { why, place })
 }
 
-pub fn refuse(number: usize, place: usize) -> Answer
-    ensures { result ≡ refused_of number place }
+// The number of refusal, or 0; its place, or the bytes needed; and how many bytes of the output were written.
+pub fn numbers(a: Result<usize, Refusal>) -> (usize, usize, usize)
+    ensures { result ≡ numbers_of a }
 {
-    Answer {
-        number,
-        place,
-        len: 0,
+    match a {
+        Ok(len) => (0, 0, len),
+        Err(r) => (r.why.number(), r.place, 0),
     }
 }
 
 // A line of n bytes that was put into an output, cut at its end: against its bound and the output.
-pub fn close_line(out: &mut [u8], n: usize) -> Answer
+pub fn close_line(out: &mut [u8], n: usize) -> Result<usize, Refusal>
     ensures { answered result out.new ≡ closed_over out.old n }
 {
     if MAX_LINE < n {
         clear(out);
-        return refuse(1, MAX_LINE);
+        return refuse(Why::LineTooLong, MAX_LINE);
     }
     if out.len() < n {
         clear(out);
-        return refuse(8, n);
+        return refuse(Why::OutputTooShort, n);
     }
     clear_from(out, n);
-    Answer {
-        number: 0,
-        place: 0,
-        len: n,
-    }
+    Ok(n)
 }
 
 // A line that is found to be a table's.
-pub fn write_line(line: &[u8], out: &mut [u8]) -> Answer
+pub fn write_line(line: &[u8], out: &mut [u8]) -> Result<usize, Refusal>
     ensures { answered result out.new ≡ line_over line.now (length out.old) }
 {
     let n = put_run(out, 0, line);
@@ -60,5 +55,5 @@ pub fn write_line(line: &[u8], out: &mut [u8]) -> Answer
 pub fn plus(a: usize, b: usize) -> usize
     ensures { result ≡ capped a b }
 {
-    advance(a, b, usize::MAX)
+    a.saturating_add(b)
 }

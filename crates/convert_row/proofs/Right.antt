@@ -12,12 +12,11 @@ use Rattle.rules.specs.Lines.{Spelling}
 use Rattle.rules.specs.Fields.{Table}
 use Rattle.rules.specs.Preferred.{preferred_spelling}
 use Rattle.rules.specs.Editions.{Edition, LineEdition}
-use Rattle.rules.specs.Answers.{Answer, refuses, Delivers, no_room, done, ReadsSum, excess, ReadsRules, breach, ReadsForm, foreign, Converts}
+use Rattle.rules.specs.Answers.{Answer, Delivers, no_room, done, ReadsSum, excess, ReadsRules, breach, ReadsForm, foreign, Converts}
 use Rattle.rules.specs.Rows.{tab, row_head_size}
 use Rattle.rules.specs.RowAnswers.{third_at, ConvertsRow, no_row, Moves}
 use Rattle.print_table.proofs.Short.{line_short}
 use Rattle.put_bytes.specs.Puts.{max_place}
-use Rattle.write_table.specs.Writings.{converted_of}
 use Rattle.write_table.proofs.Prefers.{preferred_kept}
 use Rattle.write_table.proofs.Right.{Lent, convert_right}
 use Rattle.numbers.specs.Making.{ruled}
@@ -26,12 +25,13 @@ use Rattle.answers.proofs.Behind.{capped_is}
 use Rattle.read_row.specs.Readings.{head_bytes, moved_of}
 use Rattle.read_row.proofs.LinePlaces.{form_place, form_fills}
 use Rattle.read_row.proofs.Right.{moved_right}
+use Rattle.std.specs.Prelude.{Option, Some, None}
 use Rattle.write_row.specs.declared.Head.{Head}
-use Rattle.write_row.specs.Writings.{head_of, columns_text}
+use Rattle.write_row.specs.Writings.{good_head, head_in, columns_text}
 use Rattle.write_row.proofs.Heads.{Bytes, HeadRead, head_good}
 use Rattle.write_row.proofs.Held.{row_of, head_holds, rest_holds, head_there}
 use Rattle.write_row.proofs.Right.{columns_short}
-use Rattle.convert_row.specs.Conversions.{third_place, held_of, convert_row_of}
+use Rattle.convert_row.specs.Conversions.{third_place, held_of, converted_in, convert_row_of}
 
 -- ---- what a line is read as is not 9
 
@@ -91,10 +91,8 @@ module _ (s : List ℕ) (room : ℕ) (small : room ≤ max_place) (h : Head) (x 
 
 pub convert_row_right : (l : LineEdition) (machine s : List ℕ) (room : ℕ) → room ≤ max_place → Bytes s → Lent l machine → ConvertsRow s room (convert_row_of machine s room)
 unfolding convert_row_of
-convert_row_right l machine s room small y lent = by (head_of s).good refl
+convert_row_right l machine s room small y lent = by (good_head s) refl
   where
-    by : (t : Bool) → (head_of s).good ≡ t → ConvertsRow s room (cond t
-        (held_of (head_bytes (head_of s).mz (head_of s).intensity) (third_place (head_of s).mz (head_of s).intensity) room (converted_of machine (drop row_head_size s) (room - row_head_size)))
-        (refuses room 9 0))
-    by true e = table_right s room small (head_of s) (head_good s y e) (convert_right l machine (drop row_head_size s) (room - row_head_size) (omega arith) lent)
+    by : (t : Bool) → good_head s ≡ t → ConvertsRow s room (converted_in machine s room (cond {A = Option Head} t (Some (head_in s)) None))
+    by true e = table_right s room small (head_in s) (head_good s y e) (convert_right l machine (drop row_head_size s) (room - row_head_size) (omega arith) lent)
     by false e = no_row (λ r g. subst T (sym (head_there g) ∙ e) tt)

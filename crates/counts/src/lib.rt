@@ -4,7 +4,7 @@
 ghost use Rattle.std.specs.Prelude.{◌≡◌};
 ghost use Rattle.counts.specs.Sums.{sum, no_counts, plus};
 
-#[derive(Clone, Copy)]
+#[derive(Clone, Copy, Default)]
 pub struct Counts {
     pub annotations: usize,
     pub losses: usize,
@@ -18,24 +18,14 @@ pub struct Counts {
 pub fn sum(a: usize, b: usize) -> usize
     ensures { result ≡ sum a b }
 {
-    if usize::MAX - a < b {
-        return usize::MAX;
-    }
-    a + b
+    a.saturating_add(b)
 }
 
 // Nothing of any kind.
 pub fn none() -> Counts
     ensures { result ≡ no_counts }
 {
-    Counts {
-        annotations: 0,
-        losses: 0,
-        isotopes: 0,
-        items: 0,
-        units: 0,
-        text: 0,
-    }
+    Counts::default()
 }
 
 // The sum of each kind.

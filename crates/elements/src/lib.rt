@@ -369,10 +369,7 @@ pub fn atomic(a: u8, b: u8) -> u16
 fn is_capital(b: u8) -> bool
     ensures { result ≡ in_c capital b }
 {
-    if b < b'A' {
-        return false;
-    }
-    b <= b'Z'
+    b.is_ascii_uppercase()
 }
 
 // The small letter that stands second in a part; 0 where none does.

@@ -1,19 +1,19 @@
 -- The first broken limit, kept while a line is walked. Assumes nothing.
-use Rattle.std.specs.Prelude.{ℕ, cond, not, ◌&&◌, List, [], ◌∷◌, eqb}
+use Rattle.std.specs.Prelude.{ℕ, Bool, cond, List, [], ◌∷◌, Option, Some, None}
 use Rattle.lang.specs.Mark.{Mark}
-use Rattle.faults.specs.declared.Fault.{Fault}
+use Rattle.faults.specs.declared.Refusal.{Refusal}
+use Rattle.faults.specs.declared.Why.{Why}
+use Rattle.faults.specs.Refusals.{number_of, refused_by}
 
-abbrev pub fault : ℕ → ℕ → Fault
-fault n p = record { number = n; place = p }
-
--- a limit by the number of its refusal: 0 where it is kept
-abbrev pub numbered : ℕ → ℕ → Mark
-numbered n p = record { place = p; number = n; broken = not (eqb n 0) }
+-- a limit by why it is refused
+abbrev pub mark : Why → ℕ → Bool → Mark
+mark w p b = record { place = p; number = number_of w; broken = b }
 
 -- a limit that is broken counts where none was before it
-unfoldable pub join : Fault → Mark → Fault
-join f m = cond (eqb f.number 0 && m.broken) (fault m.number m.place) f
+unfoldable pub join : Option Refusal → Mark → Option Refusal
+join (Some r) m = Some r
+join None m = cond m.broken (refused_by m.number m.place) None
 
-abbrev pub after : Fault → List Mark → Fault
+abbrev pub after : Option Refusal → List Mark → Option Refusal
 after f [] = f
 after f (m ∷ ms) = after (join f m) ms

@@ -1,26 +1,17 @@
 -- Digits of bytes, one after the other, and answers by their number. Assumes nothing.
-use Prim.Native.Nat.{ℕ, ◌+◌, ◌/◌, ◌%◌, ◌≤◌, ◌<◌}
-use mathlib.Core.Path.{◌≡◌, refl, sym, ap, ap₂, ◌∙◌}
-use mathlib.Core.Bool.{Bool, cond}
+use Prim.Native.Nat.{ℕ, ◌+◌, ◌≤◌, ◌<◌}
+use mathlib.Core.Path.{◌≡◌, sym, ap, ◌∙◌}
 use mathlib.Core.List.{List, [], ◌∷◌, ◌++◌}
-use native.Mathlib.Omega.{arith}
 use lib.ListN.{length, get_or, take, drop, drop_of_length-le}
-use borrow.Author.Tests.{lt-ltb, le-ltb, eq-eqb, ne_eqb}
+use borrow.Author.Tests.{ne_eqb}
 use Rattle.lang.specs.Parts.{flat}
 use Rattle.put_bytes.proofs.PutLoop.{run_more}
-use Rattle.answers.specs.declared.Answer.{Answer}
-use Rattle.io_answers.specs.Tells.{hex_digit, hex_byte, shown, refusal_text, told_briefly}
-
-pub low : (d : ℕ) → d < 10 → 48 + d ≡ hex_digit d
-unfolding hex_digit
-low d h = simp (lt-ltb d 10 h)
-
-pub high : (d : ℕ) → 10 ≤ d → 87 + d ≡ hex_digit d
-unfolding hex_digit
-high d h = simp (le-ltb d 10 h)
-
-pub byte_is : (b : ℕ) {p q : ℕ} → p ≡ hex_digit (b / 16 % 16) → q ≡ hex_digit (b % 16) → (p ∷ []) ++ (q ∷ []) ≡ hex_byte b
-byte_is b e f = ap₂ (λ (x y : ℕ). x ∷ y ∷ []) e f
+use Rattle.std.specs.Prelude.{Ok, Err}
+use Rattle.faults.specs.declared.Refusal.{Refusal}
+use Rattle.faults.specs.Refusals.{number_of}
+use Rattle.answers.specs.Delivered.{Answer}
+use Rattle.answers.proofs.One.{number_not_0}
+use Rattle.io_answers.specs.Tells.{hex_byte, refusal_text, told_briefly}
 
 pub hex_more : (s : List ℕ) (i : ℕ) → i < length s → flat hex_byte (drop i s) ≡ hex_byte (get_or s i 0) ++ flat hex_byte (drop (i + 1) s)
 hex_more s i h = ap (flat hex_byte) (run_more s i h)
@@ -28,22 +19,9 @@ hex_more s i h = ap (flat hex_byte) (run_more s i h)
 pub hex_none : (s : List ℕ) (i : ℕ) → length s ≤ i → flat hex_byte (drop i s) ≡ []
 hex_none s i h = ap (flat hex_byte) (drop_of_length-le s h)
 
-pub shown_none : (s : List ℕ) → length s < 1 → 45 ∷ [] ≡ shown s
-unfolding shown
-shown_none [] h = refl
-shown_none (b ∷ s) h = absurd (omega arith)
+-- of a refusal, or of so many bytes
+pub brief_refused : {a : Answer} {r : Refusal} (table : List ℕ) → a ≡ Err r → refusal_text r ++ (10 ∷ []) ≡ told_briefly a table
+brief_refused {r = r} table h = rw (h, ne_eqb (number_of r.why) 0 (number_not_0 r.why))
 
-pub shown_some : (s : List ℕ) → 1 ≤ length s → flat hex_byte s ≡ shown s
-unfolding shown
-shown_some [] h = absurd (omega arith)
-shown_some (b ∷ s) h = refl
-
-module _ (a : Answer) (table : List ℕ) where
-  abbrev brief_by : Bool → List ℕ
-  brief_by b = cond b (flat hex_byte (take a.len table)) (refusal_text a) ++ (10 ∷ [])
-
-  pub brief_refused : (a.number ≡ 0 → ⊥) → refusal_text a ++ (10 ∷ []) ≡ told_briefly a table
-  brief_refused h = ap brief_by (sym (ne_eqb a.number 0 h))
-
-  pub brief_digits : {p : List ℕ} → a.number ≡ 0 → p ≡ take a.len table → flat hex_byte p ++ (10 ∷ []) ≡ told_briefly a table
-  brief_digits h e = ap (λ (l : List ℕ). flat hex_byte l ++ (10 ∷ [])) e ∙ ap brief_by (sym (eq-eqb a.number 0 h))
+pub brief_digits : {a : Answer} {n : ℕ} {p : List ℕ} (table : List ℕ) → a ≡ Ok n → p ≡ take n table → flat hex_byte p ++ (10 ∷ []) ≡ told_briefly a table
+brief_digits table h e = ap (λ (l : List ℕ). flat hex_byte l ++ (10 ∷ [])) e ∙ ap (λ (x : Answer). told_briefly x table) (sym h)

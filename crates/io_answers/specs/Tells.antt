@@ -2,7 +2,10 @@
 use Rattle.std.specs.Prelude.{ℕ, ◌+◌, ◌*◌, ◌/◌, ◌%◌, cond, List, [], ◌∷◌, ◌++◌, eqb, ltb, take}
 use Rattle.lang.specs.Parts.{flat}
 use Rattle.rules.specs.Numbers.{digits}
-use Rattle.answers.specs.declared.Answer.{Answer}
+use Rattle.rules.specs.Answers as rules
+use Rattle.faults.specs.declared.Refusal.{Refusal}
+use Rattle.faults.specs.Refusals.{number_of}
+use Rattle.answers.specs.Delivered.{Answer, answered}
 
 -- 0 to 9, then a to f
 unfoldable pub hex_digit : ℕ → ℕ
@@ -24,13 +27,23 @@ field n = digits n ++ (32 ∷ [])
 abbrev pub longest_answer : ℕ → ℕ
 longest_answer n = 64 + 2 * n
 
+-- an answer, and the table that it speaks of
+abbrev pub told_answer : rules.Answer → List ℕ
+told_answer a = field a.number ++ (field a.place ++ (field a.size ++ (shown (take a.size a.out) ++ (10 ∷ []))))
+
 abbrev pub told : Answer → List ℕ → List ℕ
-told a table = field a.number ++ (field a.place ++ (field a.len ++ (shown (take a.len table) ++ (10 ∷ []))))
+told a table = told_answer (answered a table)
 
 -- `!`, the number, a space and the place
-abbrev pub refusal_text : Answer → List ℕ
-refusal_text a = (33 ∷ []) ++ (field a.number ++ digits a.place)
+abbrev pub refused_text : ℕ → ℕ → List ℕ
+refused_text number place = (33 ∷ []) ++ (field number ++ digits place)
+
+abbrev pub refusal_text : Refusal → List ℕ
+refusal_text r = refused_text (number_of r.why) r.place
 
 -- the table in digits, or the refusal
+abbrev pub told_answer_briefly : rules.Answer → List ℕ
+told_answer_briefly a = cond (eqb a.number 0) (flat hex_byte (take a.size a.out)) (refused_text a.number a.place) ++ (10 ∷ [])
+
 abbrev pub told_briefly : Answer → List ℕ → List ℕ
-told_briefly a table = cond (eqb a.number 0) (flat hex_byte (take a.len table)) (refusal_text a) ++ (10 ∷ [])
+told_briefly a table = told_answer_briefly (answered a table)

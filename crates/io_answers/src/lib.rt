@@ -8,10 +8,11 @@ ghost use Rattle.put_bytes.specs.Puts.{Put};
 ghost use Rattle.io_answers.specs.Asked.{behind_size, room_in};
 ghost use Rattle.io_answers.specs.Tells.{hex_digit, hex_byte, field, shown, told, refusal_text, told_briefly};
 
-use answers::Answer;
+use answers::numbers;
+use faults::Refusal;
 use numbers::{put_number, read_number};
 use put_bytes::put8;
-use slices::{first_of, rest, within};
+use slices::{first_of, rest};
 
 // ---- what is asked
 
@@ -28,20 +29,18 @@ pub fn size_in(s: &[u8], all: usize) -> usize
     ensures { result ≡ room_in true s.now all }
 {
     let n = read_number(s);
-    within(n.value as usize, all)
+    all.min(n.value as usize)
 }
 
 // ---- what is answered
 
 // The digit of a byte's low half.
+#[tactic(auto, unfolding(crate::specs::Tells::hex_digit))]
 fn low_digit(b: u8) -> u8
     ensures { result ≡ hex_digit (b % 16) }
 {
     let d = b % 16;
-    if d < 10 {
-        return 48 + d;
-    }
-    87 + d
+    if d < 10 { b'0' + d } else { b'a' + (d - 10) }
 }
 
 // Two digits, the high one first.
@@ -57,19 +56,18 @@ pub fn put_hex(out: &mut [u8], at: usize, s: &[u8]) -> usize
     ensures { Put out.old at (flat hex_byte s.now) out.new result }
 {
     let mut to = at;
-    let mut taken: usize = 0;
-    while taken < s.len() {
-        to = put_byte(out, to, s[taken]);
-        taken += 1;
+    for b in s {
+        to = put_byte(out, to, *b);
     }
     to
 }
 
 // The bytes of a table in digits, or that there are none.
+#[tactic(auto, unfolding(crate::specs::Tells::shown))]
 fn put_shown(out: &mut [u8], at: usize, s: &[u8]) -> usize
     ensures { Put out.old at (shown s.now) out.new result }
 {
-    if s.len() < 1 {
+    if s.is_empty() {
         return put8(out, at, b'-');
     }
     put_hex(out, at, s)
@@ -84,33 +82,38 @@ pub fn put_field(out: &mut [u8], at: usize, n: u64) -> usize
 }
 
 // The answer to a line, and the table that it speaks of; it ends with a line feed.
-pub fn put_answer(out: &mut [u8], at: usize, a: Answer, table: &[u8]) -> usize
+pub fn put_answer(out: &mut [u8], at: usize, a: Result<usize, Refusal>, table: &[u8]) -> usize
     ensures { Put out.old at (told a table.now) out.new result }
 {
-    let p = put_field(out, at, a.number as u64);
-    let q = put_field(out, p, a.place as u64);
-    let r = put_field(out, q, a.len as u64);
-    let t = put_shown(out, r, first_of(table, a.len));
+    let (number, place, len) = numbers(a);
+    let p = put_field(out, at, number as u64);
+    let q = put_field(out, p, place as u64);
+    let r = put_field(out, q, len as u64);
+    let t = put_shown(out, r, first_of(table, len));
     put8(out, t, b'\n')
 }
 
 // `!`, the number of a refusal, a space and the place.
-pub fn put_refusal(out: &mut [u8], at: usize, a: Answer) -> usize
-    ensures { Put out.old at (refusal_text a) out.new result }
+pub fn put_refusal(out: &mut [u8], at: usize, r: Refusal) -> usize
+    ensures { Put out.old at (refusal_text r) out.new result }
 {
     let p = put8(out, at, b'!');
-    let q = put_field(out, p, a.number as u64);
-    put_number(out, q, a.place as u64)
+    let q = put_field(out, p, r.why.number() as u64);
+    put_number(out, q, r.place as u64)
 }
 
 // The table that an answer speaks of, or its refusal; it ends with a line feed.
-pub fn put_briefly(out: &mut [u8], at: usize, a: Answer, table: &[u8]) -> usize
+pub fn put_briefly(out: &mut [u8], at: usize, a: Result<usize, Refusal>, table: &[u8]) -> usize
     ensures { Put out.old at (told_briefly a table.now) out.new result }
 {
-    if a.number != 0 {
-        let p = put_refusal(out, at, a);
-        return put8(out, p, b'\n');
+    match a {
+        Ok(len) => {
+            let p = put_hex(out, at, first_of(table, len));
+            put8(out, p, b'\n')
+        }
+        Err(r) => {
+            let p = put_refusal(out, at, r);
+            put8(out, p, b'\n')
+        }
     }
-    let q = put_hex(out, at, first_of(table, a.len));
-    put8(out, q, b'\n')
 }

@@ -9,7 +9,7 @@ use lib.ListN.{length, length-append}
 use borrow.Author.Tests.{lt-ltb}
 use Rattle.io_lines.specs.declared.Stream.{Stream}
 use Rattle.put_bytes.specs.Puts.{max_place}
-use Rattle.io_lines.specs.Streams.{left, line_in}
+use Rattle.io_lines.specs.Streams.{is_found, left, line_in}
 use Rattle.io_lines.specs.Found.{StandsFor, all, cut, Line, Ending, line, end, stops, goes_on, Next}
 use Rattle.io_lines.proofs.Searches.{true_false}
 
@@ -40,15 +40,15 @@ module _ {h : ℕ} {whole kept : List ℕ} where
 
 -- where the input is over and nothing is left, as in a stream that was stopped, nothing is found, and what failed is kept
 module _ (d e : List ℕ) (s r : Stream) (over : s.ended ≡ true) (none : left d s ≡ []) where
-  nothing_by : (came : List ℕ) → came ≡ [] → Ending max_place d s came e r → (r.found ≡ false) × (r.failed ≡ s.failed)
+  nothing_by : (came : List ℕ) → came ≡ [] → Ending max_place d s came e r → (is_found r ≡ false) × (r.failed ≡ s.failed)
   nothing_by came c (line w p l f g o k) =
       absurd (omega (arith, ap length (sym p ∙ ap₂ ◌++◌ none c), length-append w (10 ∷ left e r)))
   nothing_by came c (end l n f g o k) =
       let w : left d s ++ came ≡ [] = ap₂ ◌++◌ none c in
       let z : line_in e r ≡ left d s ++ came = found_whole l (omega (arith, ap length w)) in
       (f ∙ ap (λ (x : List ℕ). ltb 0 (length x)) (z ∙ w), k)
-  nothing_by came c (stops o x f p) = absurd (true_false (sym over ∙ o))
+  nothing_by came c (stops o x p) = absurd (true_false (sym over ∙ o))
   nothing_by came c (goes_on l f o on k n) = absurd (true_false (sym over ∙ on))
 
-  pub nothing_more : Next d s e r → (r.found ≡ false) × (r.failed ≡ s.failed)
+  pub nothing_more : Next d s e r → (is_found r ≡ false) × (r.failed ≡ s.failed)
   nothing_more k = nothing_by k.came (k.unasked (k.over over)) k.ending

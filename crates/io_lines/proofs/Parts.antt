@@ -1,7 +1,9 @@
 -- What a look at the bytes that are left finds, and what is left then. Assumes nothing.
 use Prim.Native.Nat.{ℕ, ◌+◌, ◌-◌, ◌<◌}
+use borrow.Author.Tests.{ltb-false}
 use mathlib.Core.Path.{◌≡◌, refl, sym, ap, ◌∙◌, subst}
-use mathlib.Core.Bool.{Bool, true, false}
+use mathlib.Core.Bool.{Bool, true, false, cond}
+use Rattle.std.specs.Prelude.{Some, None}
 use mathlib.Core.List.{List, [], ◌∷◌, ◌++◌}
 use native.Mathlib.Omega.{arith}
 use native.Mathlib.Decide.{dec_le}
@@ -10,7 +12,7 @@ use lib.ListN.{length, take, drop, length-take, length-append}
 use lib.Seq.{take_at, drop_at, take-take, drop-drop, append_snoc}
 use Rattle.io_parts.specs.Feeds.{before_feed}
 use Rattle.io_lines.specs.declared.Stream.{Stream}
-use Rattle.io_lines.specs.Streams.{line_of, left, line_in, part_of, line_by, looked_at}
+use Rattle.io_lines.specs.Streams.{line_of, is_found, is_fed, span_of, left, line_in, part_of, line_by, looked_at}
 use Rattle.io_lines.specs.Found.{Unfed}
 use Rattle.io_lines.proofs.Unfed.{Fed, View, feed_in, no_feed, view, before_fed}
 use Rattle.io_lines.proofs.Looks.{take_least, drop_take, part_fed, part_all, look_fed, look_ended, look_on}
@@ -25,8 +27,8 @@ pub record Same (s r : Stream) : Type 0 where
 pub record FedPart (d : List ℕ) (s r : Stream) : Type 0 where
   pub cut : left d s ≡ line_in d r ++ (10 ∷ left d r)
   pub unfed : Unfed (line_in d r)
-  pub found : r.found ≡ true
-  pub fed : r.fed ≡ true
+  pub found : is_found r ≡ true
+  pub fed : is_fed r ≡ true
   pub same : Same s r
 
 -- r has all that is left, which has no line feed
@@ -34,8 +36,8 @@ pub record AllPart (d : List ℕ) (s r : Stream) : Type 0 where
   pub line : line_in d r ≡ left d s
   pub unfed : Unfed (left d s)
   pub none : left d r ≡ []
-  pub found : r.found ≡ ltb 0 (length (line_in d r))
-  pub fed : r.fed ≡ false
+  pub found : is_found r ≡ ltb 0 (length (line_in d r))
+  pub fed : is_fed r ≡ false
   pub same : Same s r
 
 pub data Parts (d : List ℕ) (s r : Stream) : Type 0 where
@@ -45,7 +47,7 @@ pub data Parts (d : List ℕ) (s r : Stream) : Type 0 where
 pub data Looked (d : List ℕ) (s r : Stream) : Type 0 where
   a_line : FedPart d s r → Looked d s r
   last_line : AllPart d s r → s.ended ≡ true → Looked d s r
-  no_line : left d r ≡ left d s → Unfed (left d s) → r.found ≡ false → s.ended ≡ false → Same s r → Looked d s r
+  no_line : left d r ≡ left d s → Unfed (left d s) → is_found r ≡ false → s.ended ≡ false → Same s r → Looked d s r
 
 -- a text whose first x bytes are cut after n: what stands before, and what behind
 module _ (l : List ℕ) (x : ℕ) (a b : List ℕ) (is : take x l ≡ a ++ (10 ∷ b)) where
@@ -66,8 +68,15 @@ module _ (l : List ℕ) (x : ℕ) (a b : List ℕ) (is : take x l ≡ a ++ (10 �
 all_front : (l : List ℕ) (x : ℕ) → take (length (take x l)) l ≡ take x l
 all_front l x = ap (λ (k : ℕ). take k l) (length-take x l) ∙ take_least x (length l) l (omega arith) (dec_le x (length l))
 
+none_long : (l : List ℕ) → length l ≡ 0 → l ≡ []
+none_long [] e = refl
+none_long (b ∷ l) e = absurd (omega (arith, e))
+
 module _ (d : List ℕ) (s : Stream) where
-  fed_part : (n : ℕ) (f : Fed (left d s)) → n ≡ length f.before → FedPart d s (line_of s true true n (s.next + n + 1))
+  none_behind : take (s.filled - s.filled) (drop s.filled d) ≡ []
+  none_behind = let z : s.filled - s.filled ≡ 0 = omega arith in ap (λ (k : ℕ). take k (drop s.filled d)) z
+
+  fed_part : (n : ℕ) (f : Fed (left d s)) → n ≡ length f.before → FedPart d s (line_of s (Some (span_of s n true)) (s.next + n + 1))
   fed_part n f q =
       let l = drop s.next d in
       let x = s.filled - s.next in
@@ -87,20 +96,30 @@ module _ (d : List ℕ) (s : Stream) where
         same = record { ended = refl; waiting = refl; failed = refl };
       }
 
-  all_part : (n : ℕ) → Unfed (left d s) → n ≡ length (left d s) → AllPart d s (line_of s (ltb 0 n) false n s.filled)
-  all_part n u q =
-      let l = drop s.next d in
-      let x = s.filled - s.next in
-      let a : take n l ≡ left d s = ap (λ (k : ℕ). take k l) q ∙ all_front l x in
-      let z : s.filled - s.filled ≡ 0 = omega arith in
+  all_by : (n : ℕ) → Unfed (left d s) → n ≡ length (left d s) → (b : Bool) → ltb 0 n ≡ b
+      → AllPart d s (line_of s (cond b (Some (span_of s n false)) None) s.filled)
+  all_by n u q true e =
+      let a : take n (drop s.next d) ≡ left d s = ap (λ (k : ℕ). take k (drop s.next d)) q ∙ all_front (drop s.next d) (s.filled - s.next) in
       record {
         line = a;
         unfed = u;
-        none = ap (λ (k : ℕ). take k (drop s.filled d)) z;
-        found = ap (ltb 0) (q ∙ ap length (sym a));
+        none = none_behind;
+        found = sym e ∙ ap (ltb 0) (q ∙ ap length (sym a));
         fed = refl;
         same = record { ended = refl; waiting = refl; failed = refl };
       }
+  all_by n u q false e =
+      record {
+        line = sym (none_long (left d s) (omega (arith, q, ltb-false 0 n e)));
+        unfed = u;
+        none = none_behind;
+        found = refl;
+        fed = refl;
+        same = record { ended = refl; waiting = refl; failed = refl };
+      }
+
+  all_part : (n : ℕ) → Unfed (left d s) → n ≡ length (left d s) → AllPart d s (line_of s (cond (ltb 0 n) (Some (span_of s n false)) None) s.filled)
+  all_part n u q = all_by n u q (ltb 0 n) refl
 
   parts_by : View (left d s) → Parts d s (part_of s (left d s))
   parts_by (feed_in f) =

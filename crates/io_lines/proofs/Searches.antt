@@ -1,5 +1,5 @@
 -- The search for a line, look by look, and for a part. Assumes nothing.
-use Prim.Native.Nat.{ℕ, suc, ◌+◌, ◌-◌, ◌/◌, ◌≤◌, ◌<◌}
+use Prim.Native.Nat.{ℕ, suc, ◌+◌, ◌/◌, ◌≤◌, ◌<◌}
 use mathlib.Core.Path.{◌≡◌, refl, sym, ap, ◌∙◌, subst}
 use mathlib.Core.Bool.{Bool, true, false, cond}
 use mathlib.Core.List.{List, [], ◌∷◌, ◌++◌, append_assoc, append-nil}
@@ -11,9 +11,9 @@ use lib.Seq.{take_all, take-append-le, take-take, length-take-le, take-nil}
 use borrow.Author.Tests.{ltb-true, ltb-false, le-ltb}
 use Rattle.io_parts.specs.Feeds.{before_feed}
 use Rattle.io_lines.specs.declared.Stream.{Stream}
-use Rattle.io_lines.specs.declared.Failed.{Failed}
+use Rattle.io_lines.specs.declared.Failure.{Failure}
 use Rattle.put_bytes.specs.Puts.{max_place}
-use Rattle.io_lines.specs.Streams.{stopped_by, settled, left, line_in, part_of, looked_at}
+use Rattle.io_lines.specs.Streams.{stopped_by, is_found, settled, left, line_in, part_of, looked_at}
 use Rattle.io_lines.specs.Refills.{half, Refilled, more}
 use Rattle.io_lines.specs.Refills as refills
 use Rattle.io_lines.specs.Found.{Unfed, StandsFor, all, cut, Line, Ending, line, end, stops, goes_on, Search, Next, feed_of, PartEnding, part, NextPart}
@@ -47,11 +47,11 @@ pub true_false : true ≡ false → ⊥
 true_false e = let z : ◌≡◌ {A = ℕ} 0 1 = cc in omega arith
 
 -- nothing is found in a stream that was stopped
-stopped_look : (f : List ℕ) (x : Failed) → looked_at (stopped_by x) (left f (stopped_by x)) ≡ stopped_by x
+stopped_look : (f : List ℕ) (x : Failure) → looked_at (stopped_by x) (left f (stopped_by x)) ≡ stopped_by x
 unfolding before_feed
 stopped_look f x = refl
 
-stopped_part : (f : List ℕ) (x : Failed) → part_of (stopped_by x) (left f (stopped_by x)) ≡ stopped_by x
+stopped_part : (f : List ℕ) (x : Failure) → part_of (stopped_by x) (left f (stopped_by x)) ≡ stopped_by x
 unfolding before_feed
 stopped_part f x = refl
 
@@ -179,9 +179,9 @@ module _ (d e f : List ℕ) (s t u r : Stream) (came : List ℕ) {m : ℕ} (l : 
   next_search (more new long is over failed waits) q =
       let k : Looked f u r = subst (Looked f u) (sym q) (looked f u) in
       asked_search {new = came ++ new} long ((same_look f u r k).waiting ∙ waits) (next_ending new is over failed k)
-  next_search (refills.stops long x faulty z) q =
+  next_search (refills.stops long x z) q =
       let g : r ≡ stopped_by x = q ∙ ap (λ (y : Stream). looked_at y (left f y)) z ∙ stopped_look f x in
-      asked_search {new = came} long (ap (λ (y : Stream). y.waiting) g) (stops on x faulty g)
+      asked_search {new = came} long (ap (λ (y : Stream). y.waiting) g) (stops on x g)
 
 -- a search that is over, and one that is not
 module _ (t : Stream) where
@@ -189,40 +189,40 @@ module _ (t : Stream) where
   either true b e = refl
   either false b e = e
 
-  is_found : t.found ≡ true → settled t ≡ true
-  is_found e = ap (λ (b : Bool). cond b true t.ended) e
+  found_settled : is_found t ≡ true → settled t ≡ true
+  found_settled e = ap (λ (b : Bool). cond b true t.ended) e
 
   is_ended : t.ended ≡ true → settled t ≡ true
-  is_ended e = either t.found t.ended e
+  is_ended e = either (is_found t) t.ended e
 
-  none_found : t.found ≡ false → settled t ≡ true → t.ended ≡ true
+  none_found : is_found t ≡ false → settled t ≡ true → t.ended ≡ true
   none_found e g = ap (λ (b : Bool). cond b true t.ended) (sym e) ∙ g
 
   neither : (a b : Bool) → cond a true b ≡ false → a ≡ false
   neither true b e = e
   neither false b e = refl
 
-  unfound : settled t ≡ false → t.found ≡ false
-  unfound e = neither t.found t.ended e
+  unfound : settled t ≡ false → is_found t ≡ false
+  unfound e = neither (is_found t) t.ended e
 
   neither_second : (a b : Bool) → cond a true b ≡ false → b ≡ false
   neither_second true b e = absurd (true_false e)
   neither_second false b e = e
 
   unended : settled t ≡ false → t.ended ≡ false
-  unended e = neither_second t.found t.ended e
+  unended e = neither_second (is_found t) t.ended e
 
-  is_stopped : {x : Failed} → t ≡ stopped_by x → settled t ≡ true
+  is_stopped : {x : Failure} → t ≡ stopped_by x → settled t ≡ true
   is_stopped e = is_ended (ap (λ (y : Stream). y.ended) e)
 
-  going_on : t.found ≡ false → t.ended ≡ false → settled t ≡ true → ⊥
+  going_on : is_found t ≡ false → t.ended ≡ false → settled t ≡ true → ⊥
   going_on e g q = true_false (sym (none_found e q) ∙ g)
 
 module _ {d : List ℕ} {s : Stream} {e : List ℕ} {t : Stream} {m : ℕ} where
   settled_by : {came : List ℕ} → settled t ≡ true → Ending m d s came e t → Ending max_place d s came e t
   settled_by q (line w p l f g o k) = line w p l f g o k
   settled_by q (end l n f g o k) = end l n f g o k
-  settled_by q (stops o x f p) = stops o x f p
+  settled_by q (stops o x p) = stops o x p
   settled_by q (goes_on l f o on k n) = absurd (going_on t f o q)
 
   pub settles : Search m d s e t → settled t ≡ true → Next d s e t
@@ -239,26 +239,22 @@ module _ {d : List ℕ} {s : Stream} {e : List ℕ} {t : Stream} {m : ℕ} where
       }
 
   next_by : {f : List ℕ} {u r : Stream} {came : List ℕ} → settled t ≡ false → length e ≡ length d → Ending m d s came e t → Refilled e t f u → r ≡ looked_at u (left f u) → Search (m + 1) d s f r
-  next_by q same (line w p l g h o k) x y = absurd (true_false (sym (is_found t g) ∙ q))
+  next_by q same (line w p l g h o k) x y = absurd (true_false (sym (found_settled t g) ∙ q))
   next_by q same (end l n g h o k) x y = absurd (true_false (sym (is_ended t o) ∙ q))
-  next_by q same (stops o z g p) x y = absurd (true_false (sym (is_stopped t p) ∙ q))
+  next_by q same (stops o z p) x y = absurd (true_false (sym (is_stopped t p) ∙ q))
   next_by {f} {u} {r} {came} q same (goes_on l g o on k n) x y = next_search d e f s t u r came l on k n same x y
 
   pub next : {f : List ℕ} {u r : Stream} → Search m d s e t → settled t ≡ false → Refilled e t f u → r ≡ looked_at u (left f u) → Search (m + 1) d s f r
   next k q x y = next_by q k.same k.ending x y
 
--- by the number of turns that are left
-module _ {d : List ℕ} {s : Stream} {e : List ℕ} {t : Stream} (n : ℕ) where
-  pub turned : n ≤ max_place → 0 < n → Search (max_place - n + 1) d s e t → Search (max_place - (n - 1)) d s e t
-  turned h g k = let z : max_place - n + 1 ≡ max_place - (n - 1) = omega arith in subst (λ (m : ℕ). Search m d s e t) z k
-
-  pub spent : n ≤ 0 → Search (max_place - n) d s e t → Next d s e t
-  spent h k = let z : max_place - n ≡ max_place = omega arith in subst (λ (m : ℕ). Search m d s e t) z k
+-- as many turns as a loop takes
+pub spent : {d : List ℕ} {s : Stream} {e : List ℕ} {t : Stream} {n : ℕ} → n ≡ max_place → Search n d s e t → Next d s e t
+spent {d} {s} {e} {t} h k = subst (λ (m : ℕ). Search m d s e t) h k
 
 -- a part
 module _ {d : List ℕ} {s : Stream} {came : List ℕ} {e : List ℕ} {u r : Stream} (is : left d s ++ came ≡ left e u) (failed : r.failed ≡ s.failed)
-    (on : r.found ≡ true → r.ended ≡ s.ended) (over : r.found ≡ false → r.ended ≡ true) where
-  all_ending : AllPart e u r → (b : Bool) → r.found ≡ b → PartEnding d s came e r
+    (on : is_found r ≡ true → r.ended ≡ s.ended) (over : is_found r ≡ false → r.ended ≡ true) where
+  all_ending : AllPart e u r → (b : Bool) → is_found r ≡ b → PartEnding d s came e r
   all_ending p true g =
       part
       (is
@@ -276,17 +272,17 @@ module _ {d : List ℕ} {s : Stream} {came : List ℕ} {e : List ℕ} {u r : Str
   part_ending : Parts e u r → PartEnding d s came e r
   part_ending (up_to_feed p) =
       part (is ∙ p.cut ∙ ap (λ (b : Bool). line_in e r ++ (feed_of b ++ left e r)) (sym p.fed)) p.unfed p.found (on p.found) failed
-  part_ending (up_to_end p) = all_ending p r.found refl
+  part_ending (up_to_end p) = all_ending p (is_found r) refl
 
 -- where nothing came the input is over
-nothing_came : {e : List ℕ} {u r : Stream} (new : List ℕ) → left e u ≡ new → u.ended ≡ ltb (length new) 1 → r.found ≡ false → Parts e u r → r.ended ≡ true
+nothing_came : {e : List ℕ} {u r : Stream} (new : List ℕ) → left e u ≡ new → u.ended ≡ ltb (length new) 1 → is_found r ≡ false → Parts e u r → r.ended ≡ true
 nothing_came new is over g (up_to_feed p) = absurd (true_false (sym p.found ∙ g))
 nothing_came {e} {u} {r} new is over g (up_to_end p) =
     let z : new ≡ [] = sym is ∙ sym p.line ∙ empty (line_in e r) (sym p.found ∙ g) in
     p.same.ended ∙ over ∙ ap (λ (l : List ℕ). ltb (length l) 1) z
 
 -- and where a part is found some did
-something_came : {e : List ℕ} {u r : Stream} (new : List ℕ) → left e u ≡ new → u.ended ≡ ltb (length new) 1 → r.found ≡ true → Parts e u r → r.ended ≡ false
+something_came : {e : List ℕ} {u r : Stream} (new : List ℕ) → left e u ≡ new → u.ended ≡ ltb (length new) 1 → is_found r ≡ true → Parts e u r → r.ended ≡ false
 something_came {e} {u} {r} new is over g (up_to_feed p) =
     p.same.ended ∙ over ∙ le-ltb (length new) 1 (omega (arith, ap length (sym is ∙ p.cut), length-append (line_in e r) (10 ∷ left e r)))
 something_came {e} {u} {r} new is over g (up_to_end p) =
@@ -329,7 +325,7 @@ module _ (d : List ℕ) {s t : Stream} (q : t ≡ part_of s (left d s)) where
 
   -- nothing was left
   nothing_left : settled t ≡ false → Parts d s t → (left d s ≡ []) × (left d t ≡ [])
-  nothing_left g (up_to_feed p) = absurd (true_false (sym (is_found t p.found) ∙ g))
+  nothing_left g (up_to_feed p) = absurd (true_false (sym (found_settled t p.found) ∙ g))
   nothing_left g (up_to_end p) = (sym p.line ∙ empty (line_in d t) (sym p.found ∙ unfound t g), p.none)
 
   pub part_next : (e : List ℕ) {u r : Stream} → settled t ≡ false → Refilled d t e u → r ≡ part_of u (left e u) → NextPart d s e r
@@ -342,6 +338,6 @@ module _ (d : List ℕ) {s t : Stream} (q : t ≡ part_of s (left d s)) where
       (part_ending {u = u} (ap (λ (l : List ℕ). l ++ new) n.0 ∙ sym f) (k.failed ∙ failed ∙ (same_part is_parts).failed) (λ h. something_came new f over h p ∙ sym (unended t g) ∙ (same_part is_parts).ended) (λ h. nothing_came new f over h p) p)
       long
       (k.waiting ∙ waits)
-  part_next e {u} {r} g (refills.stops long x faulty z) y =
+  part_next e {u} {r} g (refills.stops long x z) y =
       let h : r ≡ stopped_by x = y ∙ ap (λ (v : Stream). part_of v (left e v)) z ∙ stopped_part e x in
-      asked_part e {came = []} g (found.stops (sym (same_part is_parts).ended ∙ unended t g) x faulty h) long (ap (λ (v : Stream). v.waiting) h)
+      asked_part e {came = []} g (found.stops (sym (same_part is_parts).ended ∙ unended t g) x h) long (ap (λ (v : Stream). v.waiting) h)

@@ -2,10 +2,10 @@
 use Rattle.std.specs.Prelude.{ℕ, ◌≤◌, ◌<◌, ◌≡◌, Bool, true, false, cond, List, [], ◌∷◌, ◌++◌, ltb, length, take}
 use Rattle.io_parts.specs.Feeds.{before_feed}
 use Rattle.io_lines.specs.declared.Stream.{Stream}
-use Rattle.io_lines.specs.declared.Failed.{Failed}
+use Rattle.io_lines.specs.declared.Failure.{Failure}
 use Rattle.put_bytes.specs.Puts.{max_place}
-use Rattle.io_lines.specs.Streams.{stopped_by, left, line_in}
-use Rattle.io_lines.specs.Refills.{half, Faulty}
+use Rattle.io_lines.specs.Streams.{stopped_by, is_found, is_fed, left, line_in}
+use Rattle.io_lines.specs.Refills.{half}
 
 -- no byte of it is a line feed
 pub record Unfed (l : List ℕ) : Type 0 where
@@ -27,24 +27,24 @@ pub data Ending (most : ℕ) (d : List ℕ) (s : Stream) (came : List ℕ) (e : 
   line : (whole : List ℕ)
       → left d s ++ came ≡ whole ++ (10 ∷ left e r)
       → Line (half d) whole (line_in e r)
-      → r.found ≡ true
-      → r.fed ≡ true
+      → is_found r ≡ true
+      → is_fed r ≡ true
       → r.ended ≡ s.ended
       → r.failed ≡ s.failed
       → Ending most d s came e r
   -- the last line, which has no line feed, or nothing: the input is over
   end : Line (half d) (left d s ++ came) (line_in e r)
       → left e r ≡ []
-      → r.found ≡ ltb 0 (length (line_in e r))
-      → r.fed ≡ false
+      → is_found r ≡ ltb 0 (length (line_in e r))
+      → is_fed r ≡ false
       → r.ended ≡ true
       → r.failed ≡ s.failed
       → Ending most d s came e r
   -- of no matter, as the system refused to read or to write
-  stops : s.ended ≡ false → (f : Failed) → Faulty f → r ≡ stopped_by f → Ending most d s came e r
+  stops : s.ended ≡ false → (f : Failure) → r ≡ stopped_by f → Ending most d s came e r
   -- a line that goes on, of which `most` bytes or more came
   goes_on : Line (half d) (left d s ++ came) (left e r)
-      → r.found ≡ false
+      → is_found r ≡ false
       → r.ended ≡ false
       → s.ended ≡ false
       → r.failed ≡ s.failed
@@ -74,20 +74,20 @@ feed_of fed = cond fed (10 ∷ []) []
 -- how the search for a part ended: what was left and what came are
 pub data PartEnding (d : List ℕ) (s : Stream) (came : List ℕ) (e : List ℕ) (r : Stream) : Type 0 where
   -- the part that is found, its line feed if it has one, and what is left now
-  part : left d s ++ came ≡ line_in e r ++ (feed_of r.fed ++ left e r)
+  part : left d s ++ came ≡ line_in e r ++ (feed_of (is_fed r) ++ left e r)
       → Unfed (line_in e r)
-      → r.found ≡ true
+      → is_found r ≡ true
       → r.ended ≡ s.ended
       → r.failed ≡ s.failed
       → PartEnding d s came e r
   -- nothing: the input is over
   end : left d s ++ came ≡ []
       → left e r ≡ []
-      → r.found ≡ false
+      → is_found r ≡ false
       → r.ended ≡ true
       → r.failed ≡ s.failed
       → PartEnding d s came e r
-  stops : s.ended ≡ false → (f : Failed) → Faulty f → r ≡ stopped_by f → PartEnding d s came e r
+  stops : s.ended ≡ false → (f : Failure) → r ≡ stopped_by f → PartEnding d s came e r
 
 -- buffer d and stream s are e and r when a part was looked for
 pub record NextPart (d : List ℕ) (s : Stream) (e : List ℕ) (r : Stream) : Type 0 where

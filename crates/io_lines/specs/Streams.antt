@@ -1,39 +1,34 @@
 -- How far the lines of an input were taken, and where the next one stands in what was read. Assumes nothing.
-use Rattle.std.specs.Prelude.{ℕ, ◌+◌, ◌-◌, min, ◌≡◌, Bool, true, false, cond, List, ltb, leb, length, take, drop}
+use Rattle.std.specs.Prelude.{ℕ, ◌+◌, ◌-◌, min, ◌≡◌, Bool, true, false, cond, List, [], Option, None, Some, is_some, ltb, leb, length, take, drop}
 use Rattle.put_bytes.specs.Puts.{max_place}
 use Rattle.io_parts.specs.Feeds.{before_feed}
+use Rattle.io_lines.specs.declared.Span.{Span}
 use Rattle.io_lines.specs.declared.Stream.{Stream}
-use Rattle.io_lines.specs.declared.Failed.{Failed}
-use Rattle.io_lines.specs.declared.Failed.TheVariants.{Nothing, Writing}
+use Rattle.io_lines.specs.declared.Failure.{Failure}
+use Rattle.io_lines.specs.declared.Failure.TheVariants.{Writing}
 
 -- before the first line
 abbrev pub begun : Stream
 begun =
     record {
-      found = false;
-      fed = false;
-      from = 0;
-      len = 0;
+      found = None;
       next = 0;
       filled = 0;
       ended = false;
       waiting = 0;
-      failed = Nothing;
+      failed = None;
     }
 
 -- where the system refused something: at an end, with nothing left
-abbrev pub stopped_by : Failed → Stream
+abbrev pub stopped_by : Failure → Stream
 stopped_by f =
     record {
-      found = false;
-      fed = false;
-      from = 0;
-      len = 0;
+      found = None;
       next = 0;
       filled = 0;
       ended = true;
       waiting = 0;
-      failed = f;
+      failed = Some f;
     }
 
 -- with so many bytes of answers waiting
@@ -41,9 +36,6 @@ abbrev pub waiting_of : Stream → ℕ → Stream
 waiting_of s n =
     record {
       found = s.found;
-      fed = s.fed;
-      from = s.from;
-      len = s.len;
       next = s.next;
       filled = s.filled;
       ended = s.ended;
@@ -51,14 +43,11 @@ waiting_of s n =
       failed = s.failed;
     }
 
--- with a line of so many bytes found, or none, behind which the next begins
-abbrev pub line_of : Stream → Bool → Bool → ℕ → ℕ → Stream
-line_of s found fed len next =
+-- with a line found, or none, behind which the next begins
+abbrev pub line_of : Stream → Option Span → ℕ → Stream
+line_of s found next =
     record {
       found = found;
-      fed = fed;
-      from = s.next;
-      len = len;
       next = next;
       filled = s.filled;
       ended = s.ended;
@@ -66,9 +55,21 @@ line_of s found fed len next =
       failed = s.failed;
     }
 
+-- whether there is a line, or a part of one
+abbrev pub is_found : Stream → Bool
+is_found s = is_some s.found
+
+abbrev pub fed_of : Option Span → Bool
+fed_of None = false
+fed_of (Some w) = w.fed
+
+-- whether a line feed ended it
+abbrev pub is_fed : Stream → Bool
+is_fed s = fed_of s.found
+
 -- reading on would change nothing
 abbrev pub settled : Stream → Bool
-settled s = cond s.found true s.ended
+settled s = cond (is_found s) true s.ended
 
 abbrev pub sum_of : ℕ → ℕ → ℕ
 sum_of a b = min (a + b) max_place
@@ -77,19 +78,28 @@ sum_of a b = min (a + b) max_place
 abbrev pub left : List ℕ → Stream → List ℕ
 left buf s = take (s.filled - s.next) (drop s.next buf)
 
+-- the bytes that a line, or a part of one, has in a buffer
+abbrev pub bytes_in : List ℕ → Option Span → List ℕ
+bytes_in buf None = []
+bytes_in buf (Some w) = take w.len (drop w.from buf)
+
 -- the line that was found, or the part of one
 abbrev pub line_in : List ℕ → Stream → List ℕ
-line_in buf s = take s.len (drop s.from buf)
+line_in buf s = bytes_in buf s.found
+
+-- so many bytes of what is left, and whether a line feed ends them
+abbrev pub span_of : Stream → ℕ → Bool → Span
+span_of s len fed = record { from = s.next; len = len; fed = fed }
 
 -- what is left up to its first line feed, or all of it
 abbrev pub part_of : Stream → List ℕ → Stream
 part_of s all =
-    cond (ltb (before_feed all) (length all)) (line_of s true true (before_feed all) (s.next + before_feed all + 1))
-    (line_of s (ltb 0 (before_feed all)) false (before_feed all) s.filled)
+    cond (ltb (before_feed all) (length all)) (line_of s (Some (span_of s (before_feed all) true)) (s.next + before_feed all + 1))
+    (line_of s (cond (ltb 0 (before_feed all)) (Some (span_of s (before_feed all) false)) None) s.filled)
 
 -- a part is a line where a line feed ended it, or where it is the last of all; else there is none yet
 abbrev pub line_by : Stream → Stream → Stream
-line_by s part = cond part.fed part (cond s.ended part (line_of s false false 0 s.next))
+line_by s part = cond (is_fed part) part (cond s.ended part (line_of s None s.next))
 
 -- the line that ends in what is left
 abbrev pub looked_at : Stream → List ℕ → Stream

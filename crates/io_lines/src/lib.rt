@@ -1,24 +1,24 @@
 // Lines of standard input, one after the other, and answers collected for standard output: one system call for a buffer of either.
 // A line that goes on past the end of the buffer is moved to its front before more is read, so that every line stands in one piece.
 // Which bytes the system hands over no contract can say. What becomes of them is stated: which lines are found (`Next`), which parts
-// of lines (`NextPart`). Where input cannot be read or output cannot be written the stream stops, and keeps which of the two it was.
+// of lines (`NextPart`). Where input cannot be read or output cannot be written the stream stops, and keeps which of the two it was. The
+// system, the buffer and the output are lent to each call, and no struct holds them: `Next` speaks of the buffer and the stream as they come and go.
 #![tactic(auto)]
 
-ghost use Rattle.std.specs.Prelude.{◌≡◌, false, None, Some, IsSome, IfErr, length};
+ghost use Rattle.std.specs.Prelude.{◌≡◌, None, Some, IfErr, length};
 ghost use Rattle.std.specs.Io.{ReadsAtMost};
-ghost use Rattle.io_lines.specs.Streams.{begun, stopped_by, waiting_of, line_of, settled, sum_of, left, part_of, looked_at, Roomed};
-ghost use Rattle.io_lines.specs.Refills.{came_of, read_on, Brought, Behind, Refilled};
+ghost use Rattle.io_lines.specs.Streams.{begun, stopped_by, waiting_of, line_of, is_fed, settled, left, line_in, part_of, looked_at, Roomed};
+ghost use Rattle.io_lines.specs.Refills.{read_on, Behind, Refilled};
 ghost use Rattle.io_lines.specs.Found.{Next, NextPart};
 
 use io_parts::{behind, keep, line_end};
-use slices::{first_of, within};
+use slices::first_of;
 use std::io;
 use std::io::{Print, Read};
 
-// What the system refused, if anything.
+// What the system refused.
 #[derive(Clone, Copy)]
-pub enum Failed {
-    Nothing,
+pub enum Failure {
     Reading,
     Writing,
 }
@@ -62,194 +62,189 @@ impl System {
         got
     }
 
-    // All of the bytes go to standard output; whether the system took them.
-    pub fn write(&mut self, bytes: &[u8]) -> bool
-        ensures { result ≡ false → IsSome self.new.refused }
+    // All of the bytes go to standard output.
+    pub fn write(&mut self, bytes: &[u8]) -> io::Result<()>
+        ensures { IfErr result (λ e. self.new.refused ≡ Some e) }
     {
-        if let Err(e) = Print::write_all(&self.rt, bytes) {
+        let put = Print::write_all(&self.rt, bytes);
+        if let Err(e) = put {
             self.refused = Some(e);
-            return false;
         }
-        true
+        put
     }
+}
+
+// Where a line, or a part of one, stands in the buffer, how many bytes it has, and whether a line feed ended it.
+#[derive(Clone, Copy)]
+pub struct Span {
+    pub from: usize,
+    pub len: usize,
+    pub fed: bool,
 }
 
 // How far the lines were taken.
 #[derive(Clone, Copy)]
 pub struct Stream {
-    // Whether there is a line, or a part of one; whether a line feed ended it; where it stands in the buffer; how many bytes it has.
-    pub found: bool,
-    pub fed: bool,
-    pub from: usize,
-    pub len: usize,
     // What was read and not taken yet, from one place of the buffer up to another.
     pub next: usize,
     pub filled: usize,
-    // Whether nothing more comes.
-    pub ended: bool,
     // How many bytes of answers wait.
     pub waiting: usize,
-    pub failed: Failed,
+    // The line, or the part of one, that was found last.
+    pub found: Option<Span>,
+    // Whether nothing more comes.
+    pub ended: bool,
+    pub failed: Option<Failure>,
 }
 
 impl Stream {
     // Before the first line.
+    #[inline(always)]
     pub fn begin() -> Stream
         ensures { result ≡ begun }
     {
         Stream {
-            found: false,
-            fed: false,
-            from: 0,
-            len: 0,
+            found: None,
             next: 0,
             filled: 0,
             ended: false,
             waiting: 0,
-            failed: Failed::Nothing,
+            failed: None,
         }
     }
 
     // Where the system refused something: nothing is found any more.
-    fn stopped(failed: Failed) -> Stream
-        ensures { result ≡ stopped_by failed }
+    fn stopped(failure: Failure) -> Stream
+        ensures { result ≡ stopped_by failure }
     {
         Stream {
-            found: false,
-            fed: false,
-            from: 0,
-            len: 0,
-            next: 0,
-            filled: 0,
             ended: true,
-            waiting: 0,
-            failed,
+            failed: Some(failure),
+            ..Stream::begin()
         }
     }
 
     // With so many bytes of answers waiting.
+    #[inline(always)]
     pub fn answered(self, waiting: usize) -> Stream
         ensures { result ≡ waiting_of self waiting }
     {
-        let failed = self.failed;
-        Stream {
-            found: self.found,
-            fed: self.fed,
-            from: self.from,
-            len: self.len,
-            next: self.next,
-            filled: self.filled,
-            ended: self.ended,
-            waiting,
-            failed,
+        Stream { waiting, ..self }
+    }
+
+    // The bytes of the line that was found, or of the part of one; none where there is none.
+    #[inline(always)]
+    pub fn line(self, buf: &[u8]) -> &[u8]
+        ensures { result.now ≡ line_in buf.now self }
+    {
+        match self.found {
+            Some(span) => slices::part(buf, span.from, span.len),
+            None => &[],
         }
     }
 
-    // With a line found, or none, behind which the next begins.
-    fn at_line(self, found: bool, fed: bool, len: usize, next: usize) -> Stream
-        ensures { result ≡ line_of self found fed len next }
+    // Whether a line feed ended it.
+    pub fn is_fed(self) -> bool
+        ensures { result ≡ is_fed self }
     {
-        let failed = self.failed;
+        self.found.is_some_and(|span| span.fed)
+    }
+
+    // Whether reading on would change nothing.
+    fn is_settled(self) -> bool
+        ensures { result ≡ settled self }
+    {
+        self.found.is_some() || self.ended
+    }
+
+    // With a line found, or none, behind which the next begins.
+    #[inline(always)]
+    fn at_line(self, found: Option<Span>, next: usize) -> Stream
+        ensures { result ≡ line_of self found next }
+    {
         Stream {
             found,
-            fed,
-            from: self.next,
-            len,
             next,
-            filled: self.filled,
-            ended: self.ended,
-            waiting: self.waiting,
-            failed,
+            ..self
         }
     }
 
     // After a read behind the bytes that were held.
-    fn after(self, held: usize, came: Came) -> Stream
+    fn after(self, held: usize, came: io::Result<usize>) -> Stream
         ensures { result ≡ read_on self held came }
     {
-        let failed = self.failed;
         match came {
-            Came::Bytes(n) => Stream {
-                found: false,
-                fed: false,
-                from: 0,
-                len: 0,
-                next: 0,
-                filled: sum_of(held, n),
+            Ok(n) => Stream {
+                filled: held.saturating_add(n),
                 ended: n < 1,
-                waiting: 0,
-                failed,
+                failed: self.failed,
+                ..Stream::begin()
             },
-            Came::Fault => Stream::stopped(Failed::Reading),
+            Err(_) => Stream::stopped(Failure::Reading),
         }
     }
 }
 
 // The next line, or none where the input is over. Answers that wait are written before more is read, so that whoever types lines is
-// answered at once. A proved loop has to end, so it counts down from a number that no run uses up.
+// answered at once. A proved loop has to end, so it counts up to a number that no run reaches.
+#[inline(always)]
 pub fn next_line(system: &mut System, buf: &mut [u8], out: &[u8], s: Stream) -> Stream
     ensures { Next buf.old s buf.new result }
 {
     let mut t = look(buf, s);
-    let mut turns = u64::MAX;
-    while turns > 0 {
-        if is_settled(t) {
+    for _turn in 0..u64::MAX {
+        if t.is_settled() {
             return t;
         }
         let more = refill(system, buf, out, t);
         t = look(buf, more);
-        turns -= 1;
     }
     t
 }
 
 // The next part of a line, up to its line feed or to the end of what was read, for whoever takes lines of any length; none where the
 // input is over.
+#[inline(always)]
 pub fn next_part(system: &mut System, buf: &mut [u8], out: &[u8], s: Stream) -> Stream
     ensures { NextPart buf.old s buf.new result }
 {
     let t = part(buf, s);
-    if is_settled(t) {
+    if t.is_settled() {
         return t;
     }
     let more = refill(system, buf, out, t);
     part(buf, more)
 }
 
-// Whether reading on would change nothing.
-fn is_settled(s: Stream) -> bool
-    ensures { result ≡ settled s }
-{
-    if s.found {
-        return true;
-    }
-    s.ended
-}
-
 // The line that ends in what was read. The last one of all may lack its line feed.
+#[inline(always)]
 fn look(buf: &[u8], s: Stream) -> Stream
     ensures { result ≡ looked_at s (left buf.now s) }
 {
     let p = part(buf, s);
-    if p.fed {
+    if p.is_fed() || s.ended {
         return p;
     }
-    if s.ended {
-        return p;
-    }
-    s.at_line(false, false, 0, s.next)
+    s.at_line(None, s.next)
 }
 
 // What was read up to the next line feed, or all of it where there is none.
+#[inline(always)]
 fn part(buf: &[u8], s: Stream) -> Stream
     ensures { result ≡ part_of s (left buf.now s) }
 {
     let all = slices::part(buf, s.next, behind(s.filled, s.next, buf.len()));
-    let n = line_end(all);
-    if n < all.len() {
-        return s.at_line(true, true, n, s.next + n + 1);
+    let len = line_end(all);
+    let fed = len < all.len();
+    let line = Span {
+        from: s.next,
+        len,
+        fed,
+    };
+    if fed {
+        return s.at_line(Some(line), s.next + len + 1);
     }
-    s.at_line(0 < n, false, n, s.filled)
+    s.at_line((0 < len).then_some(line), s.filled)
 }
 
 // More is read behind what stands in the buffer of the line that goes on. No more than half of the buffer is kept, so that there is
@@ -257,75 +252,41 @@ fn part(buf: &[u8], s: Stream) -> Stream
 fn refill(system: &mut System, buf: &mut [u8], out: &[u8], s: Stream) -> Stream
     ensures { Refilled buf.old s buf.new result }
 {
-    if !flush(system, out, s.waiting) {
-        return Stream::stopped(Failed::Writing);
+    if flush(system, out, s.waiting).is_err() {
+        return Stream::stopped(Failure::Writing);
     }
     let held = keep(buf, s.next, behind(s.filled, s.next, buf.len() / 2));
     let came = read_behind(system, buf, held);
     s.after(held, came)
 }
 
-// What came of a read: so many bytes, none at the end of the input, or that the system refused it.
-#[derive(Clone, Copy)]
-enum Came {
-    Bytes(usize),
-    Fault,
-}
-
-fn read_behind(system: &mut System, buf: &mut [u8], held: usize) -> Came
+// How many bytes came behind those that are held, none at the end of the input; or that the system refused to read.
+fn read_behind(system: &mut System, buf: &mut [u8], held: usize) -> io::Result<usize>
     ensures { Behind buf.old held buf.new result }
 {
     if held < buf.len() {
-        return read_some(system, &mut buf[held..]);
+        return system.read(&mut buf[held..]);
     }
-    Came::Bytes(0)
-}
-
-fn read_some(system: &mut System, part: &mut [u8]) -> Came
-    ensures { Brought part.old part.new result }
-{
-    let got = system.read(part);
-    came_of(got, part)
-}
-
-// What a read says.
-fn came_of(got: io::Result<usize>, part: &[u8]) -> Came
-    ensures { result ≡ came_of got (length part.now) }
-{
-    let Ok(n) = got else {
-        return Came::Fault;
-    };
-    Came::Bytes(within(n, part.len()))
-}
-
-// A sum of places, or the largest where it would not fit.
-fn sum_of(a: usize, b: usize) -> usize
-    ensures { result ≡ sum_of a b }
-{
-    if usize::MAX - a < b {
-        return usize::MAX;
-    }
-    a + b
+    Ok(0)
 }
 
 // The stream, whose next answer, of no more than `need` bytes, goes where the answers that wait end. They are written first where it might not fit.
+#[inline(always)]
 pub fn room(system: &mut System, out: &[u8], s: Stream, need: usize) -> Stream
     ensures { Roomed (length out.now) need s result }
 {
-    if s.waiting < out.len() {
-        if out.len() - s.waiting >= need {
-            return s;
-        }
+    if s.waiting < out.len() && need <= out.len() - s.waiting {
+        return s;
     }
-    if flush(system, out, s.waiting) {
-        return s.answered(0);
+    match flush(system, out, s.waiting) {
+        Ok(()) => s.answered(0),
+        Err(_) => Stream::stopped(Failure::Writing),
     }
-    Stream::stopped(Failed::Writing)
 }
 
-// What waits is written; whether the system took it.
-pub fn flush(system: &mut System, out: &[u8], waiting: usize) -> bool
-    ensures { result ≡ false → IsSome system.new.refused }
+// What waits is written.
+pub fn flush(system: &mut System, out: &[u8], waiting: usize) -> io::Result<()>
+    ensures { IfErr result (λ e. system.new.refused ≡ Some e) }
 {
     system.write(first_of(out, waiting))
 }

@@ -8,38 +8,27 @@ ghost use Rattle.io_parts.specs.Feeds.{LineEnd, Kept};
 pub fn line_end(bytes: &[u8]) -> usize
     ensures { LineEnd bytes.now result }
 {
-    let mut at: usize = 0;
-    while at < bytes.len() {
-        if bytes[at] == b'\n' {
-            return at;
-        }
-        at += 1;
-    }
-    at
+    bytes
+        .iter()
+        .position(|&b| b == b'\n')
+        .unwrap_or(bytes.len())
 }
 
 // How many of `all` bytes stand behind the first `from`, and `most` where they are more.
 pub fn behind(all: usize, from: usize, most: usize) -> usize
     ensures { result ≡ min (all - from) most }
 {
-    if all < from {
-        return 0;
-    }
-    if all - from < most {
-        return all - from;
-    }
-    most
+    all.saturating_sub(from).min(most)
 }
 
 // The n bytes from a place on, as far as there are so many, moved to the front; how many they are.
+// A loop over places: the library has no `copy_within`.
 pub fn keep(buf: &mut [u8], from: usize, n: usize) -> usize
     ensures { Kept buf.old from n buf.new result }
 {
     let kept = behind(buf.len(), from, n);
-    let mut done: usize = 0;
-    while done < kept {
+    for done in 0..kept {
         buf[done] = buf[from + done];
-        done += 1;
     }
     kept
 }

@@ -38,9 +38,10 @@ pub fn edition_named(number: usize) -> Edition
     ensures { result ≡ named_edition number }
 {
     if number == 2 {
-        return Edition::Second;
+        Edition::Second
+    } else {
+        Edition::First
     }
-    Edition::First
 }
 
 // How many bytes an annotation has in an edition.
@@ -179,6 +180,7 @@ pub const UNIT_SECTION: usize = 4;
 pub const TEXT_SECTION: usize = 5;
 
 // ---- that these are the definitions' numbers
+// By contracts, since a `prove!` in a constant reads code alone, and no definition.
 
 fn sizes() -> [usize; 9]
     ensures { result ≡ header_size ∷ common_width ∷ annotation_width ed2 ∷ residues_at ∷ loss_width ∷ isotope_width ∷ item_width ∷ unit_width ∷ row_head_size ∷ [] }

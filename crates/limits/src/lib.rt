@@ -58,6 +58,7 @@ pub const MAX_TABLE: usize = 21372;
 pub const MAX_ROW: usize = 4160;
 
 // ---- that these are the definitions' numbers
+// By contracts, since a `prove!` in a constant reads code alone, and no definition.
 
 fn how_many() -> [usize; 7]
     ensures { result ≡ max_line ∷ max_annotations ∷ max_losses ∷ max_isotopes ∷ max_items ∷ max_units ∷ max_text ∷ [] }

@@ -6,13 +6,12 @@ use Rattle.rules.specs.Editions.{LineEdition}
 use Rattle.rules.specs.Answers.{Reads, Writes, Converts}
 use Rattle.rules.proofs.WritesOne as rules
 use Rattle.shape.proofs.Unambiguous as shape
-use Rattle.answers.specs.declared.Answer.{Answer}
-use Rattle.answers.specs.Delivered.{answered}
+use Rattle.answers.specs.Delivered.{Answer, answered}
 use Rattle.answers.proofs.One.{answered_one}
 use Rattle.lines.specs.Relabels.{Relabels}
 use Rattle.lines.proofs.Back as back
 
-module _ {room : ℕ} {r q : Answer} {e f : List ℕ} where
+module _ {room : ℕ} {e f : List ℕ} (r q : Answer) where
   pub reads_one : {l : LineEdition} (line : List ℕ) → Reads l line room (answered r e) → Reads l line room (answered q f) → (e ≡ f) × (r ≡ q)
   reads_one line a b = answered_one (shape.reads_one a b)
 

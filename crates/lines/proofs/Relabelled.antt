@@ -8,13 +8,13 @@ use Rattle.rules.specs.Limits.{max_line}
 use Rattle.rules.specs.Answers as rules
 use Rattle.scan_line.specs.declared.Verdict.{Verdict}
 use Rattle.scan_line.specs.declared.Verdict.TheVariants.{Fine, Short, Stray}
-use Rattle.answers.specs.declared.Answer.{Answer}
-use Rattle.answers.specs.Delivered.{answered, refused_of}
+use Rattle.faults.specs.declared.Why.TheVariants.{LineTooLong, StrayByte, Unfinished}
+use Rattle.answers.specs.Delivered.{Answer, answered, refused_of}
 use Rattle.respell_line.specs.Relabelled.{relabelled_over}
 use Rattle.lines.specs.Relabels.{relabelled_of}
 
 module _ (line : List ℕ) (room : ℕ) where
-  pub long_of : (v : Verdict) {out : List ℕ} {r : Answer} → max_line < length line → out ≡ replicate room 0 → r ≡ refused_of 1 max_line
+  pub long_of : (v : Verdict) {out : List ℕ} {r : Answer} → max_line < length line → out ≡ replicate room 0 → r ≡ refused_of LineTooLong max_line
       → answered r out ≡ relabelled_of v line room
   unfolding relabelled_of
   long_of v h z e = rw (lt-ltb max_line (length line) h, e, z)
@@ -24,12 +24,12 @@ module _ (line : List ℕ) (room : ℕ) where
     unfolding relabelled_of
     fine_of q e = rw (le-ltb max_line (length line) short, q) e
 
-    pub short_of : {out : List ℕ} {r : Answer} → v ≡ Short → out ≡ replicate room 0 → r ≡ refused_of 3 (length line)
+    pub short_of : {out : List ℕ} {r : Answer} → v ≡ Short → out ≡ replicate room 0 → r ≡ refused_of Unfinished (length line)
         → answered r out ≡ relabelled_of v line room
     unfolding relabelled_of
     short_of q z e = rw (le-ltb max_line (length line) short, q, e, z)
 
-    pub stray_of : {place : ℕ} {out : List ℕ} {r : Answer} → v ≡ Stray place → out ≡ replicate room 0 → r ≡ refused_of 2 place
+    pub stray_of : {place : ℕ} {out : List ℕ} {r : Answer} → v ≡ Stray place → out ≡ replicate room 0 → r ≡ refused_of StrayByte place
         → answered r out ≡ relabelled_of v line room
     unfolding relabelled_of
     stray_of q z e = rw (le-ltb max_line (length line) short, q, e, z)

@@ -27,6 +27,11 @@ use Rattle.scan_line.proofs.Scans.{by_machine}
 use Rattle.store_sections.specs.Headers.{end_at}
 use Rattle.measure_line.specs.declared.Totals.{Totals}
 use Rattle.measure_line.specs.Totals.{parts_at, totals_of}
+use Rattle.std.specs.Prelude.{Option, Some, None}
+use Rattle.std.specs.Option.{option_map_or}
+use Rattle.faults.specs.declared.Refusal.{Refusal}
+use Rattle.faults.specs.Refusals.{number_of}
+use Rattle.faults.proofs.Refusals.{number_some}
 use Rattle.measure_line.specs.Refusals.{first_of}
 use Rattle.read_line.specs.Readings.{table_over, spelled_over, any_over, read_of}
 use Rattle.read_line.proofs.Right.{read_right}
@@ -90,7 +95,7 @@ module _ (line : List ℕ) (room : ℕ) where
 
   over_is : ((spelled_over current zeros line).number ≡ 8 → ⊥) → relabelled_over line room ≡ answer_by line room (spelled_over current zeros line)
   unfolding relabelled_over spelled_over
-  over_is h = by (eqb (first_of t).number 0) refl (ltb (length zeros) (end_at current t.counts)) refl h
+  over_is h = by (first_of t) (ltb (length zeros) (end_at current t.counts)) h
     where
       w : Answer
       w = line_over (spelling_of line t (parts_at line 0)) room
@@ -98,14 +103,14 @@ module _ (line : List ℕ) (room : ℕ) where
       stored_by : Bool → Answer
       stored_by c = cond c (record { number = 8; place = end_at current t.counts; size = 0; out = zeros }) (record { number = 0; place = 0; size = end_at current t.counts; out = table_over current zeros line t.counts })
 
-      read_by : Bool → Bool → Answer
-      read_by b c = cond b (stored_by c) (record { number = (first_of t).number; place = (first_of t).place; size = 0; out = zeros })
+      read_by : Option Refusal → Bool → Answer
+      read_by f c = option_map_or (λ r. record { number = number_of r.why; place = r.place; size = 0; out = zeros }) f (stored_by c)
 
-      by : (b : Bool) → eqb (first_of t).number 0 ≡ b → (c : Bool) → ltb (length zeros) (end_at current t.counts) ≡ c → ((read_by b c).number ≡ 8 → ⊥)
-          → cond b w (refuses room (first_of t).number (first_of t).place) ≡ answer_by line room (read_by b c)
-      by true e true f n = absurd (n refl)
-      by true e false f n = refl
-      by false e c f n = rw e
+      by : (f : Option Refusal) (c : Bool) → ((read_by f c).number ≡ 8 → ⊥)
+          → option_map_or (λ r. refuses room (number_of r.why) r.place) f w ≡ answer_by line room (read_by f c)
+      by None true n = absurd (n refl)
+      by None false n = refl
+      by (Some r) c n = rw (number_some r.why)
 
   any_is : (v : Verdict) → ((read_of v line max_table).number ≡ 8 → ⊥) → relabelled_of v line room ≡ answer_by line room (read_of v line max_table)
   unfolding relabelled_of read_of

@@ -7,6 +7,7 @@ use native.Mathlib.Omega.{arith}
 use borrow.Author.Tests.{ne_eqb}
 use lib.Dec.{leb}
 use lib.ListN.{length, drop}
+use Rattle.std.specs.Prelude.{Option, None}
 use Rattle.rules.specs.Bytes.{bytes}
 use Rattle.rules.specs.Texts.{starts_with}
 use Rattle.rules.specs.Editions.{Edition}
@@ -14,8 +15,7 @@ use Rattle.rules.specs.House.{one}
 use Rattle.counts.specs.Sums.{no_counts, plus}
 use Rattle.counts.proofs.Sums.{none_plus}
 use Rattle.numbers.specs.Shares.{largest}
-use Rattle.faults.specs.declared.Fault.{Fault}
-use Rattle.faults.specs.Faults.{fault}
+use Rattle.faults.specs.declared.Refusal.{Refusal}
 use Rattle.read_annotation.specs.declared.Parts.{Parts}
 use Rattle.read_annotation.specs.declared.Measured.{Measured}
 use Rattle.read_annotation.specs.Measured.{own_counts, parts_of, measured_of}
@@ -31,9 +31,9 @@ measured_fits edition s p e =
     let q = ap (λ (m : Measured). m.counts) e in ap (plus no_counts) q ∙ none_plus (own_counts p.front.ion) p.middle.counts ∙ sym q
 
 -- the first annotation, of which m was measured: a sum with nothing is what was measured
-pub first_added_lem : (edition : Edition) (line : List ℕ) (p : Parts) {m : Measured} {form breach excess : Fault} {at : ℕ} → m ≡ measured_of edition line p
+pub first_added_lem : (edition : Edition) (line : List ℕ) (p : Parts) {m : Measured} {form breach excess : Option Refusal} {at : ℕ} → m ≡ measured_of edition line p
     → m.share ≤ largest
-    → form ≡ noted (fault 0 0) 11 0 m.formed → breach ≡ noted (fault 0 0) 6 0 m.kept → excess ≡ noted (fault 0 0) 7 0 (leb m.share one) → at ≡ min (0 + m.len) (length line)
+    → form ≡ noted None 11 0 m.formed → breach ≡ noted None 6 0 m.kept → excess ≡ noted None 7 0 (leb m.share one) → at ≡ min (0 + m.len) (length line)
     → record { counts = m.counts; free = m.free; sum = m.share; limit = m.fault; form = form; breach = breach; excess = excess; at = at } ≡ added_by edition line nothing 0 p
 first_added_lem edition line p {m} pm hs pf pb pe pa =
     let z : length line - length line ≡ 0 = omega arith in

@@ -6,6 +6,7 @@ use native.Mathlib.Omega.{arith}
 use borrow.Author.Tests.{ne_eqb}
 use lib.ListN.{length, drop, length-append, length-drop}
 use lib.Seq.{drop-append_seam, drop-drop}
+use Rattle.std.specs.Prelude.{None}
 use Rattle.lang.specs.Parts.{flat}
 use Rattle.lang.specs.Mark.{Kept}
 use Rattle.lang.specs.Order.{Each, none, next}
@@ -14,7 +15,6 @@ use Rattle.rules.specs.Lines.{Spelling, next_text, line_text}
 use Rattle.rules.specs.Limits.{annotation_marks, next_marks, row_marks, line_marks}
 use Rattle.rules.proofs.Keeps.{kept_left, kept_right}
 use Rattle.put_bytes.specs.Puts.{max_place}
-use Rattle.faults.specs.Faults.{fault}
 use Rattle.read_annotation.specs.declared.Parts.{Parts}
 use Rattle.read_annotation.specs.Measured.{parts_of, annotation_size}
 use Rattle.read_annotation.proofs.SpelledAnnotation.{EndsAnnotation, annotation_size_lem}
@@ -30,7 +30,7 @@ abbrev pub Gives : {X : Type 0} → (List ℕ → Parts → List X) → (Spelled
 Gives give One =
     (a : SpelledAnnotation) (k : List ℕ) (end i at : ℕ) → EndsAnnotation k → Kept (annotation_marks i a at)
     → length (annotation_text a ++ k) ≤ end → end ≤ max_place
-    → One a (give (annotation_text a ++ k) (parts_of 0 end (annotation_text a ++ k) (fault 0 0)))
+    → One a (give (annotation_text a ++ k) (parts_of 0 end (annotation_text a ++ k) None))
 
 -- what the annotations of a spelling give, one after the other: the first gives by One, the others by OneNext
 pub data EachGives {X : Type 0} (One OneNext : SpelledAnnotation → List X → Type 0) : Spelling → List X → Type 0 where
@@ -47,14 +47,14 @@ module _ (line : List ℕ) (small : length line ≤ max_place) where
 
     one_behind : behind_by line from (parts_at line from) ≡ from + length (annotation_text a)
     one_behind =
-        let n = ap (λ (s : List ℕ). annotation_size s (parts_of 0 (length line) s (fault 0 0))) e ∙ annotation_size_lem a k 0 (length line) (fault 0 0) ends fits in
+        let n = ap (λ (s : List ℕ). annotation_size s (parts_of 0 (length line) s None)) e ∙ annotation_size_lem a k 0 (length line) None ends fits in
         omega (arith, n, ap length e, length-drop from line, length-append (annotation_text a) k)
 
     one_gives : {X : Type 0} (give : List ℕ → Parts → List X) (One : SpelledAnnotation → List X → Type 0) → Gives give One
         → (i at : ℕ) → Kept (annotation_marks i a at)
         → One a (give (drop from line) (parts_at line from))
     one_gives give One gives i at kept =
-        subst (λ (s : List ℕ). One a (give s (parts_of 0 (length line) s (fault 0 0)))) (sym e) (gives a k (length line) i at ends kept fits small)
+        subst (λ (s : List ℕ). One a (give s (parts_of 0 (length line) s None))) (sym e) (gives a k (length line) i at ends kept fits small)
 
   module _ {X : Type 0} (give : List ℕ → Parts → List X) (OneNext : SpelledAnnotation → List X → Type 0) (gives : Gives give OneNext) where
     -- xs, and then what the annotations s give

@@ -7,4 +7,4 @@ pub mod Folds
 pub mod Through
 pub mod EachGives
 pub mod RespelledLine
-pub mod Numbered
+pub mod FirstLimit

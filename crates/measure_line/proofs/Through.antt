@@ -8,6 +8,7 @@ use lib.Dec.{leb}
 use borrow.Author.Tests.{ne_eqb}
 use lib.ListN.{length, drop, length-append, length-drop}
 use lib.Seq.{drop-append_seam, drop-drop}
+use Rattle.std.specs.Prelude.{Option}
 use Rattle.lang.specs.Parts.{flat}
 use Rattle.lang.specs.Mark.{Mark, Kept}
 use Rattle.rules.specs.Annotations.{SpelledAnnotation, annotation_text}
@@ -23,7 +24,7 @@ use Rattle.counts.specs.declared.Counts.{Counts}
 use Rattle.counts.specs.Sums.{no_counts, plus}
 use Rattle.counts.proofs.Sums.{plus_assoc, plus_none, plus_capped}
 use Rattle.counts.proofs.Annotations.{annotation_counts}
-use Rattle.faults.specs.declared.Fault.{Fault}
+use Rattle.faults.specs.declared.Refusal.{Refusal}
 use Rattle.faults.specs.Faults.{after}
 use Rattle.faults.proofs.Marks.{after_append}
 use Rattle.read_annotation.specs.declared.Measured.{Measured}
@@ -165,15 +166,15 @@ module _ (edition : Edition) (line : List ℕ) (small : length line ≤ max_plac
         let o = one_finds a t from m g h in
         let f = subst (λ (ns : List Mark). Finds edition ns more (next.at + 1) next u) others_are r.finds in
         record {
-          limit = f.limit ∙ ap (λ (e : Fault). after e others) o.limit ∙ sym (after_append t.limit marks others);
+          limit = f.limit ∙ ap (λ (e : Option Refusal). after e others) o.limit ∙ sym (after_append t.limit marks others);
           form = λ k.
-              f.form (kept_right marks others k) ∙ ap₂ (λ (e : Fault) (n : ℕ). fold_form edition e n more) (o.form (kept_left marks others k)) begins_are;
+              f.form (kept_right marks others k) ∙ ap₂ (λ (e : Option Refusal) (n : ℕ). fold_form edition e n more) (o.form (kept_left marks others k)) begins_are;
           breach = λ k.
-              f.breach (kept_right marks others k) ∙ ap₂ (λ (e : Fault) (n : ℕ). fold_breach edition e n more) (o.breach (kept_left marks others k)) begins_are;
+              f.breach (kept_right marks others k) ∙ ap₂ (λ (e : Option Refusal) (n : ℕ). fold_breach edition e n more) (o.breach (kept_left marks others k)) begins_are;
           excess = λ k.
               let l = kept_left marks others k in
               f.excess (kept_right marks others k)
-              ∙ ap₂ (λ (e : Fault) (n : ℕ). fold_excess e n (next.at + 1) more) (o.excess l) (one_sum a t from m g h l)
+              ∙ ap₂ (λ (e : Option Refusal) (n : ℕ). fold_excess e n (next.at + 1) more) (o.excess l) (one_sum a t from m g h l)
               ∙ ap (λ (n : ℕ). fold_excess (noted t.excess 7 from (leb (summed t.sum (share_in a)) one)) (summed t.sum (share_in a)) n more) begins_are;
         }
 

@@ -1,13 +1,13 @@
 -- What is counted of the annotations of a line, one after the other. Assumes nothing.
-use Rattle.std.specs.Prelude.{ℕ, ◌+◌, ◌-◌, min, Bool, false, cond, not, ◌||◌, List, eqb, leb, length, drop}
+use Rattle.std.specs.Prelude.{ℕ, ◌+◌, ◌-◌, min, Bool, false, cond, not, ◌||◌, List, eqb, leb, length, drop, Option, None}
 use Rattle.rules.specs.Bytes.{bytes}
 use Rattle.rules.specs.Texts.{starts_with}
 use Rattle.rules.specs.Editions.{Edition}
 use Rattle.rules.specs.House.{one}
 use Rattle.numbers.specs.Shares.{largest}
 use Rattle.counts.specs.Sums.{no_counts, plus}
-use Rattle.faults.specs.declared.Fault.{Fault}
-use Rattle.faults.specs.Faults.{fault, join}
+use Rattle.faults.specs.declared.Refusal.{Refusal}
+use Rattle.faults.specs.Faults.{join}
 use Rattle.read_annotation.specs.declared.Parts.{Parts}
 use Rattle.read_annotation.specs.declared.Measured.{Measured}
 use Rattle.read_annotation.specs.Measured.{parts_of, measured_of}
@@ -20,15 +20,15 @@ nothing =
       counts = no_counts;
       free = false;
       sum = 0;
-      limit = fault 0 0;
-      form = fault 0 0;
-      breach = fault 0 0;
-      excess = fault 0 0;
+      limit = None;
+      form = None;
+      breach = None;
+      excess = None;
       at = 0;
     }
 
 -- a test that is not kept counts where none was before it
-abbrev pub noted : Fault → ℕ → ℕ → Bool → Fault
+abbrev pub noted : Option Refusal → ℕ → ℕ → Bool → Option Refusal
 noted f number place kept = join f (record { place = place; number = number; broken = not kept })
 
 -- a sum that a u64 holds
@@ -73,7 +73,7 @@ totals_from e line n t = loop (λ t. goes_on line t.at) (add_next e line) n t
 
 -- the annotation that begins at `from`, read as the first of its line
 abbrev pub parts_at : List ℕ → ℕ → Parts
-parts_at line from = parts_of 0 (length line) (drop from line) (fault 0 0)
+parts_at line from = parts_of 0 (length line) (drop from line) None
 
 -- of the first annotation, p was read; the empty line has no annotations
 unfoldable pub totals_by : Edition → List ℕ → Parts → Totals

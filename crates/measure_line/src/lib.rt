@@ -4,11 +4,12 @@
 
 ghost use Rattle.std.specs.Prelude.{◌≡◌, ◌||◌};
 ghost use Rattle.layout.specs.Editions.{edition_of};
+ghost use Rattle.faults.specs.Refusals.{number_of};
 ghost use Rattle.measure_line.specs.Totals.{nothing, noted, summed, parts_at, added_by, add_next, totals_by};
 ghost use Rattle.measure_line.specs.Refusals.{first_of};
 
 use counts::{Counts, plus};
-use faults::Fault;
+use faults::{Refusal, Why};
 use layout::Edition;
 use limits::ONE;
 use read_annotation::{Parts, measure, read_parts};
@@ -22,43 +23,33 @@ pub struct Totals {
     pub counts: Counts,
     pub free: bool,
     pub sum: u64,
-    pub limit: Fault,
-    pub form: Fault,
-    pub breach: Fault,
-    pub excess: Fault,
+    pub limit: Option<Refusal>,
+    pub form: Option<Refusal>,
+    pub breach: Option<Refusal>,
+    pub excess: Option<Refusal>,
     pub at: usize,
 }
 
 fn before_all() -> Totals
     ensures { result ≡ nothing }
 {
-    let none = Fault {
-        number: 0,
-        place: 0,
-    };
     Totals {
         counts: counts::none(),
         free: false,
         sum: 0,
-        limit: none,
-        form: none,
-        breach: none,
-        excess: none,
+        limit: None,
+        form: None,
+        breach: None,
+        excess: None,
         at: 0,
     }
 }
 
 // A test that is not kept counts where none was before it.
-fn note(f: Fault, number: usize, place: usize, kept: bool) -> Fault
-    ensures { result ≡ noted f number place kept }
+fn note(f: Option<Refusal>, why: Why, place: usize, kept: bool) -> Option<Refusal>
+    ensures { result ≡ noted f (number_of why) place kept }
 {
-    if f.number != 0 {
-        return f;
-    }
-    if kept {
-        return f;
-    }
-    Fault { number, place }
+    faults::note(f, why, place, !kept)
 }
 
 // A sum of billionths, or the largest number where it would not fit.
@@ -85,11 +76,7 @@ fn either(a: bool, b: bool) -> bool
 pub fn read_at(line: &[u8], from: usize) -> Parts
     ensures { result ≡ parts_at line.now from }
 {
-    let none = Fault {
-        number: 0,
-        place: 0,
-    };
-    read_parts(0, rest(line, from), line.len(), none)
+    read_parts(0, rest(line, from), line.len(), None)
 }
 
 // One annotation more, which begins at a place and was read.
@@ -111,9 +98,9 @@ fn add(edition: Edition, t: Totals, line: &[u8], from: usize, p: Parts) -> Total
         free: either(t.free, m.free),
         sum,
         limit: fault,
-        form: note(form, 11, place, m.formed),
-        breach: note(breach, 6, place, m.kept),
-        excess: note(excess, 7, place, sum <= ONE),
+        form: note(form, Why::SequenceForm, place, m.formed),
+        breach: note(breach, Why::RuleBroken, place, m.kept),
+        excess: note(excess, Why::ConfidencesExceedOne, place, sum <= ONE),
         at: advance(from, m.len, line.len()),
     }
 }
@@ -133,10 +120,6 @@ fn add_next(edition: Edition, t: Totals, line: &[u8]) -> Totals
 fn add_first(edition: Edition, line: &[u8], p: Parts) -> Totals
     ensures { result ≡ added_by (edition_of edition) line.now nothing 0 p }
 {
-    let none = Fault {
-        number: 0,
-        place: 0,
-    };
     let m = measure(edition, line, p);
     let own = m.counts;
     let fault = m.fault;
@@ -145,9 +128,9 @@ fn add_first(edition: Edition, line: &[u8], p: Parts) -> Totals
         free: m.free,
         sum: m.share,
         limit: fault,
-        form: note(none, 11, 0, m.formed),
-        breach: note(none, 6, 0, m.kept),
-        excess: note(none, 7, 0, m.share <= ONE),
+        form: note(None, Why::SequenceForm, 0, m.formed),
+        breach: note(None, Why::RuleBroken, 0, m.kept),
+        excess: note(None, Why::ConfidencesExceedOne, 0, m.share <= ONE),
         at: advance(0, m.len, line.len()),
     }
 }
@@ -169,20 +152,9 @@ pub fn total(edition: Edition, line: &[u8], first: Parts) -> Totals
 }
 
 // The first refusal by 4 to 7 or 11 of what was counted.
-pub fn first_refusal(t: Totals) -> Fault
+#[tactic(auto, unfolding(crate::specs::Refusals::first_of))]
+pub fn first_refusal(t: Totals) -> Option<Refusal>
     ensures { result ≡ first_of t }
 {
-    let broken = t.limit;
-    if broken.number != 0 {
-        return broken;
-    }
-    let foreign = t.form;
-    if foreign.number != 0 {
-        return foreign;
-    }
-    let rule = t.breach;
-    if rule.number != 0 {
-        return rule;
-    }
-    t.excess
+    t.limit.or(t.form).or(t.breach).or(t.excess)
 }

@@ -16,7 +16,7 @@ use Rattle.rules.specs.Decimals.{whole}
 use Rattle.rules.specs.Limits.{fits, max_places, max_digits}
 use Rattle.rules.proofs.Digits.{digits_small, digits_big}
 use Rattle.numbers.specs.declared.Decimal.{Decimal}
-use Rattle.numbers.specs.declared.MadeDecimal.TheVariants.{Fits, Past}
+use Rattle.std.specs.Prelude.{Option, Some, None}
 use Rattle.numbers.specs.Making.{zero_decimal, ruled, made_of, made_decimal}
 
 -- ---- how many_digits digits a number has
@@ -64,20 +64,6 @@ unfolding whole
 whole_ge zero v m h = omega arith
 whole_ge (suc p) v m h = let i = whole_ge p v (m * 10) (omega (arith, shift m p)) in omega arith
 
-pub whole_none : (p v : ℕ) → whole p v ≤ 0 → v < 10 ^ p
-whole_none p v h = go (dec_lt v (10 ^ p))
-  where
-    go : Dec (v < 10 ^ p) → v < 10 ^ p
-    go (yes l) = l
-    go (no l) = absurd (omega (arith, whole_ge p v 1 (omega arith)))
-
-pub whole_some : (p v : ℕ) → 0 < whole p v → 10 ^ p ≤ v
-whole_some p v h = go (dec_lt v (10 ^ p))
-  where
-    go : Dec (v < 10 ^ p) → 10 ^ p ≤ v
-    go (yes l) = absurd (omega (arith, whole_lt p v 1 (omega arith)))
-    go (no l) = omega arith
-
 -- ---- the bounds of a decimal
 
 module _ (v p : ℕ) (h : p ≤ max_places) where
@@ -104,20 +90,20 @@ fits_is v p = go (leb p max_places) refl
     go true e = rw e (few_digits v p (leb-true p max_places e))
     go false e = rw e
 
-pub made_is : (v p : ℕ) → made_of v p ≡ cond (leb p max_places && ltb v (10 ^ max_digits)) (Fits (record { value = v; places = p })) Past
+pub made_is : (v p : ℕ) → made_of v p ≡ cond (leb p max_places && ltb v (10 ^ max_digits)) (Some (record { value = v; places = p })) None
 unfolding made_of
-made_is v p = ap (λ (t : Bool). cond t (Fits (record { value = v; places = p })) Past) (fits_is v p)
+made_is v p = ap (λ (t : Bool). cond t (Some (record { value = v; places = p })) None) (fits_is v p)
 
-pub made_fits : (v p : ℕ) → p ≤ max_places → v < 10 ^ max_digits → made_of v p ≡ Fits (record { value = v; places = p })
+pub made_fits : (v p : ℕ) → p ≤ max_places → v < 10 ^ max_digits → made_of v p ≡ Some (record { value = v; places = p })
 made_fits v p h g = made_is v p ∙ rw (le-leb p max_places h, lt-ltb v (10 ^ max_digits) g)
 
-pub made_long : (v p : ℕ) → max_places < p → made_of v p ≡ Past
+pub made_long : (v p : ℕ) → max_places < p → made_of v p ≡ None
 made_long v p h = made_is v p ∙ rw (lt-leb p max_places h)
 
-pub made_large : (v p : ℕ) → 10 ^ max_digits ≤ v → made_of v p ≡ Past
+pub made_large : (v p : ℕ) → 10 ^ max_digits ≤ v → made_of v p ≡ None
 made_large v p h = made_is v p ∙ rw (le-ltb v (10 ^ max_digits) h) (go (leb p max_places))
   where
-    go : (t : Bool) → cond (t && false) (Fits (record { value = v; places = p })) Past ≡ Past
+    go : (t : Bool) → cond {A = Option Decimal} (t && false) (Some (record { value = v; places = p })) None ≡ None
     go true = refl
     go false = refl
 
@@ -131,27 +117,27 @@ fits_within v p e = go (leb p max_places) refl (ltb v (10 ^ max_digits)) refl (s
     go true a false b q = let z : ◌≡◌ {A = ℕ} 0 1 = cc in omega arith
     go false a t b q = let z : ◌≡◌ {A = ℕ} 0 1 = cc in omega arith
 
-pub made_back : (v p : ℕ) (d : Decimal) → made_of v p ≡ Fits d → (fits (record { value = v; places = p }) ≡ true) × (d ≡ record { value = v; places = p })
+pub made_back : (v p : ℕ) (d : Decimal) → made_of v p ≡ Some d → (fits (record { value = v; places = p }) ≡ true) × (d ≡ record { value = v; places = p })
 unfolding made_of
 made_back v p d e = go (fits (record { value = v; places = p })) refl e
   where
-    go : (t : Bool) → fits (record { value = v; places = p }) ≡ t → cond t (Fits (record { value = v; places = p })) Past ≡ Fits d
+    go : (t : Bool) → fits (record { value = v; places = p }) ≡ t → cond t (Some (record { value = v; places = p })) None ≡ Some d
         → (fits (record { value = v; places = p }) ≡ true) × (d ≡ record { value = v; places = p })
     go true q f = (q, cc)
     go false q f = (cc, cc)
 
-pub past_back : (v p : ℕ) → made_of v p ≡ Past → fits (record { value = v; places = p }) ≡ false
+pub past_back : (v p : ℕ) → made_of v p ≡ None → fits (record { value = v; places = p }) ≡ false
 unfolding made_of
 past_back v p e = go (fits (record { value = v; places = p })) refl e
   where
-    go : (t : Bool) → fits (record { value = v; places = p }) ≡ t → cond t (Fits (record { value = v; places = p })) Past ≡ Past
+    go : (t : Bool) → fits (record { value = v; places = p }) ≡ t → cond {A = Option Decimal} t (Some (record { value = v; places = p })) None ≡ None
         → fits (record { value = v; places = p }) ≡ false
     go true q f = cc
     go false q f = q
 
 -- ---- no decimal but within the bounds: what the constructor makes, 0, and so what is told of each answer
 
-pub made_within : (v p : ℕ) (d : Decimal) → made_of v p ≡ Fits d → T (fits (ruled d))
+pub made_within : (v p : ℕ) (d : Decimal) → made_of v p ≡ Some d → T (fits (ruled d))
 made_within v p d e = let b = made_back v p d e in is_t (ap (λ (x : Decimal). fits (ruled x)) b.1 ∙ b.0)
 
 pub zero_within : T (fits (ruled zero_decimal))
@@ -161,6 +147,6 @@ pub told_within : (v p : ℕ) → T (fits (ruled (made_decimal (made_of v p))))
 unfolding made_of
 told_within v p = go (fits (record { value = v; places = p })) refl
   where
-    go : (t : Bool) → fits (record { value = v; places = p }) ≡ t → T (fits (ruled (made_decimal (cond t (Fits (record { value = v; places = p })) Past))))
+    go : (t : Bool) → fits (record { value = v; places = p }) ≡ t → T (fits (ruled (made_decimal (cond t (Some (record { value = v; places = p })) None))))
     go true e = is_t e
     go false e = zero_within

@@ -2,6 +2,5 @@ pub mod Walks
 pub mod Leads
 pub mod Bounds
 pub mod Points
-pub mod Shares
 pub mod Written
 pub mod SpelledNumbers

@@ -12,19 +12,13 @@ use Rattle.lang.specs.Re.{in_c}
 use Rattle.lang.specs.Digits.{value_from}
 use Rattle.lang.proofs.Lits.{one_eq}
 use Rattle.lang.proofs.Tests.{is_t}
-use Rattle.lang.specs.Parts.{first_in}
-use Rattle.rules.specs.Bytes.{digit}
 use Rattle.rules.specs.Limits.{max_places, max_digits}
 use Rattle.numbers.specs.declared.Digits.{Digits}
 use Rattle.numbers.specs.declared.Decimal.{Decimal}
-use Rattle.numbers.specs.declared.DecimalRead.{DecimalRead}
-use Rattle.numbers.specs.declared.FirstByte.{FirstByte}
-use Rattle.numbers.specs.declared.FirstByte.TheVariants.{Digit}
-use Rattle.numbers.specs.declared.MadeDecimal.{MadeDecimal}
-use Rattle.numbers.specs.declared.MadeDecimal.TheVariants.{Fits}
+use Rattle.std.specs.Prelude.{Option}
 use Rattle.numbers.specs.Leading.{leading, leading_of}
-use Rattle.numbers.specs.Making.{zero_decimal, made_of}
-use Rattle.numbers.specs.Points.{point, fraction, fraction_of, pointed, decimal_from, may_begin, decimal_of}
+use Rattle.numbers.specs.Making.{made_of}
+use Rattle.numbers.specs.Points.{point, fraction, fraction_of, pointed, decimal_from}
 use Rattle.numbers.proofs.Walks.{capped}
 use Rattle.numbers.proofs.Leads.{leading_within}
 use Rattle.numbers.proofs.Bounds.{made_long, made_large}
@@ -137,20 +131,20 @@ module _ {s : List ℕ} {whole all : Digits} (w : Walked s whole all) where
       let e : whole.value ≡ min (value_from 0 (leading s)) (10 ^ max_digits) = ap (λ (d : Digits). d.value) w.front in
       ap (λ (d : Digits). d.value) all_is ∙ capped (10 ^ max_digits) whole.value (value_from 0 (leading s)) tail (omega arith)
 
-  found : {made : MadeDecimal} {p n : ℕ} → p ≡ min all.len (max_places + 1) → made ≡ made_of all.value p → n ≡ length (leading s) + pointed tail
+  found : {made : Option Decimal} {p n : ℕ} → p ≡ min all.len (max_places + 1) → made ≡ made_of all.value p → n ≡ length (leading s) + pointed tail
       → record { made = made; len = n } ≡ decimal_from s
   unfolding decimal_from tail
   found {made} {p} {n} e m l =
-      ap₂ (λ (x : MadeDecimal) (y : ℕ). record { made = x; len = y })
+      ap₂ (λ (x : Option Decimal) (y : ℕ). record { made = x; len = y })
       (m ∙ ap₂ made_of value (e ∙ ap (λ (x : ℕ). min x (max_places + 1)) places)
       ∙ made_capped (value_from (value_from 0 (leading s)) tail) (length tail))
       l
 
-  pub found_whole : {made : MadeDecimal} {p : ℕ} → p ≡ min all.len (max_places + 1) → made ≡ made_of all.value p → all.len ≡ 0
+  pub found_whole : {made : Option Decimal} {p : ℕ} → p ≡ min all.len (max_places + 1) → made ≡ made_of all.value p → all.len ≡ 0
       → record { made = made; len = whole.len } ≡ decimal_from s
   found_whole e m z = found e m (omega (arith, at, pointed_none tail (sym places ∙ z)))
 
-  pub found_point : {made : MadeDecimal} {p : ℕ} → p ≡ min all.len (max_places + 1) → made ≡ made_of all.value p → (all.len ≡ 0 → ⊥)
+  pub found_point : {made : Option Decimal} {p : ℕ} → p ≡ min all.len (max_places + 1) → made ≡ made_of all.value p → (all.len ≡ 0 → ⊥)
       → record { made = made; len = whole.len + 1 + all.len } ≡ decimal_from s
   found_point e m z = found e m (omega (arith, at, places, pointed_some tail (λ q. z (places ∙ q))))
 
@@ -160,17 +154,3 @@ module _ {s : List ℕ} {whole all : Digits} (w : Walked s whole all) where
   room z =
       let n = length (leading s) in
       omega (arith, at, places, pointed_some tail (λ q. z (places ∙ q)), fraction_within (drop n s), length-drop n s, leading_within s)
-
--- ---- what a decimal may begin with
-
-pub begins_by : {first : FirstByte} {b : Bool} (s : List ℕ) → first ≡ Digit → b ≡ first_in digit s → b ≡ may_begin first s
-begins_by s h e = e ∙ ap (λ (f : FirstByte). may_begin f s) (sym h)
-
-module _ (first : FirstByte) {b : Bool} (s : List ℕ) (told : b ≡ may_begin first s) where
-  pub none_read : {z : Decimal} → b ≡ false → z ≡ zero_decimal → record { made = Fits z; len = 0 } ≡ decimal_of first s
-  unfolding decimal_of
-  none_read {z} h e = rw (sym told ∙ h, e)
-
-  pub some_read : {r : DecimalRead} → b ≡ true → r ≡ decimal_from s → r ≡ decimal_of first s
-  unfolding decimal_of
-  some_read h e = rw (sym told ∙ h) e

@@ -1,14 +1,12 @@
 -- The walk over the digits that a list begins with. Assumes nothing.
 use Prim.Native.Nat.{ℕ, ◌+◌, ◌-◌, ◌*◌, ◌≤◌, ◌<◌, min}
-use mathlib.Core.Path.{◌≡◌, refl, sym, ap, ap₂, ◌∙◌}
-use mathlib.Core.Bool.{Bool, true, false, ◌||◌}
+use mathlib.Core.Path.{◌≡◌, sym, ap, ap₂, ◌∙◌}
+use mathlib.Core.Bool.{true, false}
 use mathlib.Core.List.{List, [], ◌∷◌}
 use native.Mathlib.Omega.{arith}
 use native.Mathlib.Numerals.{add-one}
-use lib.Dec.{leb}
 use lib.ListN.{length, get_or, drop, drop_of_length-le}
 use lib.Seq.{drop-cons}
-use borrow.Author.Tests.{lt-leb, le-leb}
 use Rattle.lang.specs.Re.{in_c}
 use Rattle.lang.specs.Digits.{value_from}
 use Rattle.lang.proofs.Lits.{in→}
@@ -18,16 +16,6 @@ use Rattle.numbers.specs.declared.Digits.{Digits}
 use Rattle.numbers.specs.Leading.{leading, leading_of}
 
 -- ---- a digit
-
-pub below : (b : ℕ) → b < 48 → in_c digit b ≡ false
-below b h = simp (lt-leb 48 b h)
-
-pub above : (b : ℕ) → 48 ≤ b → in_c digit b ≡ leb b 57
-above b h = simp (le-leb 48 b h) (last (leb b 57))
-  where
-    last : (t : Bool) → t || false ≡ t
-    last true = refl
-    last false = refl
 
 pub range : (b : ℕ) → in_c digit b ≡ true → (48 ≤ b) × (b ≤ 57)
 range b e = in→ 48 57 b (is_t e)
@@ -76,7 +64,7 @@ module _ {s : List ℕ} {before most : ℕ} where
       let l = p.least in
       sym (p.is ∙ rw (drop-cons s len 0 h, e) (ap₂ (λ (v n : ℕ). record { value = v; len = n }) (omega arith) (omega arith)))
 
-  pub ends : {value len : ℕ} → Passed s before most value len → length s ≤ len → record { value = value; len = len } ≡ leading_of before most s
+  pub ends : {value len : ℕ} → Passed s before most value len → length s ≤ len → record { value = value; len = length s } ≡ leading_of before most s
   unfolding leading value_from
   ends {value} {len} p h =
       let l = p.least in

@@ -13,10 +13,8 @@ use Rattle.put_bytes.proofs.Putting.{put_none, put_then, put_as}
 
 -- ---- numbers
 
-pub put_digit : {d e : List ℕ} {at r : ℕ} (n : ℕ) → n < 10 → Put d at ((48 + n % 10) ∷ []) e r → Put d at (digits n) e r
-put_digit n h p =
-    let q : n % 10 ≡ n = omega arith in
-    put_as p (rw q (sym (digits_small n h)))
+pub put_digit : {d e : List ℕ} {at r : ℕ} (n : ℕ) → n < 10 → Put d at ((48 + n) ∷ []) e r → Put d at (digits n) e r
+put_digit n h p = put_as p (sym (digits_small n h))
 
 pub put_more : {d e f : List ℕ} {at p r : ℕ} (n : ℕ) → 10 ≤ n → Put d at (digits (n / 10)) e p → Put e p ((48 + n % 10) ∷ []) f r → Put d at (digits n) f r
 put_more n h a b = put_as (put_then a b) (sym (digits_big n h))
@@ -66,6 +64,3 @@ module _ {d e : List ℕ} {at p : ℕ} (v n : ℕ) where
 pub whole_turn : {rest : ℕ} (v i : ℕ) → rest ≡ whole i v → rest / 10 ≡ whole (i + 1) v
 unfolding whole
 whole_turn v i e = rw (add-one i) (ap (λ (x : ℕ). x / 10) e)
-
-pub whole_end : {rest : ℕ} (v i n : ℕ) → i ≤ n → n ≤ i → rest ≡ whole i v → rest ≡ whole n v
-whole_end v i n h g e = let q : i ≡ n = omega arith in e ∙ ap (λ (x : ℕ). whole x v) q

@@ -1,5 +1,5 @@
 -- What the digits in front of a list, and those behind a point, say. Assumes nothing.
-use Rattle.std.specs.Prelude.{ℕ, suc, ◌+◌, ◌^◌, min, Bool, true, cond, List, [], ◌∷◌, length, drop}
+use Rattle.std.specs.Prelude.{ℕ, suc, ◌+◌, ◌^◌, min, Bool, true, cond, List, [], ◌∷◌, length, drop, Some}
 use Rattle.lang.specs.Re.{Rng, in_c}
 use Rattle.lang.specs.Digits.{value_from}
 use Rattle.lang.specs.Parts.{first_in}
@@ -7,7 +7,6 @@ use Rattle.rules.specs.Bytes.{◌to◌, digit}
 use Rattle.rules.specs.Limits.{max_digits}
 use Rattle.numbers.specs.declared.Digits.{Digits}
 use Rattle.numbers.specs.declared.DecimalRead.{DecimalRead}
-use Rattle.numbers.specs.declared.MadeDecimal.TheVariants.{Fits}
 use Rattle.numbers.specs.declared.FirstByte.{FirstByte}
 use Rattle.numbers.specs.declared.FirstByte.TheVariants.{Digit, DigitOrPoint}
 use Rattle.numbers.specs.Leading.{leading}
@@ -46,7 +45,7 @@ may_begin DigitOrPoint s = true
 
 -- nothing: 0, in no bytes
 abbrev pub nothing_read : DecimalRead
-nothing_read = record { made = Fits zero_decimal; len = 0 }
+nothing_read = record { made = Some zero_decimal; len = 0 }
 
 -- the decimal that bytes begin with, as its user takes it
 unfoldable pub decimal_of : FirstByte → List ℕ → DecimalRead

@@ -9,7 +9,7 @@ ghost use Rattle.rules.specs.Limits.{max_places};
 ghost use Rattle.rules.specs.Decimals.{whole, last_digits, decimal_text};
 ghost use Rattle.put_bytes.specs.Puts.{Put};
 ghost use Rattle.numbers.specs.Leading.{leading_of, number_of};
-ghost use Rattle.numbers.specs.Making.{zero_decimal, ruled, made_of, made_number, made_decimal};
+ghost use Rattle.numbers.specs.Making.{zero_decimal, ruled, made_of};
 ghost use Rattle.numbers.specs.Points.{fraction_of, decimal_from, may_begin, decimal_of};
 ghost use Rattle.numbers.specs.Shares.{largest, billionths_of};
 
@@ -26,8 +26,8 @@ pub struct Number {
     pub len: usize,
 }
 
-// The same with a value as large as the reader asks for.
-#[derive(Drop)]
+// The same with a value as large as the reader asks for. Not one generic type: its parameter would stand for these two alone, and this one stays in the crate.
+#[derive(Clone, Copy)]
 struct Digits {
     value: u64,
     len: usize,
@@ -36,10 +36,7 @@ struct Digits {
 fn is_digit(b: u8) -> bool
     ensures { result ≡ in_c digit b }
 {
-    if b < b'0' {
-        return false;
-    }
-    b <= b'9'
+    b.is_ascii_digit()
 }
 
 // The value with one digit more, no more than `most`.
@@ -47,8 +44,7 @@ fn with_digit(value: u64, b: u8, most: u64) -> u64
     requires { (value ≤ 1000000000000) × (48 ≤ b) × (b ≤ 57) }
     ensures { result ≡ min (value * 10 + (b - 48)) most }
 {
-    let v = value * 10 + (b as u64 - 48);
-    if v < most { v } else { most }
+    (value * 10 + (b - b'0') as u64).min(most)
 }
 
 // The digits that s begins with, as if they stood behind those of `before`; a value past `most` is told as `most`.
@@ -57,16 +53,16 @@ fn digits_from(s: &[u8], before: u64, most: u64) -> Digits
     ensures { result ≡ leading_of before most s.now }
 {
     let mut value = before;
-    let mut len: usize = 0;
-    while len < s.len() {
-        let b = s[len];
+    for (len, &b) in s.iter().enumerate() {
         if !is_digit(b) {
             return Digits { value, len };
         }
         value = with_digit(value, b, most);
-        len += 1;
     }
-    Digits { value, len }
+    Digits {
+        value,
+        len: s.len(),
+    }
 }
 
 // The number that s begins with, as far as its digits go.
@@ -85,10 +81,8 @@ fn whole_of(v: u64, n: u8) -> u64
     ensures { result ≡ whole n v }
 {
     let mut rest = v;
-    let mut i: u8 = 0;
-    while i < n {
-        rest = rest / 10;
-        i += 1;
+    for _ in 0..n {
+        rest /= 10;
     }
     rest
 }
@@ -100,13 +94,6 @@ pub struct Decimal {
     places: u8,
 }
 
-// A decimal within its bounds, or that it is past them.
-#[derive(Clone, Copy)]
-pub enum MadeDecimal {
-    Fits(Decimal),
-    Past,
-}
-
 impl Decimal {
     // How many digits may stand behind the point.
     pub const MAX_PLACES: u8 = limits::MAX_PLACES;
@@ -114,17 +101,15 @@ impl Decimal {
     // How many digits there may be in all.
     pub const MAX_DIGITS: u8 = limits::MAX_DIGITS;
 
-    // A decimal, unless it is past its bounds. Nine places and a `0` before them are ten digits, so that the value's own digits decide.
-    pub fn new(value: u64, places: u8) -> MadeDecimal
+    // A decimal; none past its bounds. Nine places and a `0` before them are ten digits, so that the value's own digits decide.
+    pub fn new(value: u64, places: u8) -> Option<Decimal>
         ensures { result ≡ made_of value places }
     {
-        if Decimal::MAX_PLACES < places {
-            return MadeDecimal::Past;
+        if places <= Decimal::MAX_PLACES && value < 10_u64.pow(Decimal::MAX_DIGITS as u32) {
+            Some(Decimal { value, places })
+        } else {
+            None
         }
-        if 0 < whole_of(value, Decimal::MAX_DIGITS) {
-            return MadeDecimal::Past;
-        }
-        MadeDecimal::Fits(Decimal { value, places })
     }
 
     // 0, without places.
@@ -152,32 +137,10 @@ impl Decimal {
     }
 }
 
-impl MadeDecimal {
-    // The number of the refusal: 0 for none, 4 for a decimal past its bounds.
-    pub fn number(self) -> usize
-        ensures { result ≡ made_number self }
-    {
-        match self {
-            MadeDecimal::Fits(_) => 0,
-            MadeDecimal::Past => 4,
-        }
-    }
-
-    // The decimal, and 0 for one past its bounds.
-    pub fn decimal(self) -> Decimal
-        ensures { result ≡ made_decimal self }
-    {
-        match self {
-            MadeDecimal::Fits(d) => d,
-            MadeDecimal::Past => Decimal::zero(),
-        }
-    }
-}
-
-// What a part begins with, read as a decimal, and how many bytes it has.
+// What a part begins with, read as a decimal, none past its bounds; and how many bytes it has.
 #[derive(Clone, Copy)]
 pub struct DecimalRead {
-    pub made: MadeDecimal,
+    pub made: Option<Decimal>,
     pub len: usize,
 }
 
@@ -186,34 +149,24 @@ fn fraction_from(s: &[u8], before: u64) -> Digits
     requires { before ≤ 1000000000000 }
     ensures { result ≡ fraction_of before s.now }
 {
-    if s.len() < 1 {
-        return Digits {
+    match s {
+        [b'.', behind @ ..] => digits_from(behind, before, TOO_LONG),
+        _ => Digits {
             value: before,
             len: 0,
-        };
+        },
     }
-    if s[0] != b'.' {
-        return Digits {
-            value: before,
-            len: 0,
-        };
-    }
-    digits_from(&s[1..], before, TOO_LONG)
 }
 
 // How many places there are, or one more than there may be.
 fn places_of(len: usize) -> u8
     ensures { result ≡ min len (max_places + 1) }
 {
-    if len <= Decimal::MAX_PLACES as usize {
-        len as u8
-    } else {
-        Decimal::MAX_PLACES + 1
-    }
+    len.min(Decimal::MAX_PLACES as usize + 1) as u8
 }
 
 // What a decimal may begin with, as its user takes it: a digit, or, where the 0 before a point may be left out, that point.
-#[derive(Drop)]
+#[derive(Clone, Copy)]
 pub enum FirstByte {
     Digit,
     DigitOrPoint,
@@ -238,46 +191,32 @@ fn decimal_from(s: &[u8]) -> DecimalRead
     let all = fraction_from(&s[at..], whole.value);
     let places = all.len;
     let made = Decimal::new(all.value, places_of(places));
-    if places == 0 {
-        return DecimalRead { made, len: at };
-    }
-    DecimalRead {
-        made,
-        len: at + 1 + places,
-    }
+    let len = if places == 0 { at } else { at + 1 + places };
+    DecimalRead { made, len }
 }
 
 // The decimal that s begins with, as its user takes it; 0 in no bytes where it begins with none.
+#[tactic(auto, unfolding(crate::specs::Points::decimal_of))]
 pub fn read_decimal(s: &[u8], first: FirstByte) -> DecimalRead
     ensures { result ≡ decimal_of first s.now }
 {
-    if !may_begin(s, first) {
-        return DecimalRead {
-            made: MadeDecimal::Fits(Decimal::zero()),
+    if may_begin(s, first) {
+        decimal_from(s)
+    } else {
+        DecimalRead {
+            made: Some(Decimal::zero()),
             len: 0,
-        };
+        }
     }
-    decimal_from(s)
-}
-
-// Ten times a value, or the largest there is.
-fn ten_times(v: u64) -> u64
-    ensures { result ≡ min (v * 10) largest }
-{
-    if v <= u64::MAX / 10 { v * 10 } else { u64::MAX }
 }
 
 // A decimal in billionths, or the largest there is. More than nine places count as nine: no decimal within its bounds has them.
+#[tactic(auto, unfolding(crate::specs::Shares::billionths_of))]
 pub fn billionths(d: Decimal) -> u64
     ensures { result ≡ billionths_of d }
 {
-    let mut v = d.value;
-    let mut places = d.places;
-    while places < Decimal::MAX_PLACES {
-        v = ten_times(v);
-        places += 1;
-    }
-    v
+    let missing = Decimal::MAX_PLACES.saturating_sub(d.places);
+    d.value.saturating_mul(10_u64.pow(missing as u32))
 }
 
 // The digits of n, put at a cursor; the place behind them.
@@ -285,21 +224,23 @@ pub fn put_number(out: &mut [u8], at: usize, n: u64) -> usize
     ensures { Put out.old at (digits n) out.new result }
 {
     if n < 10 {
-        return put8(out, at, b'0' + (n % 10) as u8);
+        put8(out, at, b'0' + n as u8)
+    } else {
+        let to = put_number(out, at, n / 10);
+        put8(out, to, b'0' + (n % 10) as u8)
     }
-    let to = put_number(out, at, n / 10);
-    put8(out, to, b'0' + (n % 10) as u8)
 }
 
 // The last n digits of v.
 fn put_last(out: &mut [u8], at: usize, v: u64, n: u8) -> usize
     ensures { Put out.old at (last_digits n v) out.new result }
 {
-    if n < 1 {
-        return at;
+    if n == 0 {
+        at
+    } else {
+        let to = put_last(out, at, v / 10, n - 1);
+        put8(out, to, b'0' + (v % 10) as u8)
     }
-    let to = put_last(out, at, v / 10, n - 1);
-    put8(out, to, b'0' + (v % 10) as u8)
 }
 
 // A number with a point before its last digits, put at a cursor: the whole number, then the point and the places where there are any.
@@ -308,11 +249,12 @@ pub fn put_pointed(out: &mut [u8], at: usize, value: u64, places: u8) -> usize
     ensures { Put out.old at (decimal_text (record { value = value; places = places })) out.new result }
 {
     let behind = put_number(out, at, whole_of(value, places));
-    if places < 1 {
-        return behind;
+    if places == 0 {
+        behind
+    } else {
+        let to = put8(out, behind, b'.');
+        put_last(out, to, value, places)
     }
-    let to = put8(out, behind, b'.');
-    put_last(out, to, value, places)
 }
 
 // A decimal, put at a cursor.

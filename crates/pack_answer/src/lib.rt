@@ -7,9 +7,9 @@ ghost use Rattle.put_bytes.specs.Puts.{Put};
 ghost use Rattle.answers.specs.Delivered.{answered};
 ghost use Rattle.pack_answer.specs.Handed.{short, packed_of, handed, handed_of};
 
-use answers::Answer;
+use answers::numbers;
+use faults::Refusal;
 use put_bytes::{clear, clear_from, put_le};
-use slices::within;
 
 // Bytes of a packed answer.
 const PACKED_SIZE: usize = 6;
@@ -18,7 +18,7 @@ const PACKED_SIZE: usize = 6;
 fn short(n: usize) -> u16
     ensures { result ≡ short n }
 {
-    within(n, 65535) as u16
+    u16::try_from(n).unwrap_or(u16::MAX)
 }
 
 // The three numbers, from the start of a buffer.
@@ -31,7 +31,7 @@ fn pack(packed: &mut [u8], number: u16, place: u16, len: u16) -> usize
 }
 
 // The answer of a call, whose output is there already.
-pub fn hand_over(a: Answer, out: &mut [u8], packed: &mut [u8]) -> u16
+pub fn hand_over(a: Result<usize, Refusal>, out: &mut [u8], packed: &mut [u8]) -> u16
     ensures { handed result out.new packed.new ≡ handed_of (length out.old) (answered a out.old) (length packed.old) }
 {
     if packed.len() < PACKED_SIZE {
@@ -39,8 +39,9 @@ pub fn hand_over(a: Answer, out: &mut [u8], packed: &mut [u8]) -> u16
         clear(packed);
         return 8;
     }
-    let number = short(a.number);
-    let end = pack(packed, number, short(a.place), short(a.len));
+    let (number, place, len) = numbers(a);
+    let number = short(number);
+    let end = pack(packed, number, short(place), short(len));
     clear_from(packed, end);
     number
 }

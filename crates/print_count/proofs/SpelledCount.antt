@@ -10,10 +10,11 @@ use Rattle.lang.specs.Parts.{Opt, silent, written, opt_text}
 use Rattle.rules.specs.Numbers.{digits, From, Number, number_text}
 use Rattle.rules.specs.Formulas.{written_text}
 use Rattle.rules.specs.Losses.{Sign, minus, plus, sign_text}
-use Rattle.rules.specs.Preferred.{shortened, count_or1, sign_rank}
+use Rattle.rules.specs.Preferred.{shortened, count_or1}
+use Rattle.changes.proofs.Signs.{sign_read}
 use Rattle.print_count.specs.Heads.{sign_bytes, count_text, head_text}
 
-pub sign_text_lem : (s : Sign) → sign_bytes (sign_rank s) ≡ sign_text s
+pub sign_text_lem : (s : Sign) → sign_bytes (sign_read s) ≡ sign_text s
 sign_text_lem minus = refl
 sign_text_lem plus = refl
 
@@ -32,5 +33,5 @@ number_text_lem n = by (leb n.value 1)
     by true = refl
     by false = refl
 
-pub head_text_lem : (s : Sign) (count : ℕ) {c : List ℕ} → count_text count ≡ c → head_text (sign_rank s) count ≡ sign_text s ++ c
+pub head_text_lem : (s : Sign) (count : ℕ) {c : List ℕ} → count_text count ≡ c → head_text (sign_read s) count ≡ sign_text s ++ c
 head_text_lem s count e = ap₂ (λ (a b : List ℕ). a ++ b) (sign_text_lem s) e

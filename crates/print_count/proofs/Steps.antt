@@ -2,16 +2,9 @@
 use Prim.Native.Nat.{ℕ, ◌<◌, ◌≤◌}
 use mathlib.Core.Path.{◌≡◌}
 use mathlib.Core.List.{[]}
-use borrow.Author.Tests.{eq-eqb, ne_eqb, le-leb, lt-leb}
-use Rattle.rules.specs.Bytes.{bytes}
+use borrow.Author.Tests.{le-leb, lt-leb}
 use Rattle.rules.specs.Numbers.{digits}
-use Rattle.print_count.specs.Heads.{sign_bytes, count_text}
-
-pub sign_minus : (sign : ℕ) → sign ≡ 0 → bytes "-" ≡ sign_bytes sign
-sign_minus sign h = rw (eq-eqb sign 0 h)
-
-pub sign_plus : (sign : ℕ) → (sign ≡ 0 → ⊥) → bytes "+" ≡ sign_bytes sign
-sign_plus sign h = rw (ne_eqb sign 0 h)
+use Rattle.print_count.specs.Heads.{count_text}
 
 pub count_one : (n : ℕ) → n ≤ 1 → [] ≡ count_text n
 unfolding count_text

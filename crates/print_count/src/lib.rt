@@ -5,6 +5,7 @@
 ghost use Rattle.put_bytes.specs.Puts.{Put};
 ghost use Rattle.print_count.specs.Heads.{sign_bytes, count_text, head_text};
 
+use changes::Sign;
 use numbers::put_number;
 use put_bytes::put8;
 
@@ -15,14 +16,13 @@ pub struct Respelled {
     pub len: usize,
 }
 
-// 0 is `-`, anything else `+`.
-fn put_sign(out: &mut [u8], to: usize, sign: u8) -> usize
+fn put_sign(out: &mut [u8], to: usize, sign: Sign) -> usize
     ensures { Put out.old to (sign_bytes sign) out.new result }
 {
-    if sign == 0 {
-        return put8(out, to, b'-');
+    match sign {
+        Sign::Minus => put8(out, to, b'-'),
+        Sign::Plus => put8(out, to, b'+'),
     }
-    put8(out, to, b'+')
 }
 
 // A count; a 1 is left out.
@@ -30,13 +30,14 @@ fn put_count(out: &mut [u8], to: usize, n: u32) -> usize
     ensures { Put out.old to (count_text n) out.new result }
 {
     if n <= 1 {
-        return to;
+        to
+    } else {
+        put_number(out, to, n as u64)
     }
-    put_number(out, to, n as u64)
 }
 
 // Both.
-pub fn put_head(out: &mut [u8], to: usize, sign: u8, count: u32) -> usize
+pub fn put_head(out: &mut [u8], to: usize, sign: Sign, count: u32) -> usize
     ensures { Put out.old to (head_text sign count) out.new result }
 {
     let at = put_sign(out, to, sign);

@@ -7,7 +7,7 @@ use native.Mathlib.Omega.{arith}
 use native.Mathlib.Decide.{dec_le}
 use lib.Dec.{eqb}
 use lib.ListN.{length, get_or, take, drop, get_or-eq_default}
-use borrow.Author.Tests.{eq-eqb, ne_eqb}
+use borrow.Author.Tests.{eq-eqb, ne_eqb, eqb-false}
 use Rattle.rules.specs.Bytes.{bytes}
 use Rattle.rules.specs.Numbers.{digits}
 use Rattle.rules.specs.Ions.{series_names, cleavage_names}
@@ -36,13 +36,14 @@ pub series_none : (n : ℕ) → (1 ≤ n → n ≤ 13 → ⊥) → [] ≡ series
 unfolding series_printed
 series_none n h = none_named (map bytes series_names) n h
 
-pub letters_none : (n : ℕ) → (1 ≤ n → n ≤ 9 → ⊥) → [] ≡ letters_printed n
+-- the name of yb, which is 5, is left out
+pub letters_none : (n : ℕ) → (1 ≤ n → n ≤ 9 → n ≡ 5) → [] ≡ letters_printed n
 unfolding letters_printed
-letters_none n h = by (eqb n 5)
+letters_none n h = by (eqb n 5) refl
   where
-    by : (t : Bool) → [] ≡ cond t [] (get_or ([] ∷ map bytes cleavage_names) n [])
-    by true = refl
-    by false = none_named (map bytes cleavage_names) n h
+    by : (t : Bool) → eqb n 5 ≡ t → [] ≡ cond t [] (get_or ([] ∷ map bytes cleavage_names) n [])
+    by true e = refl
+    by false e = none_named (map bytes cleavage_names) n (λ a b. eqb-false n 5 e (h a b))
 
 -- ---- texts and names
 

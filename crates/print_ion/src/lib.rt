@@ -20,54 +20,57 @@ use slices::{byte_of, first_of, rest, u16_at};
 
 // ---- pieces of text
 
-// The name of a series, 1 to 13; nothing for another number.
+// The name of a series, 1 to 13; nothing for another number. Series, letters and kinds are matched as the bytes that a table stores: the
+// contracts say what every byte prints, one that is no kind too, so that enums would add matches from bytes to kinds and take away no arm.
 fn put_series(out: &mut [u8], to: usize, letter: u8) -> usize
     ensures { Put out.old to (series_printed letter) out.new result }
 {
-    match letter {
-        1 => put8(out, to, b'a'),
-        2 => put8(out, to, b'b'),
-        3 => put8(out, to, b'c'),
-        4 => put8(out, to, b'd'),
-        5 => put8(out, to, b'v'),
-        6 => put8(out, to, b'w'),
-        7 => put8(out, to, b'x'),
-        8 => put8(out, to, b'y'),
-        9 => put8(out, to, b'z'),
-        10 => put_run(out, to, b"da"),
-        11 => put_run(out, to, b"db"),
-        12 => put_run(out, to, b"wa"),
-        13 => put_run(out, to, b"wb"),
-        _ => to,
-    }
+    let name: &[u8] = match letter {
+        1 => b"a",
+        2 => b"b",
+        3 => b"c",
+        4 => b"d",
+        5 => b"v",
+        6 => b"w",
+        7 => b"x",
+        8 => b"y",
+        9 => b"z",
+        10 => b"da",
+        11 => b"db",
+        12 => b"wa",
+        13 => b"wb",
+        _ => b"",
+    };
+    put_run(out, to, name)
 }
 
 // The letters of an internal ion, by the number of its cleavage: nothing for yb, which is 0, and for a number that no table holds.
 fn put_letters(out: &mut [u8], to: usize, letter: u8) -> usize
     ensures { Put out.old to (letters_printed letter) out.new result }
 {
-    match letter {
-        1 => put_run(out, to, b"xa"),
-        2 => put_run(out, to, b"xb"),
-        3 => put_run(out, to, b"xc"),
-        4 => put_run(out, to, b"ya"),
-        5 => to,
-        6 => put_run(out, to, b"yc"),
-        7 => put_run(out, to, b"za"),
-        8 => put_run(out, to, b"zb"),
-        9 => put_run(out, to, b"zc"),
-        _ => to,
-    }
+    let name: &[u8] = match letter {
+        1 => b"xa",
+        2 => b"xb",
+        3 => b"xc",
+        4 => b"ya",
+        6 => b"yc",
+        7 => b"za",
+        8 => b"zb",
+        9 => b"zc",
+        _ => b"",
+    };
+    put_run(out, to, name)
 }
 
 // A text or name between two bytes; nothing where there is none.
 fn put_enclosed(out: &mut [u8], to: usize, first: u8, w: &[u8], last: u8) -> usize
     ensures { Put out.old to (enclosed_printed first w.now last) out.new result }
 {
-    if w.len() < 1 {
-        return to;
+    if w.is_empty() {
+        to
+    } else {
+        put_between(out, to, first, w, last)
     }
-    put_between(out, to, first, w, last)
 }
 
 // How many units, and how many bytes of text, an ion has.
@@ -120,11 +123,10 @@ fn print_unknown(out: &mut [u8], to: usize, s: &[u8]) -> usize
     ensures { Put out.old to (label_printed s.now) out.new result }
 {
     let a = put8(out, to, b'?');
-    let n = u16_at(rest(s, POSITION_AT));
-    if n == 0 {
-        return a;
+    match u16_at(rest(s, POSITION_AT)) {
+        0 => a,
+        n => put_number(out, a, n as u64),
     }
-    put_number(out, a, n as u64)
 }
 
 // 7: the formula.
@@ -176,9 +178,10 @@ fn print_flag(out: &mut [u8], to: usize, s: &[u8]) -> usize
     ensures { Put out.old to (flag_printed s.now) out.new result }
 {
     if byte_of(s, MARKED_AT) == 0 {
-        return to;
+        to
+    } else {
+        put8(out, to, b'&')
     }
-    put8(out, to, b'&')
 }
 
 fn print_analyte(out: &mut [u8], to: usize, s: &[u8]) -> usize

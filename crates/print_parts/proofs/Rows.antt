@@ -21,6 +21,7 @@ use Rattle.put_formula.specs.Preferred.{printed_units}
 use Rattle.put_formula.proofs.Chains.{AllOf, all_none, all_more}
 use Rattle.put_formula.proofs.PutUnits.{UnitUpTo, printed_read}
 use Rattle.rules.proofs.Lengths.{unit_length}
+use Rattle.changes.specs.Signs.{sign_of_byte}
 use Rattle.print_count.specs.Heads.{sign_bytes, count_text}
 use Rattle.print_parts.specs.Changes.{change_units, change_name, content_printed, change_printed, changes_printed, unit_bytes, name_bytes}
 use Rattle.slices.proofs.StoredNumbers.{word_stored}
@@ -61,7 +62,7 @@ pub record Tells (row : List ℕ) (us : List (FormulaUnit Number)) (name text : 
 abbrev pub change_record : ℕ → ℕ → ℕ → ℕ → List Field
 change_record sign kind count size = u8 sign ∷ u8 kind ∷ u16 count ∷ u16 size ∷ []
 
-pub sign_told : (s : Sign) → sign_bytes (sign_rank s % 256) ≡ sign_text s
+pub sign_told : (s : Sign) → sign_bytes (sign_of_byte (sign_rank s % 256)) ≡ sign_text s
 sign_told minus = refl
 sign_told plus = refl
 

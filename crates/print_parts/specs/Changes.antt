@@ -4,12 +4,20 @@ use Rattle.rules.specs.Bytes.{bytes}
 use Rattle.rules.specs.Texts.{in_brackets}
 use Rattle.rules.specs.Limits.{max_units, max_text}
 use Rattle.rules.specs.Layout.{loss_width, unit_width, sign_at, content_kind_at, count_at, content_size_at}
+use Rattle.changes.specs.declared.Content.{Content}
+use Rattle.changes.specs.declared.Content.TheVariants.{Formula, Name, Electron}
+use Rattle.changes.specs.Signs.{sign_of_byte}
 use Rattle.put_bytes.specs.Puts.{Put}
 use Rattle.slices.specs.Numbers.{u16_at}
 use Rattle.put_formula.specs.Preferred.{printed_units}
 use Rattle.print_count.specs.Heads.{sign_bytes, count_text}
 use Rattle.print_parts.specs.declared.PrintedTo.{PrintedTo}
 use Rattle.print_parts.specs.Numbers.{number_at}
+
+-- what stands behind sign and count; no more units or bytes of a name than the limits allow
+unfoldable pub content_at : List ℕ → Content
+content_at l =
+    cond {A = Content} (eqb (get_or l content_kind_at 0) 0) (Formula (number_at l content_size_at max_units)) (cond {A = Content} (eqb (get_or l content_kind_at 0) 1) (Name (number_at l content_size_at max_text)) Electron)
 
 -- how many units, and how many bytes of a name; no more than the limits allow
 unfoldable pub change_units : List ℕ → ℕ
@@ -23,7 +31,7 @@ content_printed l u t =
     cond (eqb (get_or l content_kind_at 0) 0) (printed_units (change_units l) u) (cond (eqb (get_or l content_kind_at 0) 1) (in_brackets (take (change_name l) t)) (bytes "e"))
 
 unfoldable pub change_printed : List ℕ → List ℕ → List ℕ → List ℕ
-change_printed l u t = sign_bytes (get_or l sign_at 0) ++ (count_text (u16_at (drop count_at l)) ++ content_printed l u t)
+change_printed l u t = sign_bytes (sign_of_byte (get_or l sign_at 0)) ++ (count_text (u16_at (drop count_at l)) ++ content_printed l u t)
 
 -- n of them
 unfoldable pub changes_printed : ℕ → List ℕ → List ℕ → List ℕ → List ℕ

@@ -50,11 +50,7 @@ fn print_adduct(out: &mut [u8], to: usize, x: &[u8], u: &[u8], t: &[u8], n: usiz
     let a = put_run(out, to, b"[M");
     let r = print_changes(out, a, x, u, t, n);
     let b = put8(out, r.to, b']');
-    PrintedTo {
-        to: b,
-        units: r.units,
-        text: r.text,
-    }
+    PrintedTo { to: b, ..r }
 }
 
 // The annotation whose parts stand at the cursors. Of its record only the fields that every edition has are looked at: how far the next
@@ -114,10 +110,7 @@ pub fn print_annotation(
 fn put_comma(out: &mut [u8], to: usize, i: usize) -> usize
     ensures { Put out.old to (comma_printed i) out.new result }
 {
-    if i == 0 {
-        return to;
-    }
-    put8(out, to, b',')
+    if i == 0 { to } else { put8(out, to, b',') }
 }
 
 // The edition that the header names.
@@ -149,14 +142,11 @@ pub fn print_table(out: &mut [u8], to: usize, table: &[u8]) -> usize
     let n = number_at(table, ANNOTATION_PAIR_AT, MAX_ANNOTATIONS);
     let mut c = starts(edition, counts_at(table));
     let mut at = to;
-    let mut i: usize = 0;
-    while i < n {
+    for i in 0..n {
         let begin = put_comma(out, at, i);
         let p = print_annotation(out, begin, table, edition, c);
         at = p.to;
-        let next = p.cursors;
-        c = next;
-        i += 1;
+        c = p.cursors;
     }
     at
 }

@@ -1,4 +1,3 @@
 pub mod Putting
 pub mod PutLoop
 pub mod One
-pub mod Clearing

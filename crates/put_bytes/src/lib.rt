@@ -13,22 +13,17 @@ pub fn put8(out: &mut [u8], at: usize, b: u8) -> usize
 {
     if at < out.len() {
         out[at] = b;
-        return at + 1;
+        at + 1
+    } else {
+        at.saturating_add(1)
     }
-    if at == usize::MAX {
-        return at;
-    }
-    at + 1
 }
 
 // Whether `n` bytes fit at a place.
 fn has_room(out: &[u8], at: usize, n: usize) -> bool
     ensures { result ≡ leb (at + n) (length out.now) }
 {
-    if out.len() < at {
-        return false;
-    }
-    n <= out.len() - at
+    at <= out.len() && n <= out.len() - at
 }
 
 // The low bytes of `v`, as many as there is room for, the lowest first.
@@ -36,23 +31,9 @@ fn fill_le(part: &mut [u8], v: u64)
     ensures { part.new ≡ little (length part.old) v }
 {
     let mut left = v;
-    let mut filled: usize = 0;
-    while filled < part.len() {
-        part[filled] = (left % 256) as u8;
-        left = left / 256;
-        filled += 1;
-    }
-}
-
-// All bytes of `s`, for which there is just room.
-fn fill(part: &mut [u8], s: &[u8])
-    requires { length part.old ≡ length s.now }
-    ensures { part.new ≡ s.now }
-{
-    let mut copied: usize = 0;
-    while copied < part.len() {
-        part[copied] = s[copied];
-        copied += 1;
+    for byte in part {
+        *byte = (left % 256) as u8;
+        left /= 256;
     }
 }
 
@@ -75,11 +56,9 @@ fn put_le_far(out: &mut [u8], at: usize, v: u64, n: usize) -> usize
 {
     let mut to = at;
     let mut rest = v;
-    let mut done: usize = 0;
-    while done < n {
+    for _ in 0..n {
         to = put8(out, to, (rest % 256) as u8);
-        rest = rest / 256;
-        done += 1;
+        rest /= 256;
     }
     to
 }
@@ -90,7 +69,7 @@ pub fn put_run(out: &mut [u8], at: usize, s: &[u8]) -> usize
 {
     if has_room(out, at, s.len()) {
         let end = at + s.len();
-        fill(&mut out[at..end], s);
+        out[at..end].copy_from_slice(s);
         return end;
     }
     put_run_far(out, at, s)
@@ -101,10 +80,8 @@ fn put_run_far(out: &mut [u8], at: usize, s: &[u8]) -> usize
     ensures { Put out.old at s.now out.new result }
 {
     let mut to = at;
-    let mut from: usize = 0;
-    while from < s.len() {
-        to = put8(out, to, s[from]);
-        from += 1;
+    for &b in s {
+        to = put8(out, to, b);
     }
     to
 }
@@ -123,10 +100,8 @@ pub fn put_words(out: &mut [u8], at: usize, words: &[u64]) -> usize
     ensures { Put out.old at (flat (little 8) words.now) out.new result }
 {
     let mut to = at;
-    let mut taken: usize = 0;
-    while taken < words.len() {
-        to = put_le(out, to, words[taken], 8);
-        taken += 1;
+    for &word in words {
+        to = put_le(out, to, word, 8);
     }
     to
 }
@@ -135,16 +110,13 @@ pub fn put_words(out: &mut [u8], at: usize, words: &[u64]) -> usize
 pub fn clear_from(out: &mut [u8], from: usize)
     ensures { out.new ≡ cleared out.old from }
 {
-    let mut i = from;
-    while i < out.len() {
-        out[i] = 0;
-        i += 1;
-    }
+    let from = from.min(out.len());
+    out[from..].fill(0);
 }
 
 // Zeros everywhere: what is not written later is 0.
 pub fn clear(out: &mut [u8])
     ensures { out.new ≡ replicate (length out.old) 0 }
 {
-    clear_from(out, 0);
+    out.fill(0);
 }

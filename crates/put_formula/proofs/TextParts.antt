@@ -1,6 +1,6 @@
 -- The pieces of a unit's text, and the words of a record. Assumes nothing.
 use Prim.Native.Nat.{ℕ, ◌<◌, ◌≤◌}
-use mathlib.Core.Path.{◌≡◌, sym, ap, ap₂, ◌∙◌}
+use mathlib.Core.Path.{◌≡◌, sym, ap, ◌∙◌}
 use mathlib.Core.List.{List, [], ◌∷◌, ◌++◌, append-nil}
 use lib.ListN.{take}
 use borrow.Author.Tests.{eq-eqb, ne_eqb, le-leb, lt-leb}
@@ -61,11 +61,11 @@ unfolding kept_of
 kept_more u z h = rw (eq-eqb u.nucleons 0 z, lt-leb u.count 1 h)
 
 -- of the unit that r begins with: the bytes that are copied, and how far it goes
-module _ (r : List ℕ) {t : List ℕ} {u : UnitSpan} (e : u ≡ span_of t) (q : t ≡ r) where
-  pub copied : {x : List ℕ} {n : ℕ} → x ≡ take n t → n ≡ kept_of u → x ≡ kept_unit r
+module _ (r : List ℕ) {u : UnitSpan} (e : u ≡ span_of r) where
+  pub copied : {x : List ℕ} {n : ℕ} → x ≡ take n r → n ≡ kept_of u → x ≡ kept_unit r
   unfolding kept_unit
-  copied p k = p ∙ ap₂ (λ (m : ℕ) (l : List ℕ). take m l) (k ∙ ap kept_of (e ∙ ap span_of q)) q
+  copied p k = p ∙ ap (λ (m : ℕ). take m r) (k ∙ ap kept_of e)
 
   pub span_size : u.len ≡ unit_size r
   unfolding unit_of
-  span_size = ap (λ (v : UnitSpan). v.len) (e ∙ ap span_of q)
+  span_size = ap (λ (v : UnitSpan). v.len) e

@@ -12,7 +12,7 @@ use layout::{ATOM_COUNT_AT, UNIT_ELEMENT_AT, UNIT_SIZE};
 use numbers::put_number;
 use put_bytes::{put_le, put_run, put8};
 use read_formula::{UnitRead, UnitSpan, unit, unit_span};
-use slices::{advance, first_of, rest, u16_at};
+use slices::{first_of, rest, u16_at};
 
 // ---- records
 
@@ -30,13 +30,11 @@ pub fn put_records(out: &mut [u8], at: usize, s: &[u8], n: usize) -> usize
     ensures { Put out.old at (records_of n s.now) out.new result }
 {
     let mut to = at;
-    let mut from: usize = 0;
-    let mut i: usize = 0;
-    while i < n {
-        let u = unit(rest(s, from));
+    let mut left = s;
+    for _ in 0..n {
+        let u = unit(left);
         to = put_record(out, to, u);
-        from = advance(from, u.len, s.len());
-        i += 1;
+        left = rest(left, u.len);
     }
     to
 }
@@ -48,14 +46,14 @@ pub fn put_symbol(out: &mut [u8], at: usize, element: u16) -> usize
     ensures { Put out.old at (symbol_text element) out.new result }
 {
     let l = letters_of(element);
-    if l.first == 0 {
-        return at;
+    match (l.first, l.second) {
+        (0, _) => at,
+        (first, 0) => put8(out, at, first),
+        (first, second) => {
+            let p = put8(out, at, first);
+            put8(out, p, second)
+        }
     }
-    let p = put8(out, at, l.first);
-    if l.second == 0 {
-        return p;
-    }
-    put8(out, p, l.second)
 }
 
 // A unit without nucleon number: a 1 is left out.
@@ -64,9 +62,10 @@ fn put_plain(out: &mut [u8], at: usize, u: UnitRead) -> usize
 {
     let p = put_symbol(out, at, u.element);
     if u.count <= 1 {
-        return p;
+        p
+    } else {
+        put_number(out, p, u.count as u64)
     }
-    put_number(out, p, u.count as u64)
 }
 
 // A unit with its nucleon number, in brackets.
@@ -85,22 +84,21 @@ pub fn put_unit(out: &mut [u8], at: usize, u: UnitRead) -> usize
     ensures { Put out.old at (preferred_unit u) out.new result }
 {
     if u.nucleons == 0 {
-        return put_plain(out, at, u);
+        put_plain(out, at, u)
+    } else {
+        put_labelled(out, at, u)
     }
-    put_labelled(out, at, u)
 }
 
 // How many bytes of a unit stand in its preferred text: a 1 is left out where there is no nucleon number.
 fn kept(span: UnitSpan) -> usize
     ensures { result ≡ kept_of span }
 {
-    if span.nucleons != 0 {
-        return span.len;
+    if span.nucleons == 0 && span.count <= 1 {
+        span.count_at
+    } else {
+        span.len
     }
-    if span.count <= 1 {
-        return span.count_at;
-    }
-    span.len
 }
 
 // The preferred text of the first n units of a part: it is what stands there, but for a 1.
@@ -108,14 +106,12 @@ pub fn put_preferred(out: &mut [u8], at: usize, s: &[u8], n: usize) -> usize
     ensures { Put out.old at (preferred_units n s.now) out.new result }
 {
     let mut to = at;
-    let mut from: usize = 0;
-    let mut i: usize = 0;
-    while i < n {
-        let t = rest(s, from);
-        let u = unit_span(t);
-        to = put_run(out, to, first_of(t, kept(u)));
-        from = advance(from, u.len, s.len());
-        i += 1;
+    let mut left = s;
+    for _ in 0..n {
+        let u = unit_span(left);
+        let len = u.len;
+        to = put_run(out, to, first_of(left, kept(u)));
+        left = rest(left, len);
     }
     to
 }
@@ -143,13 +139,10 @@ pub fn print_units(out: &mut [u8], at: usize, t: &[u8], n: usize) -> usize
     ensures { Put out.old at (printed_units n t.now) out.new result }
 {
     let mut to = at;
-    let mut from: usize = 0;
-    let mut i: usize = 0;
-    while i < n {
-        let u = stored_unit(rest(t, from));
-        to = put_unit(out, to, u);
-        from = advance(from, UNIT_SIZE, t.len());
-        i += 1;
+    let mut left = t;
+    for _ in 0..n {
+        to = put_unit(out, to, stored_unit(left));
+        left = rest(left, UNIT_SIZE);
     }
     to
 }

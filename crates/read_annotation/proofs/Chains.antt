@@ -5,10 +5,11 @@ use mathlib.Core.List.{List, ◌∷◌, ◌++◌, append_assoc}
 use native.Mathlib.Omega.{arith}
 use lib.ListN.{length, drop, length-append}
 use lib.Seq.{drop-append_seam}
+use Rattle.std.specs.Prelude.{Option}
 use Rattle.lang.specs.Parts.{Opt, silent, written, opt_text}
 use Rattle.lang.specs.Mark.{Part, marks_of}
 use Rattle.rules.specs.Limits.{opt_part}
-use Rattle.faults.specs.declared.Fault.{Fault}
+use Rattle.faults.specs.declared.Refusal.{Refusal}
 use Rattle.faults.specs.Faults.{after}
 use Rattle.faults.proofs.Marks.{after_append}
 
@@ -25,7 +26,7 @@ module _ (w k : List ℕ) where
   pub inside : {end : ℕ} → length (w ++ k) ≤ end → length k ≤ end
   inside h = omega (arith, length-append w k)
 
-  pub first_part : {end : ℕ} (f : Fault) (p : Part) (ps : List Part) → p.text ≡ w → length (w ++ k) ≤ end
+  pub first_part : {end : ℕ} (f : Option Refusal) (p : Part) (ps : List Part) → p.text ≡ w → length (w ++ k) ≤ end
       → after f (marks_of (end - length (w ++ k)) (p ∷ ps)) ≡ after (after f (p.marks (end - length (w ++ k)))) (marks_of (end - length k) ps)
   first_part {end} f p ps e h =
       let at = end - length (w ++ k) in

@@ -5,6 +5,7 @@ use mathlib.Core.Bool.{Bool}
 use mathlib.Core.List.{List, ◌++◌, append_assoc}
 use native.Mathlib.Omega.{arith}
 use lib.ListN.{length, drop, length-append}
+use Rattle.std.specs.Prelude.{Option}
 use Rattle.lang.specs.Parts.{Opt, opt_text}
 use Rattle.lang.specs.Mark.{marks_of}
 use Rattle.rules.specs.Bytes.{bytes}
@@ -13,10 +14,9 @@ use Rattle.rules.specs.Annotations.{flag_text, analyte_text}
 use Rattle.rules.specs.Limits.{opt_part, analyte_part, ion_parts}
 use Rattle.rules.specs.Editions.{ed2}
 use Rattle.rules.specs.House.{formed}
-use Rattle.rules.specs.Stored.{flag, present, value_or0, residue_count}
-use Rattle.faults.specs.declared.Fault.{Fault}
+use Rattle.rules.specs.Stored.{residue_count}
+use Rattle.faults.specs.declared.Refusal.{Refusal}
 use Rattle.faults.specs.Faults.{after}
-use Rattle.read_formula.proofs.Spelled.{capped}
 use Rattle.read_ion.specs.declared.IonRead.{IonRead}
 use Rattle.read_ion.proofs.SpelledIon.{EndsIon, ion_read, ion_read_lem}
 use Rattle.read_annotation.specs.declared.Front.{Front}
@@ -26,7 +26,7 @@ use Rattle.read_annotation.proofs.Chains.{drop_is, inside}
 use Rattle.read_annotation.proofs.Begins.{ion_begins_apart, ion_no_mark}
 use Rattle.read_annotation.proofs.Ions.{ion_told}
 use Rattle.read_annotation.proofs.Sequences.{sequence_read_lem}
-use Rattle.read_annotation.proofs.Prefixes.{prefix_length, prefix_read_lem}
+use Rattle.read_annotation.proofs.Prefixes.{analyte_number, prefix_length, prefix_read_lem}
 
 module _ (m : Bool) (n : Opt ℕ) (x : SpelledIon) (k : List ℕ) where
   abbrev pub behind_flag : List ℕ
@@ -40,20 +40,19 @@ module _ (m : Bool) (n : Opt ℕ) (x : SpelledIon) (k : List ℕ) where
       ap (drop (prefix_length m n)) (sym (append_assoc (flag_text (bytes "&") m) (opt_text analyte_text n) (ion_text x ++ k)))
       ∙ drop_is (flag_text (bytes "&") m ++ opt_text analyte_text n) (ion_text x ++ k) (sym (length-append (flag_text (bytes "&") m) (opt_text analyte_text n)))
 
-  module _ (end : ℕ) (f : Fault) where
+  module _ (end : ℕ) (f : Option Refusal) where
     -- the first broken limit behind each
-    abbrev pub prefix_fault : Fault
+    abbrev pub prefix_fault : Option Refusal
     prefix_fault = after f ((opt_part analyte_part n).marks (end - length behind_flag))
 
-    abbrev pub ion_fault : Fault
+    abbrev pub ion_fault : Option Refusal
     ion_fault = after prefix_fault (marks_of (end - length (ion_text x ++ k)) (ion_parts x))
 
     abbrev pub front_read : IonRead → Front
     front_read r =
         record {
-          marked = flag m;
-          present = present n;
-          analyte = value_or0 capped n;
+          marked = m;
+          analyte = analyte_number n;
           at = prefix_length m n;
           ion = r;
           formed = formed ed2 x;

@@ -4,11 +4,12 @@ use mathlib.Core.Path.{◌≡◌}
 use mathlib.Core.Bool.{Bool}
 use mathlib.Core.List.{List}
 use lib.ListN.{length, drop}
+use Rattle.std.specs.Prelude.{Option}
 use Rattle.rules.specs.Editions.{Edition}
 use Rattle.rules.specs.Limits.{max_losses, max_annotations, many_mark}
 use Rattle.counts.specs.declared.Counts.{Counts}
 use Rattle.counts.specs.Sums.{sum, plus}
-use Rattle.faults.specs.declared.Fault.{Fault}
+use Rattle.faults.specs.declared.Refusal.{Refusal}
 use Rattle.faults.specs.Faults.{join}
 use Rattle.sequences.specs.declared.SequenceRead.{SequenceRead}
 use Rattle.read_ion.specs.declared.IonRead.{IonRead}
@@ -34,14 +35,14 @@ use Rattle.read_annotation.specs.Measured.{own_counts, parts_of, is_free, measur
 
 -- ---- groups
 
-module _ (end : ℕ) (s : List ℕ) (f : Fault) {t v : List ℕ} {q : ℕ} where
+module _ (end : ℕ) (s : List ℕ) (f : Option Refusal) {t v : List ℕ} {q : ℕ} where
   pub front_is : {p : PrefixRead} {x : IonRead} {w : SequenceRead} → p ≡ prefix_of end s f → t ≡ drop p.len s → x ≡ ion_of end t p.fault → w ≡ sequence_of_ion t x
       → v ≡ drop x.len t → q ≡ length s - length v
-      → record { marked = p.marked; present = p.present; analyte = p.analyte; at = p.len; ion = x; formed = w.formed; residues = w.residues; len = q } ≡ front_of end s f
+      → record { marked = p.marked; analyte = p.analyte; at = p.len; ion = x; formed = w.formed; residues = w.residues; len = q } ≡ front_of end s f
   unfolding front_of
   front_is pp pt px pw pv pq = rw (← pp, ← pt, ← px, ← pw, ← pv, ← pq)
 
-module _ (end : ℕ) (s : List ℕ) (f : Fault) {t u v : List ℕ} {q : ℕ} where
+module _ (end : ℕ) (s : List ℕ) (f : Option Refusal) {t u v : List ℕ} {q : ℕ} where
   pub middle_is : {l a : Row} {y : IsotopesRead} {n : ℕ} → l ≡ changes_of max_losses end s f → t ≡ drop l.len s → y ≡ isotopes_of end t l.fault → u ≡ drop y.len t
       → a ≡ adduct_of end u y.fault → n ≡ sum l.units a.units → v ≡ drop a.len u → q ≡ length s - length v
       → record { counts = record { annotations = 0; losses = l.n; isotopes = y.n; items = a.n; units = n; text = l.text }; len = q; fault = a.fault } ≡ middle_of end s f
@@ -54,8 +55,8 @@ module _ (end : ℕ) (s : List ℕ) (f : Fault) {t u v : List ℕ} {q : ℕ} whe
   unfolding tail_of
   tail_is pc pt pd pu pe pv pq = rw (← pc, ← pt, ← pd, ← pu, ← pe, ← pv, ← pq)
 
-module _ (end : ℕ) (s : List ℕ) (f : Fault) {t u : List ℕ} where
-  pub parts_are : (i : ℕ) {place : ℕ} {g : Fault} {a : Front} {m : Middle} {b : Tail} → place ≡ end - length s → g ≡ join f (many_mark max_annotations i place)
+module _ (end : ℕ) (s : List ℕ) (f : Option Refusal) {t u : List ℕ} where
+  pub parts_are : (i : ℕ) {place : ℕ} {g : Option Refusal} {a : Front} {m : Middle} {b : Tail} → place ≡ end - length s → g ≡ join f (many_mark max_annotations i place)
       → a ≡ front_of end s g → t ≡ drop a.len s → m ≡ middle_of end t a.ion.fault → u ≡ drop m.len t → b ≡ tail_of end u m.fault
       → record { front = a; middle = m; tail = b } ≡ parts_of i end s f
   unfolding parts_of

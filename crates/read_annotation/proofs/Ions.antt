@@ -7,6 +7,7 @@ use native.Mathlib.Omega.{arith}
 use lib.Dec.{leb}
 use lib.ListN.{length, length-map}
 use borrow.Author.Tests.{le-leb}
+use Rattle.std.specs.Prelude.{Option}
 use Rattle.lang.specs.Mark.{Kept, here, later, marks_of}
 use Rattle.rules.specs.Numbers.{Number}
 use Rattle.rules.specs.Formulas.{Written, unit_map}
@@ -18,19 +19,19 @@ use Rattle.rules.specs.Limits.{max_position, number_part, ion_parts}
 use Rattle.rules.specs.Stored.{ion_fields}
 use Rattle.rules.proofs.Keeps.{kept_part}
 use Rattle.rules.proofs.FitParts.{number_within}
-use Rattle.faults.specs.declared.Fault.{Fault}
+use Rattle.faults.specs.declared.Refusal.{Refusal}
 use Rattle.read_formula.proofs.Spelled.{capped}
 use Rattle.read_ion.proofs.SpelledIon.{ion_read}
 use Rattle.read_annotation.specs.House.{ion_rule_of}
 
 -- as the rules count it
-pub record IonTold (x : SpelledIon) (g : Fault) : Type 0 where
+pub record IonTold (x : SpelledIon) (g : Option Refusal) : Type 0 where
   pub units : (ion_read x g).units ≡ length (ion_fields (ion_map filled filled_cut x)).units
   pub text : (ion_read x g).text ≡ length (ion_fields (ion_map filled filled_cut x)).text
   pub len : (ion_read x g).len ≡ length (ion_text x)
   pub fault : (ion_read x g).fault ≡ g
 
-pub ion_told : (x : SpelledIon) (g : Fault) → IonTold x g
+pub ion_told : (x : SpelledIon) (g : Option Refusal) → IonTold x g
 ion_told (series s n t) g = record { units = refl; text = refl; len = refl; fault = refl }
 ion_told (internal c m n t) g = record { units = refl; text = refl; len = refl; fault = refl }
 ion_told (immonium a m) g = record { units = refl; text = refl; len = refl; fault = refl }
@@ -49,7 +50,7 @@ some_items : (xs : List (Item Written)) → leb 1 (length xs) ≡ not (is_empty 
 some_items [] = refl
 some_items (x ∷ xs) = le-leb 1 (length (x ∷ xs)) (omega arith)
 
-pub ion_rule_lem : (x : SpelledIon) (g : Fault) (at : ℕ) (xs : List (Item Written)) → Kept (marks_of at (ion_parts x)) → ion_rule_of (ion_read x g) (length xs) ≡ ion_rule x (not (is_empty xs))
+pub ion_rule_lem : (x : SpelledIon) (g : Option Refusal) (at : ℕ) (xs : List (Item Written)) → Kept (marks_of at (ion_parts x)) → ion_rule_of (ion_read x g) (length xs) ≡ ion_rule x (not (is_empty xs))
 unfolding ion_rule_of
 ion_rule_lem (series s n t) g at xs k = refl
 ion_rule_lem (internal c m n t) g at xs k =

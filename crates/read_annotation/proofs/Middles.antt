@@ -5,6 +5,7 @@ use mathlib.Core.Bool.{false}
 use mathlib.Core.List.{List, ◌∷◌, ◌++◌, map}
 use native.Mathlib.Omega.{arith}
 use lib.ListN.{length, length-append}
+use Rattle.std.specs.Prelude.{Option}
 use Rattle.lang.specs.Parts.{flat}
 use Rattle.rules.specs.Bytes.{bytes}
 use Rattle.rules.specs.Texts.{starts_with}
@@ -16,7 +17,7 @@ use Rattle.rules.specs.Fields.{filled}
 use Rattle.rules.specs.Limits.{row_marks, loss_marks, isotopes_marks, adduct_marks}
 use Rattle.rules.specs.Stored.{lost_units, lost_name, added_units, isotope_records}
 use Rattle.counts.specs.Sums.{sum}
-use Rattle.faults.specs.declared.Fault.{Fault}
+use Rattle.faults.specs.declared.Refusal.{Refusal}
 use Rattle.faults.specs.Faults.{after}
 use Rattle.read_formula.proofs.Ends.{EndsFormula, ends_apart, ends_adduct}
 use Rattle.read_opening.proofs.SpelledOpenings.{no_sign}
@@ -60,15 +61,15 @@ module _ (ls : List (Loss Written)) (y : Isotopes Written) (xs : List (Item Writ
     pub losses_ends : EndsChanges behind_losses
     losses_ends = record { formula = formula_ends; none = isotopes_begin y behind_isotopes (no_sign behind_isotopes (ends_sign behind_isotopes adduct_ends)).0 }
 
-  module _ (end : ℕ) (f : Fault) where
+  module _ (end : ℕ) (f : Option Refusal) where
     -- the first broken limit behind each
-    abbrev pub losses_fault : Fault
+    abbrev pub losses_fault : Option Refusal
     losses_fault = after f (row_marks loss_text loss_marks 0 ls (end - length behind_ion))
 
-    abbrev pub isotopes_fault : Fault
+    abbrev pub isotopes_fault : Option Refusal
     isotopes_fault = after losses_fault (isotopes_marks y (end - length behind_losses))
 
-    abbrev pub adduct_fault : Fault
+    abbrev pub adduct_fault : Option Refusal
     adduct_fault = after isotopes_fault (adduct_marks xs (end - length behind_isotopes))
 
     abbrev pub middle_read : Middle

@@ -4,13 +4,14 @@ use mathlib.Core.Path.{◌≡◌, refl, sym, ap, ◌∙◌}
 use mathlib.Core.Bool.{Bool, true, false, ◌||◌}
 use mathlib.Core.List.{List}
 use native.Mathlib.Omega.{arith}
+use Rattle.std.specs.Prelude.{Option}
 use Rattle.lang.proofs.Tests.{not_t}
 use Rattle.rules.specs.Bytes.{bytes}
 use Rattle.rules.specs.Texts.{starts_with}
 use Rattle.rules.specs.Limits.{max_losses}
 use Rattle.counts.specs.declared.Counts.{Counts}
 use Rattle.counts.specs.Sums.{no_counts}
-use Rattle.faults.specs.declared.Fault.{Fault}
+use Rattle.faults.specs.declared.Refusal.{Refusal}
 use Rattle.read_opening.specs.Heads.{begins_sign}
 use Rattle.read_opening.proofs.SpelledOpenings.{no_sign}
 use Rattle.read_changes.proofs.ChangeLoop.{begin as no-changes, ends as changes_end}
@@ -24,7 +25,7 @@ neither : (a b : Bool) → a || b ≡ false → (a ≡ false) × (b ≡ false)
 neither true b e = absurd (not_t {x = true} e tt)
 neither false b e = (refl, e)
 
-module _ (end : ℕ) (s : List ℕ) (f : Fault) where
+module _ (end : ℕ) (s : List ℕ) (f : Option Refusal) where
   adduct_none : starts_with (bytes "[") s ≡ false → record { n = 0; units = 0; text = 0; len = 0; fault = f } ≡ adduct_of end s f
   unfolding adduct_of
   adduct_none e = rw (sym (starts_apart 91 (bytes "M") s e))

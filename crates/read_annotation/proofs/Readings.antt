@@ -3,6 +3,7 @@ use Prim.Native.Nat.{ℕ, ◌-◌, ◌≤◌}
 use mathlib.Core.Path.{◌≡◌, refl, sym, ap, ◌∙◌}
 use mathlib.Core.List.{List, ◌++◌}
 use lib.ListN.{length}
+use Rattle.std.specs.Prelude.{Option}
 use Rattle.lang.specs.Parts.{opt_text, flat}
 use Rattle.rules.specs.Bytes.{bytes}
 use Rattle.rules.specs.Ions.{ion_text}
@@ -11,7 +12,7 @@ use Rattle.rules.specs.Isotopes.{isotopes_text}
 use Rattle.rules.specs.Adducts.{adduct_text}
 use Rattle.rules.specs.Annotations.{SpelledAnnotation, flag_text, analyte_text}
 use Rattle.rules.specs.Limits.{max_annotations, many_mark}
-use Rattle.faults.specs.declared.Fault.{Fault}
+use Rattle.faults.specs.declared.Refusal.{Refusal}
 use Rattle.faults.specs.Faults.{join}
 use Rattle.read_ion.proofs.SpelledIon.{ion_read}
 use Rattle.read_annotation.specs.declared.Parts.{Parts}
@@ -27,9 +28,9 @@ use Rattle.read_annotation.proofs.Middles.{middle_read, middle_read_lem}
 use Rattle.read_annotation.proofs.Tails.{tail_read, tail_read_lem}
 use Rattle.read_annotation.proofs.Wholes.{third, second, first, fault1, fault2}
 
-module _ (a : SpelledAnnotation) (k : List ℕ) (i end : ℕ) (f : Fault) where
+module _ (a : SpelledAnnotation) (k : List ℕ) (i end : ℕ) (f : Option Refusal) where
   -- the first broken limit before the annotation's parts
-  abbrev pub fault0 : Fault
+  abbrev pub fault0 : Option Refusal
   fault0 = join f (many_mark max_annotations i (end - length (first a k)))
 
   abbrev pub parts_read : Parts

@@ -7,6 +7,7 @@ use native.Mathlib.Nat.{zero-mul}
 use native.Mathlib.Omega.{arith}
 use lib.Dec.{T, leb}
 use borrow.Author.Tests.{leb-true, leb-false, le-leb, lt-leb}
+use Rattle.std.specs.Prelude.{Option}
 use Rattle.lang.specs.Parts.{Opt, silent, written, opt_map}
 use Rattle.lang.specs.Mark.{Kept, here, later}
 use Rattle.rules.specs.Bytes.{bytes}
@@ -17,7 +18,7 @@ use Rattle.rules.specs.House.{deviation_rule, confidence_of, one}
 use Rattle.rules.specs.Limits.{max_places, fits, bare, decimal_mark, decimal_part, opt_part, deviation_part, confidence_part}
 use Rattle.rules.proofs.Keeps.{kept_part}
 use Rattle.numbers.specs.Shares.{largest, billionths_of}
-use Rattle.faults.specs.declared.Fault.{Fault}
+use Rattle.faults.specs.declared.Refusal.{Refusal}
 use Rattle.read_tail.specs.declared.DecimalPart.{DecimalPart}
 use Rattle.read_tail.proofs.SpelledTail.{size_read, deviation_read, confidence_read}
 use Rattle.read_annotation.specs.House.{deviation_rule_of, share_of}
@@ -33,7 +34,7 @@ pub confidence_fits_kept : (c : Confidence) (at : ℕ) → Kept ((confidence_par
 confidence_fits_kept (in_full d) at k = fits_kept d _ k
 confidence_fits_kept (from_point_lem z) at k = fits_kept z.decimal _ k
 
-pub deviation_rule_lem : (d : Opt Deviation) (at : ℕ) (g : Fault) → Kept ((opt_part deviation_part d).marks at) → deviation_rule_of (deviation_read d g) ≡ deviation_rule d
+pub deviation_rule_lem : (d : Opt Deviation) (at : ℕ) (g : Option Refusal) → Kept ((opt_part deviation_part d).marks at) → deviation_rule_of (deviation_read d g) ≡ deviation_rule d
 unfolding deviation_rule_of
 deviation_rule_lem silent at g k = refl
 deviation_rule_lem (written d) at g k =
@@ -45,7 +46,7 @@ pub share_zero : (c : DecimalPart) → c.size.value ≡ 0 → 0 ≡ share_of c
 unfolding share_of billionths_of
 share_zero c e = rw (e, zero-mul (10 ^ (max_places - c.size.places)))
 
-pub share_told : (c : Opt Confidence) (at : ℕ) (g : Fault) → Kept ((opt_part confidence_part c).marks at)
+pub share_told : (c : Opt Confidence) (at : ℕ) (g : Option Refusal) → Kept ((opt_part confidence_part c).marks at)
     → share_of (confidence_read c g) ≡ min (confidence_of (opt_map meant_decimal c)) largest
 unfolding share_of billionths_of
 share_told silent at g k = omega arith

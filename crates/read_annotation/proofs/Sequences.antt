@@ -8,6 +8,7 @@ use native.Mathlib.Omega.{arith}
 use lib.Dec.{T, leb}
 use lib.ListN.{length, take, drop}
 use borrow.Author.Tests.{le-leb}
+use Rattle.std.specs.Prelude.{Option}
 use Rattle.lang.specs.Parts.{silent, written}
 use Rattle.lang.specs.Mark.{Kept, here, later, marks_of}
 use Rattle.rules.specs.Texts.{Text, is_text}
@@ -18,7 +19,7 @@ use Rattle.rules.specs.House.{formed, long_enough}
 use Rattle.rules.specs.Limits.{max_position, number_part, ion_parts}
 use Rattle.rules.specs.Stored.{residue_count}
 use Rattle.rules.proofs.Keeps.{kept_part}
-use Rattle.faults.specs.declared.Fault.{Fault}
+use Rattle.faults.specs.declared.Refusal.{Refusal}
 use Rattle.sequences.specs.declared.SequenceRead.{SequenceRead}
 use Rattle.sequences.specs.Reads.{sequence_of}
 use Rattle.read_ion.specs.declared.IonRead.{IonRead}
@@ -52,7 +53,7 @@ text_some t = by t.bytes t.good
 abbrev pub sequence_read : SpelledIon → SequenceRead
 sequence_read x = record { formed = formed ed2 x; residues = residue_count x }
 
-pub sequence_read_lem : (x : SpelledIon) (k : List ℕ) (g : Fault) → sequence_read x ≡ sequence_of_ion (ion_text x ++ k) (ion_read x g)
+pub sequence_read_lem : (x : SpelledIon) (k : List ℕ) (g : Option Refusal) → sequence_read x ≡ sequence_of_ion (ion_text x ++ k) (ion_read x g)
 unfolding has_sequence
 sequence_read_lem (series s n silent) k g = sequence_none (ion_text (series s n silent) ++ k) (ion_read (series s n silent) g) refl
 sequence_read_lem (series s n (written t)) k g =
@@ -69,7 +70,7 @@ sequence_read_lem (smiles t) k g = sequence_none (ion_text (smiles t) ++ k) (ion
 sequence_read_lem (unknown n) k g = sequence_none (ion_text (unknown n) ++ k) (ion_read (unknown n) g) refl
 
 -- within the limits positions are read as they are, so that the rule is that of the rules
-pub sequence_rule : (x : SpelledIon) (g : Fault) (at : ℕ) → Kept (marks_of at (ion_parts x)) → long_enough_of (ion_read x g) (residue_count x) ≡ long_enough ed2 x
+pub sequence_rule : (x : SpelledIon) (g : Option Refusal) (at : ℕ) → Kept (marks_of at (ion_parts x)) → long_enough_of (ion_read x g) (residue_count x) ≡ long_enough ed2 x
 unfolding long_enough_of has_sequence covered_of
 sequence_rule (series s n silent) g at k = refl
 sequence_rule (series s n (written t)) g at k =

@@ -4,6 +4,7 @@ use mathlib.Core.Path.{◌≡◌, sym, ap, ◌∙◌, subst}
 use mathlib.Core.List.{List, ◌++◌}
 use native.Mathlib.Omega.{arith}
 use lib.ListN.{length, drop, length-append}
+use Rattle.std.specs.Prelude.{Option}
 use Rattle.lang.specs.Parts.{opt_text, flat}
 use Rattle.rules.specs.Bytes.{bytes}
 use Rattle.rules.specs.Ions.{ion_text}
@@ -12,14 +13,14 @@ use Rattle.rules.specs.Isotopes.{isotopes_text}
 use Rattle.rules.specs.Adducts.{adduct_text}
 use Rattle.rules.specs.Confidences.{confidence_text}
 use Rattle.rules.specs.Annotations.{SpelledAnnotation, flag_text, analyte_text, charge_text, deviation_text, annotation_text}
-use Rattle.faults.specs.declared.Fault.{Fault}
+use Rattle.faults.specs.declared.Refusal.{Refusal}
 use Rattle.read_annotation.specs.Measured.{behind_ion, parts_of, annotation_size}
 use Rattle.read_annotation.proofs.Chains.{drop_three}
 use Rattle.read_annotation.proofs.Ends.{EndsAnnotation}
 use Rattle.read_annotation.proofs.Wholes.{third, second, first, text_is}
 use Rattle.read_annotation.proofs.Readings.{parts_read, parts_read_lem}
 
-module _ (a : SpelledAnnotation) (k : List ℕ) (nth end : ℕ) (f : Fault) where
+module _ (a : SpelledAnnotation) (k : List ℕ) (nth end : ℕ) (f : Option Refusal) where
   -- the text behind the ion
   pub behind_ion_lem : behind_ion (first a k) (parts_read a k nth end f) ≡ second a k
   behind_ion_lem = drop_three (flag_text (bytes "&") a.marked) (opt_text analyte_text a.analyte) (ion_text a.ion) (second a k)
@@ -38,7 +39,7 @@ module _ (a : SpelledAnnotation) (k : List ℕ) (nth end : ℕ) (f : Fault) wher
       ∙ omega (arith, length-append (annotation_text a) k, ap length (text_is a k))
 
 -- whichever of a line it was read as, from whichever fault on
-pub annotation_size_lem : (a : SpelledAnnotation) (k : List ℕ) (nth end : ℕ) (f : Fault) → EndsAnnotation k → length (annotation_text a ++ k) ≤ end
+pub annotation_size_lem : (a : SpelledAnnotation) (k : List ℕ) (nth end : ℕ) (f : Option Refusal) → EndsAnnotation k → length (annotation_text a ++ k) ≤ end
     → annotation_size (annotation_text a ++ k) (parts_of nth end (annotation_text a ++ k) f) ≡ length (annotation_text a)
 annotation_size_lem a k nth end f e h =
     let t = text_is a k in

@@ -5,6 +5,7 @@ use mathlib.Core.Bool.{Bool, true}
 use mathlib.Core.List.{List, [], ◌∷◌, ◌++◌, map}
 use native.Mathlib.Omega.{arith}
 use lib.ListN.{length, length-append, length-map}
+use Rattle.std.specs.Prelude.{None}
 use Rattle.lang.specs.Parts.{Opt, silent, written, opt_text, Such, items, flat, word_of}
 use Rattle.lang.proofs.Tests.{not_t}
 use Rattle.rules.specs.Bytes.{bytes}
@@ -16,7 +17,6 @@ use Rattle.rules.specs.Losses.{Loss, loss_text, loss_map}
 use Rattle.rules.specs.Fields.{filled, filled_cut}
 use Rattle.rules.specs.Limits.{max_losses}
 use Rattle.rules.specs.Stored.{bytes_of, ion_fields, lost_units, lost_name}
-use Rattle.faults.specs.Faults.{fault}
 use Rattle.read_formula.specs.Units.{begins_unit}
 use Rattle.read_formula.proofs.Spelled.{begins_unit_lem}
 use Rattle.read_formula.proofs.Ends.{ends_apart}
@@ -78,4 +78,4 @@ pub losses_long : (ls : List (Loss Written))
 losses_long ls =
     let s = flat loss_text ls ++ [] in
     let e : EndsChanges [] = record { formula = ends_apart [] refl; none = (no_sign [] refl).0 } in
-    subst (λ (r : Row). r.units + r.text ≤ r.len) (losses_read ls [] (length s) (fault 0 0) e (omega arith)) (changes_units max_losses (length s) s (fault 0 0))
+    subst (λ (r : Row). r.units + r.text ≤ r.len) (losses_read ls [] (length s) None e (omega arith)) (changes_units max_losses (length s) s None)

@@ -6,6 +6,7 @@ use mathlib.Core.List.{List, ◌++◌, map}
 use native.Mathlib.Omega.{arith}
 use lib.Dec.{leb}
 use lib.ListN.{length, length-append, length-map}
+use Rattle.std.specs.Prelude.{Option}
 use Rattle.lang.specs.Parts.{opt_text, flat}
 use Rattle.lang.specs.Mark.{Kept, here, later, marks_of}
 use Rattle.rules.specs.Bytes.{bytes}
@@ -25,7 +26,7 @@ use Rattle.rules.proofs.Keeps.{kept_tail, kept_part}
 use Rattle.counts.specs.Sums.{sum, no_counts, plus}
 use Rattle.counts.proofs.Annotations.{annotation_counts}
 use Rattle.numbers.specs.Shares.{largest}
-use Rattle.faults.specs.declared.Fault.{Fault}
+use Rattle.faults.specs.declared.Refusal.{Refusal}
 use Rattle.faults.specs.Faults.{after}
 use Rattle.read_tail.proofs.SpelledTail.{deviation_read, confidence_read}
 use Rattle.read_ion.specs.declared.IonRead.{IonRead}
@@ -50,7 +51,7 @@ abbrev pub freely_spelled : SpelledAnnotation → Bool
 freely_spelled a = zero_left_out a.confidence || yb_written a.ion
 
 -- annotation number i of a line, at a place: what is measured of it by the rules of an edition
-pub record Measures (edition : Edition) (i : ℕ) (a : SpelledAnnotation) (at : ℕ) (f : Fault) (m : Measured) : Type 0 where
+pub record Measures (edition : Edition) (i : ℕ) (a : SpelledAnnotation) (at : ℕ) (f : Option Refusal) (m : Measured) : Type 0 where
   pub fault : m.fault ≡ after f (annotation_marks i a at)
   pub len : m.len ≡ length (annotation_text a)
   pub counts : m.counts ≡ plus no_counts (annotation_counts (filled_annotation a))
@@ -67,7 +68,7 @@ length_asked : (e : Edition) (x : SpelledIon) {kept : Bool} → kept ≡ long_en
 length_asked ed1 x h = refl
 length_asked ed2 x h = h
 
-module _ (edition : Edition) (a : SpelledAnnotation) (k : List ℕ) (i end : ℕ) (f : Fault) where
+module _ (edition : Edition) (a : SpelledAnnotation) (k : List ℕ) (i end : ℕ) (f : Option Refusal) where
   abbrev share_read : ℕ
   share_read = share_of (confidence_read a.confidence (fault3 a k end (fault0 a k i end f)))
 
@@ -160,7 +161,7 @@ module _ (edition : Edition) (a : SpelledAnnotation) (k : List ℕ) (i end : ℕ
           share = share_is;
         }
 
-pub measure_read : (edition : Edition) (a : SpelledAnnotation) (k : List ℕ) (i end : ℕ) (f : Fault) → EndsAnnotation k → length (annotation_text a ++ k) ≤ end
+pub measure_read : (edition : Edition) (a : SpelledAnnotation) (k : List ℕ) (i end : ℕ) (f : Option Refusal) → EndsAnnotation k → length (annotation_text a ++ k) ≤ end
     → Measures edition i a (end - length (annotation_text a ++ k)) f (measure_of edition i end (annotation_text a ++ k) f)
 measure_read edition a k i end f e h =
     let t = text_is a k in
@@ -168,6 +169,6 @@ measure_read edition a k i end f e h =
     subst (λ (s : List ℕ). Measures edition i a (end - length s) f (measure_of edition i end s f)) (sym t)
     (subst (Measures edition i a (end - length (first a k)) f) (measured_is edition a k i end f e g) (measured_read edition a k i end f e g))
 
-pub measure_within : (edition : Edition) (i end : ℕ) (s : List ℕ) (f : Fault) → (measure_of edition i end s f).len ≤ length s
+pub measure_within : (edition : Edition) (i end : ℕ) (s : List ℕ) (f : Option Refusal) → (measure_of edition i end s f).len ≤ length s
 unfolding measured_of
 measure_within edition i end s f = omega arith

@@ -5,6 +5,7 @@ use mathlib.Core.Bool.{false}
 use mathlib.Core.List.{List}
 use native.Mathlib.Omega.{arith}
 use lib.ListN.{length, length-append}
+use Rattle.std.specs.Prelude.{Option}
 use Rattle.lang.specs.Parts.{Opt, silent, written, opt_text}
 use Rattle.rules.specs.Bytes.{bytes, digit}
 use Rattle.rules.specs.Texts.{first_in, starts_with}
@@ -14,7 +15,7 @@ use Rattle.rules.proofs.Confidences.{zero_left_out}
 use Rattle.rules.specs.Annotations.{Deviation, charge_text, deviation_text}
 use Rattle.rules.specs.Limits.{opt_part, charge_part, deviation_part, confidence_part}
 use Rattle.numbers.specs.Points.{point}
-use Rattle.faults.specs.declared.Fault.{Fault}
+use Rattle.faults.specs.declared.Refusal.{Refusal}
 use Rattle.faults.specs.Faults.{after}
 use Rattle.read_tail.specs.Decimals.{confidence_of}
 use Rattle.read_tail.proofs.SpelledTail.{charge_read, charge_read_lem, confidence_read, confidence_read_lem, deviation_read, deviation_read_lem}
@@ -24,35 +25,35 @@ use Rattle.read_annotation.proofs.Groups.{tail_is}
 use Rattle.read_annotation.proofs.Ends.{EndsAnnotation, behind_adduct, behind_charge, behind_deviation, ends_keep, confidence_keep, deviation_keep}
 use Rattle.read_annotation.proofs.Chains.{drop_is, inside}
 
-pub deviation_long : (d : Opt Deviation) (g : Fault) → (deviation_read d g).len ≡ length (opt_text deviation_text d)
+pub deviation_long : (d : Opt Deviation) (g : Option Refusal) → (deviation_read d g).len ≡ length (opt_text deviation_text d)
 deviation_long silent g = refl
 deviation_long (written d) g = refl
 
-pub confidence_long : (c : Opt Confidence) (g : Fault) → (confidence_read c g).len ≡ length (opt_text confidence_text c)
+pub confidence_long : (c : Opt Confidence) (g : Option Refusal) → (confidence_read c g).len ≡ length (opt_text confidence_text c)
 confidence_long silent g = refl
 confidence_long (written c) g = refl
 
-pub deviation_fault_lem : (d : Opt Deviation) (g : Fault) → (deviation_read d g).fault ≡ g
+pub deviation_fault_lem : (d : Opt Deviation) (g : Option Refusal) → (deviation_read d g).fault ≡ g
 deviation_fault_lem silent g = refl
 deviation_fault_lem (written d) g = refl
 
-pub confidence_fault_lem : (c : Opt Confidence) (g : Fault) → (confidence_read c g).fault ≡ g
+pub confidence_fault_lem : (c : Opt Confidence) (g : Option Refusal) → (confidence_read c g).fault ≡ g
 confidence_fault_lem silent g = refl
 confidence_fault_lem (written c) g = refl
 
-pub confidence_bare : (c : Opt Confidence) (g : Fault) → (confidence_read c g).bare ≡ zero_left_out c
+pub confidence_bare : (c : Opt Confidence) (g : Option Refusal) → (confidence_read c g).bare ≡ zero_left_out c
 confidence_bare silent g = refl
 confidence_bare (written c) g = refl
 
-module _ (g : Opt (From 2)) (d : Opt Deviation) (c : Opt Confidence) (k : List ℕ) (end : ℕ) (f : Fault) where
+module _ (g : Opt (From 2)) (d : Opt Deviation) (c : Opt Confidence) (k : List ℕ) (end : ℕ) (f : Option Refusal) where
   -- the first broken limit behind each
-  abbrev pub charge_fault : Fault
+  abbrev pub charge_fault : Option Refusal
   charge_fault = after f ((opt_part charge_part g).marks (end - length (behind_adduct g d c k)))
 
-  abbrev pub deviation_fault : Fault
+  abbrev pub deviation_fault : Option Refusal
   deviation_fault = after charge_fault ((opt_part deviation_part d).marks (end - length (behind_charge g d c k)))
 
-  abbrev pub confidence_fault : Fault
+  abbrev pub confidence_fault : Option Refusal
   confidence_fault = after deviation_fault ((opt_part confidence_part c).marks (end - length (behind_deviation g d c k)))
 
   abbrev pub tail_read : Tail

@@ -3,6 +3,7 @@ use Prim.Native.Nat.{ℕ, ◌-◌, ◌≤◌}
 use mathlib.Core.Path.{◌≡◌, refl, ◌∙◌}
 use mathlib.Core.List.{List, [], ◌∷◌, ◌++◌, append_assoc}
 use lib.ListN.{length}
+use Rattle.std.specs.Prelude.{Option}
 use Rattle.lang.specs.Parts.{opt_text, flat}
 use Rattle.lang.specs.Mark.{Part, marks_of}
 use Rattle.rules.specs.Bytes.{bytes}
@@ -13,7 +14,7 @@ use Rattle.rules.specs.Adducts.{adduct_text}
 use Rattle.rules.specs.Confidences.{confidence_text}
 use Rattle.rules.specs.Annotations.{SpelledAnnotation, flag_text, analyte_text, charge_text, deviation_text, annotation_text}
 use Rattle.rules.specs.Limits.{bare, part, opt_part, row_part, analyte_part, ion_parts, loss_marks, isotopes_marks, adduct_marks, charge_part, deviation_part, confidence_part, annotation_parts}
-use Rattle.faults.specs.declared.Fault.{Fault}
+use Rattle.faults.specs.declared.Refusal.{Refusal}
 use Rattle.faults.specs.Faults.{after}
 use Rattle.read_annotation.proofs.Chains.{opt_text_lem, inside, first_part}
 use Rattle.read_annotation.proofs.Ends.{behind_adduct, behind_charge, behind_deviation}
@@ -42,15 +43,15 @@ module _ (a : SpelledAnnotation) (k : List ℕ) where
   pub text_is : annotation_text a ++ k ≡ first
   text_is = simp append_assoc
 
-  module _ (end : ℕ) (f : Fault) where
+  module _ (end : ℕ) (f : Option Refusal) where
     -- the first broken limit behind the ion, behind the adduct, and of all
-    abbrev pub fault1 : Fault
+    abbrev pub fault1 : Option Refusal
     fault1 = ion_fault a.marked a.analyte a.ion second end f
 
-    abbrev pub fault2 : Fault
+    abbrev pub fault2 : Option Refusal
     fault2 = adduct_fault a.losses a.isotopes a.adduct third end fault1
 
-    abbrev pub fault3 : Fault
+    abbrev pub fault3 : Option Refusal
     fault3 = confidence_fault a.charge a.deviation a.confidence k end fault2
 
     pub marks_are : length first ≤ end → after f (marks_of (end - length first) (annotation_parts a)) ≡ fault3

@@ -1,10 +1,10 @@
 -- The parts of an annotation in three groups, each read behind the one before it. Assumes nothing.
-use Rattle.std.specs.Prelude.{ℕ, ◌-◌, Bool, ◌||◌, List, length, drop}
+use Rattle.std.specs.Prelude.{ℕ, ◌-◌, Bool, ◌||◌, List, length, drop, Option}
 use Rattle.rules.specs.Bytes.{bytes}
 use Rattle.rules.specs.Texts.{starts_with}
 use Rattle.rules.specs.Limits.{max_losses}
 use Rattle.counts.specs.Sums.{sum}
-use Rattle.faults.specs.declared.Fault.{Fault}
+use Rattle.faults.specs.declared.Refusal.{Refusal}
 use Rattle.read_opening.specs.Heads.{begins_sign}
 use Rattle.sequences.specs.declared.SequenceRead.{SequenceRead}
 use Rattle.read_ion.specs.declared.IonRead.{IonRead}
@@ -35,7 +35,6 @@ abbrev pub front_with : List ℕ → List ℕ → PrefixRead → IonRead → Seq
 front_with s t p x q =
     record {
       marked = p.marked;
-      present = p.present;
       analyte = p.analyte;
       at = p.len;
       ion = x;
@@ -50,7 +49,7 @@ front_behind s t p x = front_with s t p x (sequence_of_ion t x)
 abbrev pub front_in : ℕ → List ℕ → PrefixRead → Front
 front_in end s p = let t = drop p.len s in front_behind s t p (ion_of end t p.fault)
 
-unfoldable pub front_of : ℕ → List ℕ → Fault → Front
+unfoldable pub front_of : ℕ → List ℕ → Option Refusal → Front
 front_of end s f = front_in end s (prefix_of end s f)
 
 -- ---- losses, isotopes, adduct
@@ -74,7 +73,7 @@ middle_behind end s t l y = let u = drop y.len t in middle_with s u l y (adduct_
 abbrev pub middle_in : ℕ → List ℕ → Row → Middle
 middle_in end s l = let t = drop l.len s in middle_behind end s t l (isotopes_of end t l.fault)
 
-unfoldable pub middle_of : ℕ → List ℕ → Fault → Middle
+unfoldable pub middle_of : ℕ → List ℕ → Option Refusal → Middle
 middle_of end s f = middle_in end s (changes_of max_losses end s f)
 
 -- ---- charge, deviation, confidence
@@ -88,5 +87,5 @@ tail_behind end s t c d = let u = drop d.len t in tail_with s u c d (confidence_
 abbrev pub tail_in : ℕ → List ℕ → ChargeRead → Tail
 tail_in end s c = let t = drop c.len s in tail_behind end s t c (deviation_of end t c.fault)
 
-unfoldable pub tail_of : ℕ → List ℕ → Fault → Tail
+unfoldable pub tail_of : ℕ → List ℕ → Option Refusal → Tail
 tail_of end s f = tail_in end s (charge_of end s f)

@@ -1,12 +1,12 @@
 -- The annotation that bytes begin with, read and measured. Assumes nothing.
-use Rattle.std.specs.Prelude.{ℕ, ◌-◌, Bool, ◌||◌, List, length, drop}
+use Rattle.std.specs.Prelude.{ℕ, ◌-◌, Bool, ◌||◌, List, length, drop, Option}
 use Rattle.rules.specs.Bytes.{bytes}
 use Rattle.rules.specs.Texts.{starts_with}
 use Rattle.rules.specs.Editions.{Edition}
 use Rattle.rules.specs.Limits.{max_annotations, many_mark}
 use Rattle.counts.specs.declared.Counts.{Counts}
 use Rattle.counts.specs.Sums.{plus}
-use Rattle.faults.specs.declared.Fault.{Fault}
+use Rattle.faults.specs.declared.Refusal.{Refusal}
 use Rattle.faults.specs.Faults.{join}
 use Rattle.read_ion.specs.declared.IonRead.{IonRead}
 use Rattle.read_annotation.specs.declared.Front.{Front}
@@ -26,7 +26,7 @@ abbrev pub parts_in : ℕ → List ℕ → Front → Parts
 parts_in end s a = let t = drop a.len s in parts_behind end t a (middle_of end t a.ion.fault)
 
 -- annotation number i of a line of `end` bytes
-unfoldable pub parts_of : ℕ → ℕ → List ℕ → Fault → Parts
+unfoldable pub parts_of : ℕ → ℕ → List ℕ → Option Refusal → Parts
 parts_of i end s f = parts_in end s (front_of end s (join f (many_mark max_annotations i (end - length s))))
 
 -- ---- measured
@@ -55,7 +55,7 @@ measured_with e s u a m b =
 unfoldable pub measured_of : Edition → List ℕ → Parts → Measured
 measured_of e s p = measured_with e s (drop p.middle.len (drop p.front.len s)) p.front p.middle p.tail
 
-abbrev pub measure_of : Edition → ℕ → ℕ → List ℕ → Fault → Measured
+abbrev pub measure_of : Edition → ℕ → ℕ → List ℕ → Option Refusal → Measured
 measure_of e i end s f = measured_of e s (parts_of i end s f)
 
 -- ---- how far it goes

@@ -2,10 +2,11 @@
 use Rattle.std.specs.Prelude.{ℕ, Bool, true, cond, ◌&&◌, ◌||◌, List, eqb, leb, take, drop}
 use Rattle.sequences.specs.declared.SequenceRead.{SequenceRead}
 use Rattle.sequences.specs.Reads.{sequence_of}
+use Rattle.read_ion.specs.Stored.{kind_number}
 use Rattle.read_ion.specs.declared.IonRead.{IonRead}
 
 unfoldable pub has_sequence : IonRead → Bool
-has_sequence x = (eqb x.kind 1 || eqb x.kind 2) && leb 1 x.text
+has_sequence x = (eqb (kind_number x.kind) 1 || eqb (kind_number x.kind) 2) && leb 1 x.text
 
 -- without one there is nothing to ask of it
 abbrev pub no_sequence : SequenceRead

@@ -4,7 +4,7 @@
 ghost use Rattle.std.specs.Prelude.{◌≡◌};
 ghost use Rattle.rules.specs.Bytes.{bytes};
 ghost use Rattle.rules.specs.Texts.{starts_with};
-ghost use Rattle.read_annotation.specs.Parts.{flag_of, prefix_of, adduct_len, adduct_of};
+ghost use Rattle.read_annotation.specs.Parts.{prefix_of, adduct_len, adduct_of};
 ghost use Rattle.read_annotation.specs.Groups.{front_of, begins_middle, middle_of, tail_of};
 ghost use Rattle.read_annotation.specs.Sequences.{has_sequence, sequence_of_ion};
 ghost use Rattle.layout.specs.Editions.{edition_of};
@@ -12,34 +12,32 @@ ghost use Rattle.read_annotation.specs.House.{ion_rule_of, deviation_rule_of, co
 ghost use Rattle.read_annotation.specs.Measured.{own_counts, parts_of, is_free, measured_of};
 
 use counts::{Counts, plus, sum};
-use faults::{Fault, check_count, check_number};
+use faults::{Refusal, check_count, check_number};
 use layout::Edition;
 use limits::{MAX_ANNOTATIONS, MAX_ITEMS, MAX_LOSSES, MAX_POSITION, ONE};
 use numbers::{billionths, read_number};
 use read_changes::{Row, read_changes};
-use read_ion::{IonRead, ion, spells_yb};
+use read_ion::{IonKind, IonRead, ion, spells_yb};
 use read_isotopes::isotopes;
 use read_opening::begins_sign;
 use read_tail::{DecimalPart, read_charge, read_confidence, read_deviation};
 use sequences::{SequenceRead, read_sequence};
 use slices::{advance, begins_in, begins_with, minus_or_zero, part, rest};
 
-// What stands before the ion: 1 for `&`, 1 for an analyte, and its number.
+// What stands before the ion: whether `&` does, and the number of an analyte.
 #[derive(Drop)]
 pub struct PrefixRead {
-    pub marked: u8,
-    pub present: u8,
-    pub analyte: u32,
+    pub marked: bool,
+    pub analyte: Option<u32>,
     pub len: usize,
-    pub fault: Fault,
+    pub fault: Option<Refusal>,
 }
 
 // Prefix and ion; the ion begins at `at`. Its sequence has so many residues, and is of the plain form or not; without one it has none, and is.
 #[derive(Clone, Copy)]
 pub struct Front {
-    pub marked: u8,
-    pub present: u8,
-    pub analyte: u32,
+    pub marked: bool,
+    pub analyte: Option<u32>,
     pub at: usize,
     pub ion: IonRead,
     pub formed: bool,
@@ -52,7 +50,7 @@ pub struct Front {
 pub struct Middle {
     pub counts: Counts,
     pub len: usize,
-    pub fault: Fault,
+    pub fault: Option<Refusal>,
 }
 
 // Charge, deviation and confidence.
@@ -82,31 +80,20 @@ pub struct Measured {
     pub formed: bool,
     pub kept: bool,
     pub len: usize,
-    pub fault: Fault,
-}
-
-// 1 where a part begins with `&`, else 0.
-fn flag(s: &[u8]) -> u8
-    ensures { result ≡ flag_of s.now }
-{
-    if begins_with(s, b'&') {
-        return 1;
-    }
-    0
+    pub fault: Option<Refusal>,
 }
 
 // `&` and analyte, both optional. No ion begins with a digit.
-pub fn read_prefix(s: &[u8], end: usize, f: Fault) -> PrefixRead
+pub fn read_prefix(s: &[u8], end: usize, f: Option<Refusal>) -> PrefixRead
     ensures { result ≡ prefix_of end s.now f }
 {
-    let marked = flag(s);
-    let at = marked as usize;
+    let marked = begins_with(s, b'&');
+    let at = usize::from(marked);
     let t = rest(s, at);
     if !begins_in(t, b'0', b'9') {
         return PrefixRead {
             marked,
-            present: 0,
-            analyte: 0,
+            analyte: None,
             len: at,
             fault: f,
         };
@@ -115,8 +102,7 @@ pub fn read_prefix(s: &[u8], end: usize, f: Fault) -> PrefixRead
     let fault = check_number(f, MAX_POSITION, n.value, minus_or_zero(end, t.len()));
     PrefixRead {
         marked,
-        present: 1,
-        analyte: n.value,
+        analyte: Some(n.value),
         len: advance(advance(at, n.len, s.len()), 1, s.len()),
         fault,
     }
@@ -126,10 +112,7 @@ pub fn read_prefix(s: &[u8], end: usize, f: Fault) -> PrefixRead
 pub fn begins_adduct(s: &[u8]) -> bool
     ensures { result ≡ starts_with (bytes "[M") s.now }
 {
-    if !begins_with(s, b'[') {
-        return false;
-    }
-    begins_with(rest(s, 1), b'M')
+    s.starts_with(b"[M")
 }
 
 // How many bytes an adduct has, from those of its items.
@@ -140,7 +123,7 @@ fn adduct_len(items: usize, all: usize) -> usize
 }
 
 // The adduct that a part begins with.
-pub fn read_adduct(s: &[u8], end: usize, f: Fault) -> Row
+pub fn read_adduct(s: &[u8], end: usize, f: Option<Refusal>) -> Row
     ensures { result ≡ adduct_of end s.now f }
 {
     if !begins_adduct(s) {
@@ -164,16 +147,14 @@ pub fn read_adduct(s: &[u8], end: usize, f: Fault) -> Row
 }
 
 // Whether an ion has a sequence: the text in the braces of a series or an internal ion.
+#[tactic(auto, unfolding(crate::specs::Sequences::has_sequence))]
 fn has_sequence(x: IonRead) -> bool
     ensures { result ≡ has_sequence x }
 {
-    if x.kind == 1 {
-        return 1 <= x.text;
+    match x.kind {
+        IonKind::Series | IonKind::Internal => 1 <= x.text,
+        _ => false,
     }
-    if x.kind == 2 {
-        return 1 <= x.text;
-    }
-    false
 }
 
 // The sequence of the ion that a part begins with. It is read here, once: measuring and storing both need to know of it.
@@ -190,7 +171,7 @@ fn sequence_of(s: &[u8], x: IonRead) -> SequenceRead
 }
 
 // Prefix and ion.
-fn read_front(s: &[u8], end: usize, f: Fault) -> Front
+fn read_front(s: &[u8], end: usize, f: Option<Refusal>) -> Front
     ensures { result ≡ front_of end s.now f }
 {
     let p = read_prefix(s, end, f);
@@ -201,7 +182,6 @@ fn read_front(s: &[u8], end: usize, f: Fault) -> Front
     let len = minus_or_zero(s.len(), rest(t, x.len).len());
     Front {
         marked: p.marked,
-        present: p.present,
         analyte: p.analyte,
         at: p.len,
         ion: x,
@@ -222,7 +202,7 @@ fn begins_middle(s: &[u8]) -> bool
 }
 
 // Losses, isotopes, adduct.
-fn read_middle(s: &[u8], end: usize, f: Fault) -> Middle
+fn read_middle(s: &[u8], end: usize, f: Option<Refusal>) -> Middle
     ensures { result ≡ middle_of end s.now f }
 {
     // Most annotations have none of the three.
@@ -256,7 +236,7 @@ fn read_middle(s: &[u8], end: usize, f: Fault) -> Middle
 }
 
 // Charge, deviation, confidence.
-fn read_tail(s: &[u8], end: usize, f: Fault) -> Tail
+fn read_tail(s: &[u8], end: usize, f: Option<Refusal>) -> Tail
     ensures { result ≡ tail_of end s.now f }
 {
     let c = read_charge(s, end, f);
@@ -275,19 +255,15 @@ fn read_tail(s: &[u8], end: usize, f: Fault) -> Tail
 }
 
 // An internal ion doesn't start at 1 and its start isn't past its end; SMILES has an adduct.
+#[tactic(auto, unfolding(crate::specs::House::ion_rule_of))]
 fn keeps_ion_rule(x: IonRead, items: usize) -> bool
     ensures { result ≡ ion_rule_of x items }
 {
-    if x.kind == 2 {
-        if x.position < 2 {
-            return false;
-        }
-        return x.position <= x.last;
+    match x.kind {
+        IonKind::Internal => 2 <= x.position && x.position <= x.last,
+        IonKind::Smiles => 1 <= items,
+        _ => true,
     }
-    if x.kind == 8 {
-        return 1 <= items;
-    }
-    true
 }
 
 // `-` doesn't stand before a zero deviation.
@@ -302,13 +278,14 @@ fn keeps_deviation_rule(d: DecimalPart) -> bool
 }
 
 // How many residues the position of an ion asks for; of an internal ion those from start to end.
+#[tactic(auto, unfolding(crate::specs::House::covered_of))]
 fn covered(x: IonRead) -> usize
     ensures { result ≡ covered_of x }
 {
-    if x.kind == 2 {
-        return minus_or_zero(x.last as usize + 1, x.position as usize);
+    match x.kind {
+        IonKind::Internal => minus_or_zero(x.last as usize + 1, x.position as usize),
+        _ => x.position as usize,
     }
-    x.position as usize
 }
 
 // A sequence has no fewer residues than the position asks for.
@@ -367,7 +344,7 @@ fn share_of(c: DecimalPart) -> u64
 }
 
 // Annotation number i of a line of `end` bytes.
-pub fn read_parts(i: usize, s: &[u8], end: usize, f: Fault) -> Parts
+pub fn read_parts(i: usize, s: &[u8], end: usize, f: Option<Refusal>) -> Parts
     ensures { result ≡ parts_of i end s.now f }
 {
     let g = check_count(f, MAX_ANNOTATIONS, i, minus_or_zero(end, s.len()));

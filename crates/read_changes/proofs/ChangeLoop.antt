@@ -6,9 +6,9 @@ use mathlib.Core.List.{List}
 use native.Mathlib.Omega.{arith}
 use lib.ListN.{length, drop, length-drop}
 use lib.Seq.{drop-drop}
+use Rattle.std.specs.Prelude.{Option, None}
 use Rattle.lang.proofs.Walks.{walk_on, walk_ends}
-use Rattle.faults.specs.declared.Fault.{Fault}
-use Rattle.faults.specs.Faults.{fault}
+use Rattle.faults.specs.declared.Refusal.{Refusal}
 use Rattle.read_opening.specs.Heads.{begins_change}
 use Rattle.read_changes.specs.declared.ChangeRead.{ChangeRead}
 use Rattle.read_changes.specs.Changes.{change_of, units_in, text_in}
@@ -16,19 +16,19 @@ use Rattle.read_changes.specs.Rows.{Sums, sums, change_size, added, count_change
 use Rattle.read_changes.proofs.Measures.{change_long, change_moves, change_stored}
 
 pub size_moves : (s : List ℕ) → begins_change s ≡ true → (1 ≤ change_size s) × (change_size s ≤ length s)
-size_moves s e = change_moves 0 0 0 (fault 0 0) s e
+size_moves s e = change_moves 0 0 0 None s e
 
 -- the first `at` bytes are n of them, with so many units and name bytes, and g is the fault after them
-pub record Passed (bound end : ℕ) (s : List ℕ) (f : Fault) (at n units text : ℕ) (g : Fault) : Type 0 where
+pub record Passed (bound end : ℕ) (s : List ℕ) (f : Option Refusal) (at n units text : ℕ) (g : Option Refusal) : Type 0 where
   pub inside : at ≤ length s
   pub few : n ≤ at
   pub held : units + text ≤ at
   pub is : changes_from bound end s (sums 0 0 0 f) ≡ changes_from bound end (drop at s) (sums n units text g)
 
-pub begin : {bound end : ℕ} {s : List ℕ} {f : Fault} → Passed bound end s f 0 0 0 0 f
+pub begin : {bound end : ℕ} {s : List ℕ} {f : Option Refusal} → Passed bound end s f 0 0 0 0 f
 begin = record { inside = omega arith; few = omega arith; held = omega arith; is = refl }
 
-module _ {bound end : ℕ} {s : List ℕ} {f : Fault} {at n units text : ℕ} {g : Fault} (p : Passed bound end s f at n units text g) {r : List ℕ} (pr : r ≡ drop at s) where
+module _ {bound end : ℕ} {s : List ℕ} {f : Option Refusal} {at n units text : ℕ} {g : Option Refusal} (p : Passed bound end s f at n units text g) {r : List ℕ} (pr : r ≡ drop at s) where
   -- one stands here; what it takes up, and what it stores
   pub record Moved (x : ChangeRead) : Type 0 where
     pub some : at + 1 ≤ at + x.len
@@ -51,13 +51,13 @@ module _ {bound end : ℕ} {s : List ℕ} {f : Fault} {at n units text : ℕ} {g
         let o = p.held in
         record { some = omega (arith, l, m.0); inside = omega (arith, l, m.1, length-drop at s); held = omega (arith, l, u, v, y, o) }
 
-    pub turn : {y z : ℕ} {h : Fault} → y ≡ units_in x → z ≡ text_in x → h ≡ x.fault → Passed bound end s f (at + x.len) (n + 1) (units + y) (text + z) h
+    pub turn : {y z : ℕ} {h : Option Refusal} → y ≡ units_in x → z ≡ text_in x → h ≡ x.fault → Passed bound end s f (at + x.len) (n + 1) (units + y) (text + z) h
     unfolding count_change
     turn {y} {z} {h} py pz ph =
         let t = drop at s in
         let m = moves in
         let o = p.few in
-        let l : change_size t ≡ x.len = change_long 0 0 0 bound n end t (fault 0 0) g ∙ ap (λ (x : ChangeRead). x.len) (sym change_is) in
+        let l : change_size t ≡ x.len = change_long 0 0 0 bound n end t None g ∙ ap (λ (x : ChangeRead). x.len) (sym change_is) in
         record {
           inside = m.inside;
           few = omega (arith, m.some, o);

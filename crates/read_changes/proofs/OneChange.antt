@@ -5,14 +5,16 @@ use mathlib.Core.Bool.{false}
 use mathlib.Core.List.{List, ◌++◌, append-nil}
 use native.Mathlib.Omega.{arith}
 use lib.ListN.{length, drop, length-append}
+use Rattle.std.specs.Prelude.{Option}
 use Rattle.lang.specs.Parts.{Opt, silent, written, opt_text}
 use Rattle.lang.specs.Mark.{Mark}
 use Rattle.rules.specs.Numbers.{From, number_text}
 use Rattle.rules.specs.Losses.{sign_text}
-use Rattle.rules.specs.Preferred.{sign_rank}
 use Rattle.rules.specs.Limits.{max_count, many_mark, opt_part, number_part}
+use Rattle.changes.specs.declared.Sign.{Sign}
+use Rattle.changes.proofs.Signs.{sign_read}
 use Rattle.texts.proofs.NameEnds.{loss_is_name}
-use Rattle.faults.specs.declared.Fault.{Fault}
+use Rattle.faults.specs.declared.Refusal.{Refusal}
 use Rattle.faults.specs.Faults.{join, after}
 use Rattle.faults.proofs.Marks.{join_kept, after_append}
 use Rattle.read_formula.proofs.Limits.{mark_told}
@@ -22,27 +24,26 @@ use Rattle.read_opening.specs.declared.Head.{Head}
 use Rattle.read_opening.proofs.SpelledOpenings.{count_told, head_read_lem, drop_read, name_here, sign_long}
 use Rattle.read_changes.specs.declared.ChangeRead.{ChangeRead}
 use Rattle.read_changes.specs.Changes.{head_fault, content_of, change_of}
-use Rattle.read_changes.proofs.Spelled.{What, a_formula, a_name, an_electron, content_text, what_part, what_kind, what_size, Spelled, change_text, change_marks}
+use Rattle.read_changes.proofs.Spelled.{What, a_formula, a_name, an_electron, content_text, what_part, what_content, Spelled, change_text, change_marks}
 use Rattle.read_changes.proofs.Begins.{what_no_digit, name_no_unit, electron_no_unit, change_text_lem}
 
 -- with a fault after it
-abbrev pub change_read : {m : ℕ} → Spelled m → Fault → ChangeRead
+abbrev pub change_read : {m : ℕ} → Spelled m → Option Refusal → ChangeRead
 change_read x g =
     record {
-      sign = sign_rank x.sign;
-      kind = what_kind x.what;
+      sign = sign_read x.sign;
       count = count_told x.count;
       start = 1 + length (opt_text number_text x.count);
-      size = what_size x.what;
+      content = what_content x.what;
       len = length (change_text x);
       fault = g;
     }
 
 -- ---- behind sign and count
 
-module _ (s : List ℕ) (h : Head) (k : List ℕ) (end : ℕ) (f : Fault) (e : EndsFormula k) where
+module _ (s : List ℕ) (h : Head) (k : List ℕ) (end : ℕ) (f : Option Refusal) (e : EndsFormula k) where
   abbrev what_read : What → ℕ → ChangeRead
-  what_read w len = record { sign = h.sign; kind = what_kind w; count = h.count; start = h.len; size = what_size w; len = len; fault = after f ((what_part w).marks (end - length (content_text w ++ k))) }
+  what_read w len = record { sign = h.sign; count = h.count; start = h.len; content = what_content w; len = len; fault = after f ((what_part w).marks (end - length (content_text w ++ k))) }
 
   what_read_lem : (w : What) → drop h.len s ≡ content_text w ++ k → length (content_text w ++ k) ≤ end → content_of end s h f ≡ what_read w (min (h.len + length (content_text w)) (length s))
   unfolding content_of
@@ -57,7 +58,7 @@ count_text_lem silent = refl
 count_text_lem (written n) = refl
 
 -- of sign and count, by how many bytes are left
-head_told : {m : ℕ} (bound i : ℕ) (sign : ℕ) (c : Opt (From m)) (len end left : ℕ) (f : Fault) → 1 ≤ left → left ≤ end
+head_told : {m : ℕ} (bound i : ℕ) (sign : Sign) (c : Opt (From m)) (len end left : ℕ) (f : Option Refusal) → 1 ≤ left → left ≤ end
     → head_fault bound i (record { sign = sign; count = count_told c; len = len }) end left f
     ≡ after (join f (many_mark bound i (end - left))) ((opt_part (number_part max_count) c).marks (end - left + 1))
 unfolding head_fault
@@ -66,7 +67,7 @@ head_told bound i sign (written n) len end left f h g =
     mark_told (join f (many_mark bound i (end - left))) max_count n.value (end - (left - 1)) (end - left + 1) (omega arith) (omega arith)
 
 -- of the whole: those of sign and count, and then of what stands behind them
-marks_told : {m : ℕ} (bound i : ℕ) (x : Spelled m) (at : ℕ) (f : Fault)
+marks_told : {m : ℕ} (bound i : ℕ) (x : Spelled m) (at : ℕ) (f : Option Refusal)
     → after (after (join f (many_mark bound i at)) ((opt_part (number_part max_count) x.count).marks (at + 1))) ((what_part x.what).marks (at + 1 + length (opt_text number_text x.count)))
     ≡ after f (change_marks bound i x at)
 marks_told bound i x at f =
@@ -79,7 +80,7 @@ marks_told bound i x at f =
 
 -- ---- the whole
 
-module _ {m : ℕ} (x : Spelled m) (k : List ℕ) (bound i end : ℕ) (f : Fault) (e : EndsFormula k) (h : length (change_text x ++ k) ≤ end) where
+module _ {m : ℕ} (x : Spelled m) (k : List ℕ) (bound i end : ℕ) (f : Option Refusal) (e : EndsFormula k) (h : length (change_text x ++ k) ≤ end) where
   -- the text from left to right
   abbrev behind_head : List ℕ
   behind_head = content_text x.what ++ k
@@ -88,7 +89,7 @@ module _ {m : ℕ} (x : Spelled m) (k : List ℕ) (bound i end : ℕ) (f : Fault
   spread = sign_text x.sign ++ (opt_text number_text x.count ++ behind_head)
 
   abbrev head_read : Head
-  head_read = record { sign = sign_rank x.sign; count = count_told x.count; len = 1 + length (opt_text number_text x.count) }
+  head_read = record { sign = sign_read x.sign; count = count_told x.count; len = 1 + length (opt_text number_text x.count) }
 
   spread_long : length spread ≡ 1 + length (opt_text number_text x.count) + length behind_head
   spread_long =
@@ -116,10 +117,10 @@ module _ {m : ℕ} (x : Spelled m) (k : List ℕ) (bound i end : ℕ) (f : Fault
       let o : end - length behind_head ≡ at + 1 + length (opt_text number_text x.count) = omega arith in
       let n : min (head_read.len + length (content_text x.what)) (length spread) ≡ length (change_text x) = omega arith in
       let j : g ≡ after (join f (many_mark bound i at)) ((opt_part (number_part max_count) x.count).marks (at + 1)) =
-      head_told bound i (sign_rank x.sign) x.count head_read.len end (length spread) f (omega arith) (omega arith)
+      head_told bound i (sign_read x.sign) x.count head_read.len end (length spread) f (omega arith) (omega arith)
       ∙ ap (λ (p : ℕ). after (join f (many_mark bound i p)) ((opt_part (number_part max_count) x.count).marks (p + 1))) q in
       ap (λ (s : List ℕ). change_of bound i end s f) t
       ∙ ap (λ (h : Head). content_of end spread h (head_fault bound i h end (length spread) f)) (head_read_lem x.sign x.count behind_head (what_no_digit x.what k))
       ∙ what_read_lem spread head_read k end g e x.what (drop_read x.sign x.count behind_head) (omega arith)
-      ∙ ap₂ (λ (len : ℕ) (z : Fault). record { sign = sign_rank x.sign; kind = what_kind x.what; count = count_told x.count; start = head_read.len; size = what_size x.what; len = len; fault = z }) n
-      (ap₂ (λ (z : Fault) (p : ℕ). after z ((what_part x.what).marks p)) j o ∙ marks_told bound i x at f)
+      ∙ ap₂ (λ (len : ℕ) (z : Option Refusal). record { sign = sign_read x.sign; count = count_told x.count; start = head_read.len; content = what_content x.what; len = len; fault = z }) n
+      (ap₂ (λ (z : Option Refusal) (p : ℕ). after z ((what_part x.what).marks p)) j o ∙ marks_told bound i x at f)

@@ -12,6 +12,8 @@ use Rattle.rules.specs.Formulas.{Written, Formula, formula_text}
 use Rattle.rules.specs.Losses.{Sign, sign_text, Lost, lost_formula, lost_name_lem, lost_text, Loss, loss_text}
 use Rattle.rules.specs.Adducts.{Added, added_formula, electron, added_text, Item, item_text}
 use Rattle.rules.specs.Limits.{max_losses, max_items, max_count, many_mark, bare, opt_part, number_part, closed_part, formula_part, lost_part, loss_marks, added_part, item_marks}
+use Rattle.changes.specs.declared.Content.{Content}
+use Rattle.changes.specs.declared.Content.TheVariants as content
 
 pub data What : Type 0 where
   a_formula : Formula Written → What
@@ -28,16 +30,11 @@ what_part (a_formula x) = formula_part x
 what_part (a_name n) = closed_part bracket_text n
 what_part an_electron = bare (bytes "e")
 
--- as it is stored: the kind, and how many units or name bytes
-abbrev pub what_kind : What → ℕ
-what_kind (a_formula x) = 0
-what_kind (a_name n) = 1
-what_kind an_electron = 2
-
-abbrev pub what_size : What → ℕ
-what_size (a_formula x) = length (items x)
-what_size (a_name n) = length n.bytes
-what_size an_electron = 0
+-- as it is read
+abbrev pub what_content : What → Content
+what_content (a_formula x) = content.Formula (length (items x))
+what_content (a_name n) = content.Name (length n.bytes)
+what_content an_electron = content.Electron
 
 -- a written count is at least m
 pub record Spelled (m : ℕ) : Type 0 where

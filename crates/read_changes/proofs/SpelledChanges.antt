@@ -1,11 +1,11 @@
 -- What is read of losses and of adduct items that are spelled, and how far any go. Assumes nothing.
 use Prim.Native.Nat.{ℕ, suc, ◌+◌, ◌-◌, ◌≤◌}
 use mathlib.Core.Path.{◌≡◌, refl, ap, ◌∙◌}
-use mathlib.Core.Bool.{true, false, cond}
+use mathlib.Core.Bool.{true, false}
 use mathlib.Core.List.{List, [], ◌∷◌, ◌++◌, map}
 use native.Mathlib.Omega.{arith}
-use lib.Dec.{eqb}
 use lib.ListN.{length, length-map}
+use Rattle.std.specs.Prelude.{Option, None}
 use Rattle.lang.specs.Re.{Rng, in_c}
 use Rattle.lang.specs.Parts.{items, flat}
 use Rattle.lang.specs.Walk.{walk}
@@ -18,15 +18,16 @@ use Rattle.rules.specs.Adducts.{Added, added_formula, electron, added_map, Item,
 use Rattle.rules.specs.Limits.{max_losses, max_items, row_marks, loss_marks, item_marks}
 use Rattle.rules.specs.Fields.{filled}
 use Rattle.rules.specs.Stored.{lost_units, lost_name, added_units}
-use Rattle.faults.specs.declared.Fault.{Fault}
-use Rattle.faults.specs.Faults.{fault, after}
+use Rattle.changes.specs.Contents.{content_units, content_bytes}
+use Rattle.faults.specs.declared.Refusal.{Refusal}
+use Rattle.faults.specs.Faults.{after}
 use Rattle.read_formula.proofs.Ends.{EndsFormula}
 use Rattle.read_opening.specs.Heads.{begins_change}
 use Rattle.read_changes.specs.Rows.{Sums, sums, change_size, count_change, changes_of}
 use Rattle.read_changes.proofs.Walks.{held_within}
 use Rattle.read_changes.proofs.Measures.{change_long, change_stored}
 use Rattle.read_changes.proofs.ChangeLoop.{size_moves}
-use Rattle.read_changes.proofs.Spelled.{what_kind, what_size, of_lost, of_loss, loss_text_lem, loss_marks_lem, of_added, of_item, item_text_lem, item_marks_lem}
+use Rattle.read_changes.proofs.Spelled.{what_content, of_lost, of_loss, loss_text_lem, loss_marks_lem, of_added, of_item, item_text_lem, item_marks_lem}
 use Rattle.read_changes.proofs.Sums.{row_first, row_ends, row_read}
 pub use Rattle.read_changes.proofs.Spelled.{Spelled, change_text, change_marks}
 pub use Rattle.read_changes.proofs.OneChange.{change_read, change_read_lem}
@@ -38,15 +39,15 @@ same_units x = omega (arith, length-map x.more (unit_map filled))
 
 -- ---- losses
 
-lost_units_lem : (w : Lost Written) → cond (eqb (what_kind (of_lost w)) 0) (what_size (of_lost w)) 0 ≡ length (lost_units (lost_map filled w))
+lost_units_lem : (w : Lost Written) → content_units (what_content (of_lost w)) ≡ length (lost_units (lost_map filled w))
 lost_units_lem (lost_formula x) = same_units x
 lost_units_lem (lost_name_lem n) = refl
 
-lost_names : (w : Lost Written) → cond (eqb (what_kind (of_lost w)) 1) (what_size (of_lost w)) 0 ≡ length (lost_name (lost_map filled w))
+lost_names : (w : Lost Written) → content_bytes (what_content (of_lost w)) ≡ length (lost_name (lost_map filled w))
 lost_names (lost_formula x) = refl
 lost_names (lost_name_lem n) = refl
 
-pub losses_read : (xs : List (Loss Written)) (k : List ℕ) (end : ℕ) (f : Fault) → EndsChanges k → length (flat loss_text xs ++ k) ≤ end
+pub losses_read : (xs : List (Loss Written)) (k : List ℕ) (end : ℕ) (f : Option Refusal) → EndsChanges k → length (flat loss_text xs ++ k) ≤ end
     → changes_of max_losses end (flat loss_text xs ++ k) f
     ≡ record {
       n = length xs;
@@ -67,11 +68,11 @@ losses_end xs k e = row_ends of_loss loss_text loss_text_lem xs k e
 
 -- ---- adduct items
 
-added_units_lem : (w : Added Written) → cond (eqb (what_kind (of_added w)) 0) (what_size (of_added w)) 0 ≡ length (added_units (added_map filled w))
+added_units_lem : (w : Added Written) → content_units (what_content (of_added w)) ≡ length (added_units (added_map filled w))
 added_units_lem (added_formula x) = same_units x
 added_units_lem electron = refl
 
-added_names : (w : Added Written) → cond (eqb (what_kind (of_added w)) 1) (what_size (of_added w)) 0 ≡ 0
+added_names : (w : Added Written) → content_bytes (what_content (of_added w)) ≡ 0
 added_names (added_formula x) = refl
 added_names electron = refl
 
@@ -79,7 +80,7 @@ flat_none : {B : Type 0} (xs : List B) → length (flat {B = ℕ} (λ x. []) xs)
 flat_none [] = refl
 flat_none (x ∷ xs) = flat_none xs
 
-pub items_read : (xs : List (Item Written)) (k : List ℕ) (end : ℕ) (f : Fault) → EndsChanges k → length (flat item_text xs ++ k) ≤ end
+pub items_read : (xs : List (Item Written)) (k : List ℕ) (end : ℕ) (f : Option Refusal) → EndsChanges k → length (flat item_text xs ++ k) ≤ end
     → changes_of max_items end (flat item_text xs ++ k) f
     ≡ record {
       n = length xs;
@@ -108,7 +109,7 @@ items_end xs k e = row_ends of_item item_text item_text_lem xs k e
 
 -- ---- of any text
 
-module _ (bound end : ℕ) (s : List ℕ) (f : Fault) where
+module _ (bound end : ℕ) (s : List ℕ) (f : Option Refusal) where
   pub changes_within : (changes_of bound end s f).len ≤ length s
   unfolding changes_of
   changes_within = omega arith
@@ -138,5 +139,5 @@ module _ (bound end : ℕ) (s : List ℕ) (f : Fault) where
       grows : (a : Sums) (t : List ℕ) → begins_change t ≡ true → ((count_change bound end a t).units + (count_change bound end a t).text ≤ a.units + a.text + change_size t) × (change_size t ≤ length t)
       grows a t e =
           let m = size_moves t e in
-          let l = change_long bound a.n end 0 0 0 t a.fault (fault 0 0) in
+          let l = change_long bound a.n end 0 0 0 t a.fault None in
           (omega (arith, l, change_stored bound a.n end t a.fault), m.1)

@@ -6,6 +6,7 @@ use mathlib.Core.List.{List, [], ◌∷◌, ◌++◌, map, append_assoc}
 use native.Mathlib.Omega.{arith}
 use lib.ListN.{length, drop, length-append}
 use lib.Seq.{drop-append_seam}
+use Rattle.std.specs.Prelude.{Option, None}
 use Rattle.lang.specs.Re.{Rng, in_c}
 use Rattle.lang.specs.Parts.{flat}
 use Rattle.lang.specs.Mark.{Mark}
@@ -13,8 +14,8 @@ use Rattle.lang.specs.Walk.{Walked, walked}
 use Rattle.lang.proofs.Walks.{walk_on, walk_ends}
 use Rattle.rules.specs.Texts.{first_in}
 use Rattle.rules.specs.Limits.{row_marks}
-use Rattle.faults.specs.declared.Fault.{Fault}
-use Rattle.faults.specs.Faults.{fault, after}
+use Rattle.faults.specs.declared.Refusal.{Refusal}
+use Rattle.faults.specs.Faults.{after}
 use Rattle.faults.proofs.Marks.{after_append}
 use Rattle.read_formula.proofs.Ends.{EndsFormula}
 use Rattle.read_opening.specs.Heads.{begins_change}
@@ -54,15 +55,15 @@ module _ {A : Type 0} {m : ℕ} (of : A → Spelled m) (text : A → List ℕ) (
     row_size e =
         let s = change_text (of x) ++ k in
         rw (text_of x)
-        (change_long 0 0 0 0 0 (length s) s (fault 0 0) (fault 0 0)
-        ∙ ap (λ (p : ChangeRead). p.len) (change_read_lem (of x) k 0 0 (length s) (fault 0 0) e (omega arith)))
+        (change_long 0 0 0 0 0 (length s) s None None
+        ∙ ap (λ (p : ChangeRead). p.len) (change_read_lem (of x) k 0 0 (length s) None e (omega arith)))
 
   -- ---- the row
 
   module _ {B U : Type 0} (bound : ℕ) (marks : ℕ → A → ℕ → List Mark) (marks-of : (i : ℕ) (x : A) (at : ℕ) → marks i x at ≡ change_marks bound i (of x) at)
       (filledIn : A → B) (units : B → List U) (names : B → List ℕ)
-      (units_of : (x : A) (g : Fault) → units_in (change_read (of x) g) ≡ length (units (filledIn x)))
-      (names_of : (x : A) (g : Fault) → text_in (change_read (of x) g) ≡ length (names (filledIn x)))
+      (units_of : (x : A) (g : Option Refusal) → units_in (change_read (of x) g) ≡ length (units (filledIn x)))
+      (names_of : (x : A) (g : Option Refusal) → text_in (change_read (of x) g) ≡ length (names (filledIn x)))
       (k : List ℕ) (e : EndsChanges k) (end : ℕ) where
     -- one more
     row_turn : (x : A) (a : Sums) (j : List ℕ) → EndsFormula j → length (text x ++ j) ≤ end
@@ -109,13 +110,13 @@ module _ {A : Type 0} {m : ℕ} (of : A → Spelled m) (text : A → List ℕ) (
         ∙ ap (λ (w : List ℕ). changes_from bound end w b) (drop-append_seam (text x) j)
         ∙ row_walk xs b (omega arith)
         ∙ ap (λ (c : Sums). walked k c)
-        (ap₂ (λ (n : ℕ) (f : Fault). sums n (a.units + length y + length ys) (a.text + length z + length zs) f) (omega arith)
+        (ap₂ (λ (n : ℕ) (f : Option Refusal). sums n (a.units + length y + length ys) (a.text + length z + length zs) f) (omega arith)
         (ap (λ (i : ℕ). after b.fault (row_marks text marks (a.n + 1) xs i)) q
         ∙ sym (after_append a.fault (marks a.n x at) (row_marks text marks (a.n + 1) xs (at + length (text x)))))
         ∙ ap₂ (λ (y z : ℕ). sums (a.n + length (x ∷ xs)) y z (after a.fault (row_marks text marks a.n (x ∷ xs) at)))
         (omega (arith, length-append y ys)) (omega (arith, length-append z zs)))
 
-    pub row_read : (xs : List A) (f : Fault) → length (flat text xs ++ k) ≤ end
+    pub row_read : (xs : List A) (f : Option Refusal) → length (flat text xs ++ k) ≤ end
         → changes_of bound end (flat text xs ++ k) f
         ≡ record {
           n = length xs;

@@ -3,26 +3,25 @@
 #![tactic(auto)]
 
 ghost use Rattle.std.specs.Prelude.{◌≡◌};
-ghost use Rattle.read_changes.specs.Changes.{head_fault, change_with, content_of, change_of, units_in, text_in};
+ghost use Rattle.read_changes.specs.Changes.{head_fault, change_with, content_of, change_of};
 ghost use Rattle.read_changes.specs.Rows.{changes_of};
 
-use faults::{Fault, check_count, check_number};
+use changes::{Content, Sign};
+use faults::{Refusal, check_count, check_number};
 use limits::MAX_COUNT;
 use read_formula::{begins_unit, formula};
 use read_opening::{Head, begins_change, name_in_brackets, read_head};
 use slices::{advance, begins_with, minus_or_zero, rest};
 
-// A loss or an adduct item. Kind 0: a formula of `size` units; 1: a name of `size` bytes; 2: an electron. The formula, or the bracket
-// before the name, begins `start` bytes behind the sign.
+// A loss or an adduct item. The formula, or the bracket before the name, begins `start` bytes behind the sign.
 #[derive(Clone, Copy)]
 pub struct ChangeRead {
-    pub sign: u8,
-    pub kind: u8,
+    pub sign: Sign,
     pub count: u32,
     pub start: usize,
-    pub size: usize,
+    pub content: Content,
     pub len: usize,
-    pub fault: Fault,
+    pub fault: Option<Refusal>,
 }
 
 // Losses, or adduct items: how many, how many units and name bytes they have in all, how many bytes, and the first broken limit.
@@ -32,11 +31,18 @@ pub struct Row {
     pub units: usize,
     pub text: usize,
     pub len: usize,
-    pub fault: Fault,
+    pub fault: Option<Refusal>,
 }
 
 // The limits of sign and count, where `i` stand before this one and no more than `bound` may stand in all.
-fn head_fault(bound: usize, i: usize, h: Head, end: usize, left: usize, f: Fault) -> Fault
+fn head_fault(
+    bound: usize,
+    i: usize,
+    h: Head,
+    end: usize,
+    left: usize,
+    f: Option<Refusal>,
+) -> Option<Refusal>
     ensures { result ≡ head_fault bound i h end left f }
 {
     let g = check_count(f, bound, i, minus_or_zero(end, left));
@@ -49,40 +55,39 @@ fn head_fault(bound: usize, i: usize, h: Head, end: usize, left: usize, f: Fault
 }
 
 // A loss or adduct item with its head, as far as the part goes.
-fn with_head(s: &[u8], h: Head, kind: u8, size: usize, len: usize, fault: Fault) -> ChangeRead
-    ensures { result ≡ change_with s.now h kind size len fault }
+fn with_head(s: &[u8], h: Head, content: Content, len: usize, fault: Option<Refusal>) -> ChangeRead
+    ensures { result ≡ change_with s.now h content len fault }
 {
     ChangeRead {
         sign: h.sign,
-        kind,
         count: h.count,
         start: h.len,
-        size,
+        content,
         len: advance(h.len, len, s.len()),
         fault,
     }
 }
 
 // What stands behind sign and count.
-fn read_content(s: &[u8], h: Head, end: usize, f: Fault) -> ChangeRead
+fn read_content(s: &[u8], h: Head, end: usize, f: Option<Refusal>) -> ChangeRead
     ensures { result ≡ content_of end s.now h f }
 {
     let t = rest(s, h.len);
     if begins_unit(t) {
         let x = formula(t, end, f);
         let g = x.fault;
-        return with_head(s, h, 0, x.units, x.len, g);
+        return with_head(s, h, Content::Formula { units: x.units }, x.len, g);
     }
     if begins_with(t, b'[') {
         let x = name_in_brackets(t, end, f);
         let g = x.fault;
-        return with_head(s, h, 1, x.size, x.len, g);
+        return with_head(s, h, Content::Name { bytes: x.size }, x.len, g);
     }
-    with_head(s, h, 2, 0, 1, f)
+    with_head(s, h, Content::Electron, 1, f)
 }
 
 // The loss or adduct item that a part begins with.
-pub fn read_change(bound: usize, i: usize, s: &[u8], end: usize, f: Fault) -> ChangeRead
+pub fn read_change(bound: usize, i: usize, s: &[u8], end: usize, f: Option<Refusal>) -> ChangeRead
     ensures { result ≡ change_of bound i end s.now f }
 {
     let h = read_head(s);
@@ -90,28 +95,8 @@ pub fn read_change(bound: usize, i: usize, s: &[u8], end: usize, f: Fault) -> Ch
     read_content(s, h, end, g)
 }
 
-// How many units it stores.
-pub fn units_in(x: ChangeRead) -> usize
-    ensures { result ≡ units_in x }
-{
-    if x.kind == 0 {
-        return x.size;
-    }
-    0
-}
-
-// How many name bytes it stores.
-pub fn text_in(x: ChangeRead) -> usize
-    ensures { result ≡ text_in x }
-{
-    if x.kind == 1 {
-        return x.size;
-    }
-    0
-}
-
 // All that a part begins with.
-pub fn read_changes(bound: usize, s: &[u8], end: usize, f: Fault) -> Row
+pub fn read_changes(bound: usize, s: &[u8], end: usize, f: Option<Refusal>) -> Row
     ensures { result ≡ changes_of bound end s.now f }
 {
     let mut at: usize = 0;
@@ -123,8 +108,8 @@ pub fn read_changes(bound: usize, s: &[u8], end: usize, f: Fault) -> Row
         let x = read_change(bound, n, rest(s, at), end, fault);
         let g = x.fault;
         fault = g;
-        units += units_in(x);
-        text += text_in(x);
+        units += x.content.units();
+        text += x.content.name_bytes();
         at += x.len;
         n += 1;
     }

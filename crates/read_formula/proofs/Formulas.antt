@@ -5,6 +5,7 @@ use mathlib.Core.Bool.{true, false}
 use mathlib.Core.List.{List, [], ◌∷◌, ◌++◌, append_assoc}
 use native.Mathlib.Omega.{arith}
 use lib.ListN.{length, length-append}
+use Rattle.std.specs.Prelude.{Option}
 use Rattle.lang.specs.Parts.{items, flat}
 use Rattle.lang.specs.Walk.{Walked, walked, folded}
 use Rattle.lang.proofs.Walks.{walk_spelled}
@@ -13,7 +14,7 @@ use Rattle.rules.specs.Texts.{first_in}
 use Rattle.rules.specs.Formulas.{Written, FormulaUnit, plain, labelled, unit_text, Formula, formula_text}
 use Rattle.rules.specs.Limits.{unit_marks, formula_part}
 use Rattle.elements.specs.Symbols.{small}
-use Rattle.faults.specs.declared.Fault.{Fault}
+use Rattle.faults.specs.declared.Refusal.{Refusal}
 use Rattle.read_formula.specs.declared.UnitSpan.{UnitSpan}
 use Rattle.faults.specs.Faults.{after}
 use Rattle.read_formula.specs.Units.{begins_unit, span_of, unit_fault}
@@ -41,7 +42,7 @@ unit_long (plain s c) = refl
 unit_long (labelled a s c) = refl
 
 -- the fault after a unit, by how many bytes are left where it begins
-abbrev tell_unit : ℕ → Fault → FormulaUnit Written → ℕ → ℕ → Fault
+abbrev tell_unit : ℕ → Option Refusal → FormulaUnit Written → ℕ → ℕ → Option Refusal
 tell_unit end f u i left = unit_fault f (unit_span u) i end left
 
 unit_turns : (end : ℕ) (a : Counted) (u : FormulaUnit Written) (us : List (FormulaUnit Written)) (k : List ℕ) → EndsFormula k
@@ -60,7 +61,7 @@ units_read us k end a e =
     (λ u us k e. unit_size_lem (unit_text u ++ (flat unit_text us ++ k)) ∙ ap (λ (r : UnitSpan). r.len) (unit_here u us k e) ∙ unit_long u)
     (unit_turns end) us k a e
 
-pub formula_read : (x : Formula Written) (k : List ℕ) (end : ℕ) (f : Fault) → EndsFormula k → length (formula_text x ++ k) ≤ end
+pub formula_read : (x : Formula Written) (k : List ℕ) (end : ℕ) (f : Option Refusal) → EndsFormula k → length (formula_text x ++ k) ≤ end
     → formula_of end (formula_text x ++ k) f ≡ record { units = length (items x); len = length (formula_text x); fault = after f ((formula_part x).marks (end - length (formula_text x ++ k))) }
 unfolding formula_of
 formula_read x k end f e h =
@@ -88,6 +89,6 @@ formula_no_small x k = rw (append_assoc (unit_text x.first) (flat unit_text x.mo
 
 -- ---- of any text
 
-pub formula_within : (end : ℕ) (s : List ℕ) (f : Fault) → (formula_of end s f).len ≤ length s
+pub formula_within : (end : ℕ) (s : List ℕ) (f : Option Refusal) → (formula_of end s f).len ≤ length s
 unfolding formula_of
 formula_within end s f = omega arith

@@ -6,23 +6,24 @@ use mathlib.Core.List.{List}
 use native.Mathlib.Omega.{arith}
 use lib.ListN.{length, drop, length-drop}
 use lib.Seq.{drop-drop}
+use Rattle.std.specs.Prelude.{Option}
 use Rattle.lang.proofs.Walks.{walk_on, walk_ends}
-use Rattle.faults.specs.declared.Fault.{Fault}
+use Rattle.faults.specs.declared.Refusal.{Refusal}
 use Rattle.read_formula.specs.declared.UnitSpan.{UnitSpan}
 use Rattle.read_formula.specs.Units.{begins_unit, span_of, unit_of, unit_fault}
 use Rattle.read_formula.specs.Formulas.{Counted, counted, unit_size, count_unit, units_from, formula_of}
 use Rattle.read_formula.proofs.Measures.{unit_size_lem, unit_moves}
 
 -- the first `at` bytes are n units, and g is the fault after them
-pub record Passed (end : ℕ) (s : List ℕ) (f : Fault) (at n : ℕ) (g : Fault) : Type 0 where
+pub record Passed (end : ℕ) (s : List ℕ) (f : Option Refusal) (at n : ℕ) (g : Option Refusal) : Type 0 where
   pub inside : at ≤ length s
   pub few : n ≤ at
   pub is : units_from end s (counted 0 f) ≡ units_from end (drop at s) (counted n g)
 
-pub begin : {end : ℕ} {s : List ℕ} {f : Fault} → Passed end s f 0 0 f
+pub begin : {end : ℕ} {s : List ℕ} {f : Option Refusal} → Passed end s f 0 0 f
 begin = record { inside = omega arith; few = omega arith; is = refl }
 
-module _ {end : ℕ} {s : List ℕ} {f : Fault} {at n : ℕ} {g : Fault} (p : Passed end s f at n g) {r : List ℕ} (pr : r ≡ drop at s) where
+module _ {end : ℕ} {s : List ℕ} {f : Option Refusal} {at n : ℕ} {g : Option Refusal} (p : Passed end s f at n g) {r : List ℕ} (pr : r ≡ drop at s) where
   -- a unit stands here, and takes up a byte or more of what is left
   pub moves : {q : List ℕ} {u : UnitSpan} → begins_unit r ≡ true → q ≡ drop at s → u ≡ span_of q → (at + 1 ≤ at + u.len) × (at + u.len ≤ length s)
   moves {q} {u} e pq pu =
@@ -31,7 +32,7 @@ module _ {end : ℕ} {s : List ℕ} {f : Fault} {at n : ℕ} {g : Fault} (p : Pa
       let i = p.inside in
       (omega arith, omega (arith, length-drop at s))
 
-  pub turn : {q : List ℕ} {u : UnitSpan} {h : Fault} → begins_unit r ≡ true → q ≡ drop at s → u ≡ span_of q → h ≡ unit_fault g u n end (length s - at) → Passed end s f (at + u.len) (n + 1) h
+  pub turn : {q : List ℕ} {u : UnitSpan} {h : Option Refusal} → begins_unit r ≡ true → q ≡ drop at s → u ≡ span_of q → h ≡ unit_fault g u n end (length s - at) → Passed end s f (at + u.len) (n + 1) h
   unfolding count_unit
   turn {q} {u} {h} e pq pu ph =
       let t = drop at s in

@@ -1,13 +1,13 @@
 -- The unit that bytes begin with, and its limits. Places are counted from the end: in a text of `end` bytes of which `left` are left,
 -- the next stands at end - left. Assumes nothing.
-use Rattle.std.specs.Prelude.{ℕ, ◌+◌, ◌-◌, min, Bool, cond, ◌&&◌, ◌||◌, List, ◌∷◌, ◌++◌, eqb, length, drop}
+use Rattle.std.specs.Prelude.{ℕ, ◌+◌, ◌-◌, min, Bool, cond, ◌&&◌, ◌||◌, List, ◌∷◌, ◌++◌, eqb, length, drop, Option}
 use Rattle.rules.specs.Bytes.{bytes, digit, capital}
 use Rattle.rules.specs.Texts.{first_in, starts_with}
 use Rattle.rules.specs.Limits.{max_units, max_count, number_mark, many_mark}
 use Rattle.numbers.specs.Leading.{number_of}
 use Rattle.numbers.specs.declared.Number.{Number}
 use Rattle.elements.specs.Symbols.{element_of}
-use Rattle.faults.specs.declared.Fault.{Fault}
+use Rattle.faults.specs.declared.Refusal.{Refusal}
 use Rattle.read_formula.specs.declared.UnitRead.{UnitRead}
 use Rattle.read_formula.specs.declared.UnitSpan.{UnitSpan}
 use Rattle.faults.specs.Faults.{after}
@@ -52,10 +52,10 @@ unfoldable pub unit_of : List ℕ → UnitRead
 unit_of s = let u = span_of s in unit_with u (element_of (drop u.symbol_at s)).number
 
 -- the limits of number i of at most `most` things in a row, each with two numbers, one a byte behind its beginning, the other `at` bytes behind it
-unfoldable pub numbers_fault : Fault → ℕ → ℕ → ℕ → ℕ → ℕ → ℕ → ℕ → Fault
+unfoldable pub numbers_fault : Option Refusal → ℕ → ℕ → ℕ → ℕ → ℕ → ℕ → ℕ → Option Refusal
 numbers_fault f most i first second at end left =
     after f (many_mark most i (end - left) ∷ (number_mark max_count first (end - (left - 1)) ++ number_mark max_count second (end - (left - at))))
 
 -- the limits of unit number i of a formula
-abbrev pub unit_fault : Fault → UnitSpan → ℕ → ℕ → ℕ → Fault
+abbrev pub unit_fault : Option Refusal → UnitSpan → ℕ → ℕ → ℕ → Option Refusal
 unit_fault f u i end left = numbers_fault f max_units i u.nucleons u.count u.count_at end left

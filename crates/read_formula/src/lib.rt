@@ -5,12 +5,12 @@ ghost use Rattle.std.specs.Prelude.{◌≡◌, ◌∷◌, [], ◌+◌, ◌-◌, 
 ghost use Rattle.lang.specs.Re.{rng};
 ghost use Rattle.rules.specs.Limits.{number_mark, many_mark};
 ghost use Rattle.rules.specs.Texts.{first_in, starts_with};
-ghost use Rattle.faults.specs.Faults.{numbered, join, after};
+ghost use Rattle.faults.specs.Faults.{join, after};
 ghost use Rattle.read_formula.specs.Units.{begins_unit, or_one, plain_span, labelled_span, span_of, unit_of, numbers_fault};
 ghost use Rattle.read_formula.specs.Formulas.{formula_of};
 
 use elements::{read_element, symbol_len};
-use faults::{Fault, check_count, check_number};
+use faults::{Refusal, check_count, check_number};
 use limits::{MAX_COUNT, MAX_UNITS};
 use numbers::{Number, read_number};
 use slices::{begins_in, begins_with, minus_or_zero, rest};
@@ -42,7 +42,7 @@ pub struct UnitSpan {
 pub struct FormulaRead {
     pub units: usize,
     pub len: usize,
-    pub fault: Fault,
+    pub fault: Option<Refusal>,
 }
 
 // ---- parts and limits
@@ -143,7 +143,7 @@ pub fn unit(s: &[u8]) -> UnitRead
 // The limits of number i of at most `most` things in a row, each with two numbers, one a byte behind its beginning, the other `at` bytes
 // behind it; `left` of the line's `end` bytes are left where it begins.
 pub fn numbers_fault(
-    f: Fault,
+    f: Option<Refusal>,
     most: usize,
     i: usize,
     first: u32,
@@ -151,7 +151,7 @@ pub fn numbers_fault(
     at: usize,
     end: usize,
     left: usize,
-) -> Fault
+) -> Option<Refusal>
     ensures { result ≡ numbers_fault f most i first second at end left }
 {
     let g = check_count(f, most, i, minus_or_zero(end, left));
@@ -170,7 +170,7 @@ pub fn numbers_fault(
 }
 
 // The units that a part begins with, where the part is the rest of a line of `end` bytes.
-pub fn formula(s: &[u8], end: usize, f: Fault) -> FormulaRead
+pub fn formula(s: &[u8], end: usize, f: Option<Refusal>) -> FormulaRead
     ensures { result ≡ formula_of end s.now f }
 {
     let mut at: usize = 0;

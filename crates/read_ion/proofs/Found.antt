@@ -1,25 +1,23 @@
--- What the code finds of a series, of a modification, and of the first byte. Assumes nothing.
+-- What the code finds of a series, of an internal ion, and of the first byte. Assumes nothing.
 use Prim.Native.Nat.{ℕ, ◌+◌, ◌-◌, ◌≤◌, min}
 use mathlib.Core.Path.{◌≡◌, refl, sym, ap, ◌∙◌}
-use mathlib.Core.Bool.{Bool, true, false, not, ◌&&◌, ◌||◌}
 use mathlib.Core.List.{List, [], ◌∷◌}
-use lib.Dec.{eqb}
 use lib.ListN.{length, get_or, drop, get_or-eq_default}
-use borrow.Author.Tests.{eq-eqb, ne_eqb}
-use Rattle.rules.specs.Bytes.{bytes}
-use Rattle.rules.specs.Texts.{starts_with}
-use Rattle.read_ion.specs.Letters.{place_from, one_letter, two_letters, letters_of}
+use borrow.Author.Tests.{ne_eqb}
+use Rattle.std.specs.Prelude.{Option, Some, None}
+use Rattle.read_ion.specs.declared.IonKind.TheVariants as kinds
+use Rattle.read_ion.specs.Letters.{one_letter, two_letters, letters_of}
 use Rattle.rules.specs.Limits.{max_position, number_mark}
 use Rattle.numbers.specs.declared.Number.{Number}
 use Rattle.numbers.specs.Leading.{number_of}
-use Rattle.faults.specs.declared.Fault.{Fault}
+use Rattle.faults.specs.declared.Refusal.{Refusal}
 use Rattle.faults.specs.Faults.{after}
 use Rattle.read_opening.specs.declared.Enclosed.{Enclosed}
 use Rattle.read_opening.specs.Enclosed.{text_of}
 use Rattle.read_ion.specs.declared.IonRead.{IonRead}
 use Rattle.read_ion.specs.declared.CutRead.{CutRead}
 use Rattle.read_ion.specs.Cuts.{cut_of}
-use Rattle.read_ion.specs.Kinds.{with_text, opens_modification, series_of, internal_of}
+use Rattle.read_ion.specs.Kinds.{with_text, series_of, internal_of}
 use Rattle.read_ion.specs.Ions.{ion_by, ion_of}
 
 -- ---- letters
@@ -32,77 +30,34 @@ abbrev pub NoneOf : ℕ → List ℕ → Type 0
 NoneOf b [] = Unit {0}
 NoneOf b (k ∷ ks) = NoneOf b ks × (b ≡ k → ⊥)
 
-pub letter_is : {b : ℕ} (k : ℕ) → b ≡ k → one_letter k ≡ one_letter b
-letter_is k e = ap one_letter (sym e)
-
-pub no_letter : {b : ℕ} → NoneOf b (122 ∷ 121 ∷ 120 ∷ 119 ∷ 118 ∷ 100 ∷ 99 ∷ 98 ∷ 97 ∷ []) → 0 ≡ one_letter b
-unfolding one_letter place_from
-no_letter {b} (((((((((u, n1), n2), n3), n4), n5), n6), n7), n8), n9) =
-    rw (ne_eqb b 97 n1, ne_eqb b 98 n2, ne_eqb b 99 n3, ne_eqb b 100 n4, ne_eqb b 118 n5, ne_eqb b 119 n6, ne_eqb b 120 n7, ne_eqb b 121 n8, ne_eqb b 122 n9)
-
-module _ (s : List ℕ) {a b two : ℕ} (pa : a ≡ get_or s 0 0) (pb : b ≡ get_or s 1 0) (pt : two ≡ two_letters a b) where
-  pub letters_two : (two ≡ 0 → ⊥) → record { letter = two; len = 2 } ≡ letters_of s
+module _ (s : List ℕ) {a b : ℕ} {two : Option ℕ} (pa : a ≡ get_or s 0 0) (pb : b ≡ get_or s 1 0) (pt : two ≡ two_letters a b) where
+  pub letters_two : {n : ℕ} → two ≡ Some n → record { letter = Some n; len = 2 } ≡ letters_of s
   unfolding letters_of
-  letters_two h = rw (← pa, ← pb, ← pt, ne_eqb two 0 h)
+  letters_two h = rw (← pa, ← pb, ← pt, h)
 
-  pub letters_one : {one : ℕ} → two ≡ 0 → one ≡ one_letter a → (one ≡ 0 → ⊥) → record { letter = one; len = 1 } ≡ letters_of s
+  pub letters_one : {one : Option ℕ} {n : ℕ} → two ≡ None → one ≡ one_letter a → one ≡ Some n → record { letter = Some n; len = 1 } ≡ letters_of s
   unfolding letters_of
-  letters_one {one} z po h = rw (← pa, ← pb, ← pt, eq-eqb two 0 z, ← po, ne_eqb one 0 h)
+  letters_one z po h = rw (← pa, ← pb, ← pt, z, ← po, h)
 
-  pub letters_none : {one : ℕ} → two ≡ 0 → one ≡ one_letter a → one ≡ 0 → record { letter = 0; len = 0 } ≡ letters_of s
+  pub letters_none : {one : Option ℕ} → two ≡ None → one ≡ one_letter a → one ≡ None → record { letter = None; len = 0 } ≡ letters_of s
   unfolding letters_of
-  letters_none {one} z po h = rw (← pa, ← pb, ← pt, eq-eqb two 0 z, ← po, eq-eqb one 0 h)
-
--- ---- modifications, byte by byte
-
-sign_behind : (s : List ℕ) → starts_with (bytes "M+") s || starts_with (bytes "M-") s ≡ starts_with (bytes "M") s && (starts_with (bytes "+") (drop 1 s) || starts_with (bytes "-") (drop 1 s))
-sign_behind [] = refl
-sign_behind (b ∷ s) = by (eqb 77 b) (starts_with (bytes "+") s) (starts_with (bytes "-") s)
-  where
-    by : (y u v : Bool) → (y && u) || (y && v) ≡ (y && true) && (u || v)
-    by true u v = refl
-    by false u v = refl
-
-pub opens_is : (s : List ℕ)
-    → opens_modification s ≡ starts_with (bytes "[") s && not (starts_with (bytes "M") (drop 1 s) && (starts_with (bytes "+") (drop 2 s) || starts_with (bytes "-") (drop 2 s)))
-unfolding opens_modification
-opens_is [] = refl
-opens_is (a ∷ s) = by (eqb 91 a) (starts_with (bytes "M+") s) (starts_with (bytes "M-") s) (sign_behind s)
-  where
-    by : (x p q : Bool) {r : Bool} → p || q ≡ r → (x && true) && not ((x && p) || (x && q)) ≡ (x && true) && not r
-    by true p q e = ap not e
-    by false p q e = refl
-
-module _ (s : List ℕ) where
-  pub no_bracket : starts_with (bytes "[") s ≡ false → false ≡ opens_modification s
-  no_bracket e = sym (opens_is s ∙ rw e)
-
-  module _ (e : starts_with (bytes "[") s ≡ true) {r : List ℕ} (pr : r ≡ drop 1 s) where
-    pub no_m : starts_with (bytes "M") r ≡ false → true ≡ opens_modification s
-    no_m p = sym (opens_is s ∙ rw (e, ← pr, p))
-
-    module _ (p : starts_with (bytes "M") r ≡ true) {q : List ℕ} (pq : q ≡ drop 2 s) where
-      pub m_plus : starts_with (bytes "+") q ≡ true → false ≡ opens_modification s
-      m_plus u = sym (opens_is s ∙ rw (e, ← pr, p, ← pq, u))
-
-      pub m_other : starts_with (bytes "+") q ≡ false → {t : List ℕ} {v : Bool} → t ≡ drop 2 s → v ≡ starts_with (bytes "-") t → not v ≡ opens_modification s
-      m_other u pt pv = sym (opens_is s ∙ rw (pv, pt, e, ← pr, p, ← pq, u))
+  letters_none z po h = rw (← pa, ← pb, ← pt, z, ← po, h)
 
 -- ---- an internal ion, call by call
 
-module _ (s : List ℕ) (end : ℕ) (f : Fault) {u r q t : List ℕ} {c : CutRead} {a b : Number} {g h : Fault} {from l m l₂ m₂ colon p at : ℕ} {x : Enclosed} {i : IonRead}
+module _ (s : List ℕ) (end : ℕ) (f : Option Refusal) {u r q t : List ℕ} {c : CutRead} {a b : Number} {g h : Option Refusal} {from l m l₂ m₂ colon p at : ℕ} {x : Enclosed} {i : IonRead}
     (pu : u ≡ drop 1 s) (pk : c ≡ cut_of u) (po : from ≡ min (1 + c.len) (length s))
     (pr : r ≡ drop from s) (pa : a ≡ number_of r) (pl : l ≡ length s - from) (pm : m ≡ end - l) (pg : g ≡ after f (number_mark max_position a.value m))
     (pc : colon ≡ min (from + a.len) (length s)) (pp : p ≡ min (colon + 1) (length s)) (pq : q ≡ drop p s) (pb : b ≡ number_of q)
     (pl₂ : l₂ ≡ length s - p) (pm₂ : m₂ ≡ end - l₂) (ph : h ≡ after g (number_mark max_position b.value m₂))
     (pat : at ≡ min (p + b.len) (length s)) (pt : t ≡ drop at s) (px : x ≡ text_of end t h) where
-  pub internal_is : i ≡ with_text 2 c.held a.value b.value at x (length s) → i ≡ internal_of end s f
+  pub internal_is : i ≡ with_text kinds.Internal c.held a.value b.value at x (length s) → i ≡ internal_of end s f
   unfolding internal_of
   internal_is pi = pi ∙ rw (← pu, ← pk, ← po, ← pr, ← pa, ← pl, ← pm, ← pg, ← pc, ← pp, ← pq, ← pb, ← pl₂, ← pm₂, ← ph, ← pat, ← pt, ← px)
 
 -- ---- ions, by the first byte
 
-module _ (s : List ℕ) (end : ℕ) (f : Fault) {b : ℕ} (pb : b ≡ get_or s 0 0) where
+module _ (s : List ℕ) (end : ℕ) (f : Option Refusal) {b : ℕ} (pb : b ≡ get_or s 0 0) where
   pub first_is : (k : ℕ) → b ≡ k → ion_by k end s f ≡ ion_of end s f
   unfolding ion_of
   first_is k e = ap (λ (x : ℕ). ion_by x end s f) (sym e ∙ pb)

@@ -5,6 +5,7 @@ use mathlib.Core.List.{List, [], ◌∷◌, ◌++◌}
 use native.Mathlib.Omega.{arith}
 use lib.ListN.{length, drop, length-append}
 use lib.Seq.{drop-drop, drop-append_seam, drop-append-add}
+use Rattle.std.specs.Prelude.{Option}
 use Rattle.lang.specs.Parts.{Opt, opt_text, word_of}
 use Rattle.lang.specs.Mark.{marks_of}
 use Rattle.rules.specs.Numbers.{Number, number_text}
@@ -14,11 +15,12 @@ use Rattle.rules.specs.Fields.{filled_cut}
 use Rattle.rules.specs.Stored.{bytes_of, held_cut}
 use Rattle.rules.specs.Limits.{max_position, number_mark, opt_part, closed_part, ion_parts}
 use Rattle.numbers.proofs.SpelledNumbers.{number_begins, number_read}
-use Rattle.faults.specs.declared.Fault.{Fault}
+use Rattle.faults.specs.declared.Refusal.{Refusal}
 use Rattle.faults.specs.Faults.{after}
 use Rattle.read_formula.proofs.Spelled.{capped}
 use Rattle.read_formula.proofs.Limits.{mark_told}
 use Rattle.read_opening.proofs.SpelledOpenings.{text_read}
+use Rattle.read_ion.specs.declared.IonKind.TheVariants as kinds
 use Rattle.read_ion.specs.Kinds.{series_of, internal_of}
 use Rattle.read_ion.specs.Ions.{ion_by, ion_of}
 use Rattle.read_ion.proofs.OneIon.{ion_read, ended}
@@ -44,8 +46,8 @@ module _ (s : Series) (n : Number) (t : Opt Text) (k : List ℕ) where
       sym (drop-drop (length (number_text n)) (length (word_of s)) series_on) ∙ ap (drop (length (number_text n))) (drop-append_seam (word_of s) (number_text n ++ text_on))
       ∙ drop-append_seam (number_text n) text_on
 
-  module _ (end : ℕ) (f : Fault) where
-    abbrev series_mark : ℕ → Fault
+  module _ (end : ℕ) (f : Option Refusal) where
+    abbrev series_mark : ℕ → Option Refusal
     series_mark at = after f (number_mark max_position n.value at)
 
     series_fault : length series_on ≤ end
@@ -53,7 +55,7 @@ module _ (s : Series) (n : Number) (t : Opt Text) (k : List ℕ) where
         ≡ after f (marks_of (end - length series_on) (ion_parts (series s n t)))
     series_fault h =
         let l = series_long in
-        ap₂ (λ (g : Fault) (at : ℕ). after g ((opt_part (closed_part braced_text) t).marks at))
+        ap₂ (λ (g : Option Refusal) (at : ℕ). after g ((opt_part (closed_part braced_text) t).marks at))
         (mark_told f max_position n.value (end - (length series_on - length (word_of s))) (end - length series_on + length (word_of s)) (omega arith) (omega arith))
         (let a : end - length text_on ≡ end - length series_on + length (word_of s) + length (number_text n) = omega arith in a)
         ∙ ended (series_mark (end - length series_on + length (word_of s))) ((opt_part (closed_part braced_text) t).marks (end - length series_on + length (word_of s) + length (number_text n)))
@@ -75,8 +77,8 @@ module _ (s : Series) (n : Number) (t : Opt Text) (k : List ℕ) where
           series_start,
           text_read t k end (after f (number_mark max_position (capped n.value) (end - (length series_on - length (word_of s))))) e.no_brace o,
         )
-        (ap₂ (λ (l : ℕ) (g : Fault).
-        record { kind = 1; letter = s.which + 1; position = capped n.value; last = 0; start = length (word_of s) + length (number_text n); units = 0; text = length (bytes_of t); len = l; fault = g })
+        (ap₂ (λ (l : ℕ) (g : Option Refusal).
+        record { kind = kinds.Series; letter = s.which + 1; position = capped n.value; last = 0; start = length (word_of s) + length (number_text n); units = 0; text = length (bytes_of t); len = l; fault = g })
         (let z : min (length (word_of s) + length (number_text n) + length (opt_text braced_text t)) (length series_on) ≡ length (ion_text (series s n t)) = omega arith in z)
         (series_fault h))
 
@@ -117,12 +119,12 @@ module _ (c : Letters) (m n : Number) (t : Opt Text) (k : List ℕ) where
   internal_start =
       sym (drop-drop (length (number_text n)) (1 + length letters + length (number_text m) + 1) internal_on) ∙ ap (drop (length (number_text n))) second_start ∙ drop-append_seam (number_text n) tail_on
 
-  module _ (end : ℕ) (f : Fault) where
+  module _ (end : ℕ) (f : Option Refusal) where
     -- the fault behind each number
-    abbrev first_told : ℕ → ℕ → Fault
+    abbrev first_told : ℕ → ℕ → Option Refusal
     first_told v at = after f (number_mark max_position v at)
 
-    abbrev both_told : ℕ → ℕ → ℕ → ℕ → Fault
+    abbrev both_told : ℕ → ℕ → ℕ → ℕ → Option Refusal
     both_told v at w at₂ = after (first_told v at) (number_mark max_position w at₂)
 
     abbrev first_place : ℕ
@@ -140,8 +142,8 @@ module _ (c : Letters) (m n : Number) (t : Opt Text) (k : List ℕ) where
         let q = p + length (number_text m) + 1 in
         let a : end - length tail_on ≡ q + length (number_text n) = omega arith in
         let b : second_place ≡ q = omega arith in
-        ap₂ (λ (g : Fault) (at : ℕ). after g ((opt_part (closed_part braced_text) t).marks at))
-        (ap (λ (g : Fault). after g (number_mark max_position (capped n.value) second_place)) (mark_told f max_position m.value first_place p (omega arith) (omega arith))
+        ap₂ (λ (g : Option Refusal) (at : ℕ). after g ((opt_part (closed_part braced_text) t).marks at))
+        (ap (λ (g : Option Refusal). after g (number_mark max_position (capped n.value) second_place)) (mark_told f max_position m.value first_place p (omega arith) (omega arith))
         ∙ mark_told (first_told m.value p) max_position n.value second_place q (omega arith) b)
         a
         ∙ ended (both_told m.value p n.value q) ((opt_part (closed_part braced_text) t).marks (q + length (number_text n)))
@@ -174,8 +176,8 @@ module _ (c : Letters) (m n : Number) (t : Opt Text) (k : List ℕ) where
           internal_start,
           text_read t k end (both_told (capped m.value) first_place (capped n.value) second_place) e.no_brace o,
         )
-        (ap₂ (λ (l : ℕ) (g : Fault).
-        record { kind = 2; letter = held_cut (filled_cut c); position = capped m.value; last = capped n.value; start = 1 + length letters + length (number_text m) + 1 + length (number_text n); units = 0; text = length (bytes_of t); len = l; fault = g })
+        (ap₂ (λ (l : ℕ) (g : Option Refusal).
+        record { kind = kinds.Internal; letter = held_cut (filled_cut c); position = capped m.value; last = capped n.value; start = 1 + length letters + length (number_text m) + 1 + length (number_text n); units = 0; text = length (bytes_of t); len = l; fault = g })
         z (internal_fault h))
 
     pub internal_read : EndsIon k → length internal_on ≤ end → ion_of end internal_on f ≡ ion_read (internal c m n t) (after f (marks_of (end - length internal_on) (ion_parts (internal c m n t))))

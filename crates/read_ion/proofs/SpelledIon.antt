@@ -4,6 +4,7 @@ use mathlib.Core.Path.{◌≡◌, refl, sym, ap, ◌∙◌, subst}
 use mathlib.Core.List.{List, [], ◌∷◌, ◌++◌, append_assoc}
 use lib.ListN.{length, take, drop}
 use lib.Seq.{take-append_seam}
+use Rattle.std.specs.Prelude.{Option}
 use Rattle.lang.specs.Parts.{Opt, silent, written, opt_text, word_of}
 use Rattle.lang.specs.Mark.{marks_of}
 use Rattle.rules.specs.Bytes.{bytes}
@@ -14,7 +15,7 @@ use Rattle.rules.specs.Ions.{Series, Letters, SpelledIon, series, internal, immo
 use Rattle.rules.specs.Fields.{filled, filled_cut}
 use Rattle.rules.specs.Stored.{bytes_of, ion_fields}
 use Rattle.rules.specs.Limits.{ion_parts}
-use Rattle.faults.specs.declared.Fault.{Fault}
+use Rattle.faults.specs.declared.Refusal.{Refusal}
 use Rattle.faults.specs.Faults.{after}
 use Rattle.read_ion.specs.Ions.{ion_of}
 use Rattle.read_ion.proofs.Positions.{series_on, series_start, series_read, internal_on, internal_start, internal_read}
@@ -39,10 +40,10 @@ composed_text x k = ap (λ (w : List ℕ). 102 ∷ (123 ∷ w)) (sym (append_ass
 -- ---- what is read
 
 -- of an ion whose text, with what follows it, is s
-abbrev ReadAs : SpelledIon → ℕ → Fault → List ℕ → Type 0
+abbrev ReadAs : SpelledIon → ℕ → Option Refusal → List ℕ → Type 0
 ReadAs x end f s = length s ≤ end → ion_of end s f ≡ ion_read x (after f (marks_of (end - length s) (ion_parts x)))
 
-pub ion_read_lem : (x : SpelledIon) (k : List ℕ) (end : ℕ) (f : Fault) → EndsIon k → length (ion_text x ++ k) ≤ end
+pub ion_read_lem : (x : SpelledIon) (k : List ℕ) (end : ℕ) (f : Option Refusal) → EndsIon k → length (ion_text x ++ k) ≤ end
     → ion_of end (ion_text x ++ k) f ≡ ion_read x (after f (marks_of (end - length (ion_text x ++ k)) (ion_parts x)))
 ion_read_lem (series s n t) k end f e h = subst (ReadAs (series s n t) end f) (series_text s n t k) (series_read s n t k end f e) h
 ion_read_lem (internal c m n t) k end f e h = subst (ReadAs (internal c m n t) end f) (internal_text c m n t k) (internal_read c m n t k end f e) h
@@ -68,7 +69,7 @@ bracket_text_lem : (m : Opt Modification) (k : List ℕ) → take (length (bytes
 bracket_text_lem silent k = refl
 bracket_text_lem (written m) k = closed_text 91 93 m.bytes k
 
-pub ion_spelled_text : (x : SpelledIon) (k : List ℕ) (f : Fault)
+pub ion_spelled_text : (x : SpelledIon) (k : List ℕ) (f : Option Refusal)
     → take (ion_read x f).text (drop 1 (drop (ion_read x f).start (ion_text x ++ k))) ≡ (ion_fields (ion_map filled filled_cut x)).text
 ion_spelled_text (series s n t) k f =
     ap (λ (w : List ℕ). take (length (bytes_of t)) (drop 1 w)) (ap (drop (length (word_of s) + length (number_text n))) (sym (series_text s n t k)) ∙ series_start s n t k) ∙ braced_text_lem t k
@@ -84,5 +85,5 @@ ion_spelled_text (smiles t) k f = closed_text 123 125 t.bytes k
 ion_spelled_text (unknown n) k f = refl
 
 -- where the formula stands
-pub ion_spelled_formula : (x : Formula Written) (k : List ℕ) (f : Fault) → drop (ion_read (composed x) f).start (ion_text (composed x) ++ k) ≡ formula_text x ++ (bytes "}" ++ k)
+pub ion_spelled_formula : (x : Formula Written) (k : List ℕ) (f : Option Refusal) → drop (ion_read (composed x) f).start (ion_text (composed x) ++ k) ≡ formula_text x ++ (bytes "}" ++ k)
 ion_spelled_formula x k f = append_assoc (formula_text x) (125 ∷ []) k

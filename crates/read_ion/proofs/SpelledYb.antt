@@ -1,6 +1,6 @@
 -- Letters that say yb, which an internal ion means without them: whether they are written. Assumes nothing.
 use Prim.Native.Nat.{ℕ}
-use mathlib.Core.Path.{◌≡◌, refl, sym, ap, ◌∙◌}
+use mathlib.Core.Path.{◌≡◌, refl, ap, ◌∙◌}
 use mathlib.Core.Bool.{Bool, true, false, not, ◌&&◌, beq}
 use mathlib.Core.List.{List, [], ◌∷◌, ◌++◌, map, append_assoc}
 use native.Mathlib.Omega.{arith}
@@ -38,14 +38,6 @@ starts_apart a w (b ∷ s) e = by (eqb a b) e
     by : (x : Bool) → (x && true) ≡ false → false ≡ (x && starts_with w s)
     by true e = absurd (not_t {x = true} e tt)
     by false e = refl
-
-pub starts_behind : (a : ℕ) (w s : List ℕ) → starts_with (a ∷ []) s ≡ true → starts_with w (drop 1 s) ≡ starts_with (a ∷ w) s
-starts_behind a w [] e = absurd (not_t {x = true} (sym e) tt)
-starts_behind a w (b ∷ s) e = by (eqb a b) e
-  where
-    by : (x : Bool) → (x && true) ≡ true → starts_with w s ≡ (x && starts_with w s)
-    by true e = refl
-    by false e = absurd (not_t {x = true} (sym e) tt)
 
 -- ---- of an ion that is spelled
 

@@ -1,3 +1,4 @@
+pub mod Stored
 pub mod Letters
 pub mod Cuts
 pub mod Kinds

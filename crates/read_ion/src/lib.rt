@@ -4,23 +4,47 @@
 ghost use Rattle.std.specs.Prelude.{◌≡◌, get_or};
 ghost use Rattle.rules.specs.Bytes.{bytes};
 ghost use Rattle.rules.specs.Texts.{starts_with};
+ghost use Rattle.read_ion.specs.Stored.{kind_number};
 ghost use Rattle.read_ion.specs.Letters.{one_letter, two_letters, letters_of};
 ghost use Rattle.read_ion.specs.Cuts.{place_in, held_of, cut_of};
 ghost use Rattle.read_ion.specs.Kinds.{with_text, series_of, internal_of, opens_modification, immonium_of, braced_of, reference_of, composed_of, unknown_of, precursor_of};
 ghost use Rattle.read_ion.specs.Ions.{ion_of};
 
-use faults::{Fault, check_number};
+use faults::{Refusal, check_number};
 use limits::MAX_POSITION;
 use numbers::read_number;
 use read_formula::formula;
 use read_opening::{Enclosed, name_in_brackets, text_in_braces};
 use slices::{advance, begins_with, byte_of, minus_or_zero, rest};
 
+// Its kind; the numbers are those that are stored.
+#[derive(Clone, Copy, PartialEq, Eq)]
+pub enum IonKind {
+    Series = 1,
+    Internal = 2,
+    Immonium = 3,
+    Precursor = 4,
+    Reference = 5,
+    Named = 6,
+    Composed = 7,
+    Smiles = 8,
+    Unknown = 9,
+}
+
+impl From<IonKind> for u8 {
+    // As it is stored.
+    fn from(kind: IonKind) -> Self
+        ensures { result ≡ kind_number kind }
+    {
+        kind as u8
+    }
+}
+
 // An ion. Letter: series 1 to 13, the cleavage of an internal ion as a table holds it, or the letter of an immonium ion. Position: position,
 // start or label; last: the end of an internal ion. It has so many units, or bytes of text: the formula, or the brace or bracket before the text, begins at `start`.
 #[derive(Clone, Copy)]
 pub struct IonRead {
-    pub kind: u8,
+    pub kind: IonKind,
     pub letter: u8,
     pub position: u32,
     pub last: u32,
@@ -28,13 +52,13 @@ pub struct IonRead {
     pub units: usize,
     pub text: usize,
     pub len: usize,
-    pub fault: Fault,
+    pub fault: Option<Refusal>,
 }
 
-// A series: 1 to 13 in the listed order, 0 where there is none, and how many bytes.
+// A series: 1 to 13 in the listed order, where there is one, and how many bytes.
 #[derive(Drop)]
 pub struct SeriesRead {
-    pub letter: u8,
+    pub letter: Option<u8>,
     pub len: usize,
 }
 
@@ -46,45 +70,36 @@ pub struct CutRead {
 }
 
 // The series of one letter.
-fn one_letter(b: u8) -> u8
+#[tactic(auto, unfolding(crate::specs::Letters::one_letter, crate::specs::Letters::place_from))]
+fn one_letter(b: u8) -> Option<u8>
     ensures { result ≡ one_letter b }
 {
     match b {
-        b'a' => 1,
-        b'b' => 2,
-        b'c' => 3,
-        b'd' => 4,
-        b'v' => 5,
-        b'w' => 6,
-        b'x' => 7,
-        b'y' => 8,
-        b'z' => 9,
-        _ => 0,
+        b'a' => Some(1),
+        b'b' => Some(2),
+        b'c' => Some(3),
+        b'd' => Some(4),
+        b'v' => Some(5),
+        b'w' => Some(6),
+        b'x' => Some(7),
+        b'y' => Some(8),
+        b'z' => Some(9),
+        _ => None,
     }
 }
 
 // The series of two letters: da, db, wa, wb.
-fn two_letters(a: u8, b: u8) -> u8
+#[tactic(auto, unfolding(crate::specs::Letters::two_letters))]
+fn two_letters(a: u8, b: u8) -> Option<u8>
     ensures { result ≡ two_letters a b }
 {
-    if a == b'd' {
-        if b == b'a' {
-            return 10;
-        }
-        if b == b'b' {
-            return 11;
-        }
-        return 0;
+    match (a, b) {
+        (b'd', b'a') => Some(10),
+        (b'd', b'b') => Some(11),
+        (b'w', b'a') => Some(12),
+        (b'w', b'b') => Some(13),
+        _ => None,
     }
-    if a == b'w' {
-        if b == b'a' {
-            return 12;
-        }
-        if b == b'b' {
-            return 13;
-        }
-    }
-    0
 }
 
 // The series that a part begins with.
@@ -92,27 +107,27 @@ fn series_name(s: &[u8]) -> SeriesRead
     ensures { result ≡ letters_of s.now }
 {
     let a = byte_of(s, 0);
-    let b = byte_of(s, 1);
-    let two = two_letters(a, b);
-    if two != 0 {
-        return SeriesRead {
-            letter: two,
+    match two_letters(a, byte_of(s, 1)) {
+        Some(letter) => SeriesRead {
+            letter: Some(letter),
             len: 2,
-        };
+        },
+        None => match one_letter(a) {
+            Some(letter) => SeriesRead {
+                letter: Some(letter),
+                len: 1,
+            },
+            None => SeriesRead {
+                letter: None,
+                len: 0,
+            },
+        },
     }
-    let one = one_letter(a);
-    if one != 0 {
-        return SeriesRead {
-            letter: one,
-            len: 1,
-        };
-    }
-    SeriesRead { letter: 0, len: 0 }
 }
 
 // An ion with a text in braces or a name in brackets that begins at `at`.
 fn with_text(
-    kind: u8,
+    kind: IonKind,
     letter: u8,
     position: u32,
     last: u32,
@@ -136,8 +151,8 @@ fn with_text(
     }
 }
 
-// 1: series, position, optional text.
-fn series(s: &[u8], end: usize, f: Fault) -> IonRead
+// series, position, optional text.
+fn series(s: &[u8], end: usize, f: Option<Refusal>) -> IonRead
     ensures { result ≡ series_of end s.now f }
 {
     let l = series_name(s);
@@ -150,49 +165,53 @@ fn series(s: &[u8], end: usize, f: Fault) -> IonRead
     );
     let at = advance(l.len, n.len, s.len());
     let x = text_in_braces(rest(s, at), end, g);
-    with_text(1, l.letter, n.value, 0, at, x, s.len())
+    with_text(
+        IonKind::Series,
+        l.letter.unwrap_or(0),
+        n.value,
+        0,
+        at,
+        x,
+        s.len(),
+    )
 }
 
-// Where a byte stands among the three from another on, counted from 1; 0 where it does not.
-fn place_in(b: u8, first: u8) -> u8
+// Where a byte stands among the three from another on, counted from 1.
+#[tactic(auto, unfolding(crate::specs::Cuts::place_in))]
+fn place_in(b: u8, first: u8) -> Option<u8>
     ensures { result ≡ place_in b first }
 {
-    if b < first {
-        return 0;
+    if first <= b && b - first < 3 {
+        Some(b - first + 1)
+    } else {
+        None
     }
-    if b - first < 3 {
-        return b - first + 1;
-    }
-    0
 }
 
 // The number of a cleavage as a table holds it: yb, the fifth, is 0.
+#[tactic(auto, unfolding(crate::specs::Cuts::held_of))]
 fn held_of(n: u8) -> u8
     ensures { result ≡ held_of n }
 {
-    if n == 5 {
-        return 0;
-    }
-    n
+    if n == 5 { 0 } else { n }
 }
 
 // The letters that a part begins with: one of x y z and one of a b c, or none.
 fn read_cut(s: &[u8]) -> CutRead
     ensures { result ≡ cut_of s.now }
 {
-    let a = place_in(byte_of(s, 0), b'x');
-    let b = place_in(byte_of(s, 1), b'a');
-    if a == 0 {
-        return CutRead { held: 0, len: 0 };
-    }
-    CutRead {
-        held: held_of(3 * (a - 1) + b),
-        len: 2,
+    let b = place_in(byte_of(s, 1), b'a').unwrap_or(0);
+    match place_in(byte_of(s, 0), b'x') {
+        Some(a) => CutRead {
+            held: held_of(3 * (a - 1) + b),
+            len: 2,
+        },
+        None => CutRead { held: 0, len: 0 },
     }
 }
 
-// 2: `m`, letters, number, `:`, number, optional text.
-fn internal(s: &[u8], end: usize, f: Fault) -> IonRead
+// `m`, letters, number, `:`, number, optional text.
+fn internal(s: &[u8], end: usize, f: Option<Refusal>) -> IonRead
     ensures { result ≡ internal_of end s.now f }
 {
     let c = read_cut(rest(s, 1));
@@ -215,27 +234,19 @@ fn internal(s: &[u8], end: usize, f: Fault) -> IonRead
     );
     let at = advance(p, b.len, s.len());
     let x = text_in_braces(rest(s, at), end, h);
-    with_text(2, c.held, a.value, b.value, at, x, s.len())
+    with_text(IonKind::Internal, c.held, a.value, b.value, at, x, s.len())
 }
 
 // Whether a part begins with a name in brackets that cannot be taken for an adduct: `[M+` and `[M-` can.
+#[tactic(auto, unfolding(crate::specs::Kinds::opens_modification))]
 fn opens_modification(s: &[u8]) -> bool
     ensures { result ≡ opens_modification s.now }
 {
-    if !begins_with(s, b'[') {
-        return false;
-    }
-    if !begins_with(rest(s, 1), b'M') {
-        return true;
-    }
-    if begins_with(rest(s, 2), b'+') {
-        return false;
-    }
-    !begins_with(rest(s, 2), b'-')
+    begins_with(s, b'[') && !(s.starts_with(b"[M+") || s.starts_with(b"[M-"))
 }
 
-// 3: `I`, a letter, optional modification.
-fn immonium(s: &[u8], end: usize, f: Fault) -> IonRead
+// `I`, a letter, optional modification.
+fn immonium(s: &[u8], end: usize, f: Option<Refusal>) -> IonRead
     ensures { result ≡ immonium_of end s.now f }
 {
     let letter = byte_of(s, 1);
@@ -243,10 +254,10 @@ fn immonium(s: &[u8], end: usize, f: Fault) -> IonRead
     let t = rest(s, at);
     if opens_modification(t) {
         let x = name_in_brackets(t, end, f);
-        return with_text(3, letter, 0, 0, at, x, s.len());
+        return with_text(IonKind::Immonium, letter, 0, 0, at, x, s.len());
     }
     IonRead {
-        kind: 3,
+        kind: IonKind::Immonium,
         letter,
         position: 0,
         last: 0,
@@ -258,30 +269,30 @@ fn immonium(s: &[u8], end: usize, f: Fault) -> IonRead
     }
 }
 
-// 6 and 8: a letter, and a text in braces.
-fn braced(kind: u8, s: &[u8], end: usize, f: Fault) -> IonRead
+// A letter, and a text in braces.
+fn braced(kind: IonKind, s: &[u8], end: usize, f: Option<Refusal>) -> IonRead
     ensures { result ≡ braced_of kind end s.now f }
 {
     let x = text_in_braces(rest(s, 1), end, f);
     with_text(kind, 0, 0, 0, 1, x, s.len())
 }
 
-// 5: `r` and a name in brackets.
-fn reference(s: &[u8], end: usize, f: Fault) -> IonRead
+// `r` and a name in brackets.
+fn reference(s: &[u8], end: usize, f: Option<Refusal>) -> IonRead
     ensures { result ≡ reference_of end s.now f }
 {
     let x = name_in_brackets(rest(s, 1), end, f);
-    with_text(5, 0, 0, 0, 1, x, s.len())
+    with_text(IonKind::Reference, 0, 0, 0, 1, x, s.len())
 }
 
-// 7: a formula between `f{` and `}`.
-fn composed(s: &[u8], end: usize, f: Fault) -> IonRead
+// a formula between `f{` and `}`.
+fn composed(s: &[u8], end: usize, f: Option<Refusal>) -> IonRead
     ensures { result ≡ composed_of end s.now f }
 {
     let x = formula(rest(s, 2), end, f);
     let fault = x.fault;
     IonRead {
-        kind: 7,
+        kind: IonKind::Composed,
         letter: 0,
         position: 0,
         last: 0,
@@ -293,8 +304,8 @@ fn composed(s: &[u8], end: usize, f: Fault) -> IonRead
     }
 }
 
-// 9: `?`, optional label.
-fn unknown(s: &[u8], end: usize, f: Fault) -> IonRead
+// `?`, optional label.
+fn unknown(s: &[u8], end: usize, f: Option<Refusal>) -> IonRead
     ensures { result ≡ unknown_of end s.now f }
 {
     let n = read_number(rest(s, 1));
@@ -305,7 +316,7 @@ fn unknown(s: &[u8], end: usize, f: Fault) -> IonRead
         minus_or_zero(end, minus_or_zero(s.len(), 1)),
     );
     IonRead {
-        kind: 9,
+        kind: IonKind::Unknown,
         letter: 0,
         position: n.value,
         last: 0,
@@ -317,12 +328,12 @@ fn unknown(s: &[u8], end: usize, f: Fault) -> IonRead
     }
 }
 
-// 4: `p`.
-fn precursor(all: usize, f: Fault) -> IonRead
+// `p`.
+fn precursor(all: usize, f: Option<Refusal>) -> IonRead
     ensures { result ≡ precursor_of all f }
 {
     IonRead {
-        kind: 4,
+        kind: IonKind::Precursor,
         letter: 0,
         position: 0,
         last: 0,
@@ -338,17 +349,11 @@ fn precursor(all: usize, f: Fault) -> IonRead
 pub fn spells_yb(s: &[u8]) -> bool
     ensures { result ≡ starts_with (bytes "myb") s.now }
 {
-    if !begins_with(s, b'm') {
-        return false;
-    }
-    if !begins_with(rest(s, 1), b'y') {
-        return false;
-    }
-    begins_with(rest(s, 2), b'b')
+    s.starts_with(b"myb")
 }
 
 // The ion that a part begins with, told by its first byte.
-pub fn ion(s: &[u8], end: usize, f: Fault) -> IonRead
+pub fn ion(s: &[u8], end: usize, f: Option<Refusal>) -> IonRead
     ensures { result ≡ ion_of end s.now f }
 {
     match byte_of(s, 0) {
@@ -356,9 +361,9 @@ pub fn ion(s: &[u8], end: usize, f: Fault) -> IonRead
         b'I' => immonium(s, end, f),
         b'p' => precursor(s.len(), f),
         b'r' => reference(s, end, f),
-        b'_' => braced(6, s, end, f),
+        b'_' => braced(IonKind::Named, s, end, f),
         b'f' => composed(s, end, f),
-        b's' => braced(8, s, end, f),
+        b's' => braced(IonKind::Smiles, s, end, f),
         b'?' => unknown(s, end, f),
         _ => series(s, end, f),
     }

@@ -6,12 +6,12 @@ use mathlib.Core.List.{List, [], ◌++◌}
 use native.Mathlib.Omega.{arith}
 use lib.ListN.{length, drop, length-drop}
 use lib.Seq.{drop-drop}
+use Rattle.std.specs.Prelude.{Option, None}
 use Rattle.lang.specs.Walk.{Walked, walked, walk}
 use Rattle.lang.proofs.Walks.{walk_on, walk_ends}
 use Rattle.put_bytes.specs.Puts.{max_place, Put}
 use Rattle.put_bytes.proofs.Putting.{put_none, put_then, put_as}
-use Rattle.faults.specs.declared.Fault.{Fault}
-use Rattle.faults.specs.Faults.{fault}
+use Rattle.faults.specs.declared.Refusal.{Refusal}
 use Rattle.read_formula.specs.Formulas.{counted}
 use Rattle.read_opening.specs.Heads.{begins_isotope}
 use Rattle.read_isotopes.specs.declared.IsotopeRead.{IsotopeRead}
@@ -32,7 +32,7 @@ begin = record { inside = omega arith; few = omega arith; is = refl }
 
 module _ {S : Type 0} {step : S → List ℕ → S} {s : List ℕ} {a : S} {at n : ℕ} {b : S} (p : Passed step s a at n b) {r : List ℕ} (pr : r ≡ drop at s) where
   -- an isotope stands here, and takes up a byte or more of what is left
-  module _ (i end : ℕ) (f : Fault) {q : List ℕ} {x : IsotopeRead} (e : begins_isotope r ≡ true) (pq : q ≡ drop at s) (px : x ≡ isotope_of i end q f) where
+  module _ (i end : ℕ) (f : Option Refusal) {q : List ℕ} {x : IsotopeRead} (e : begins_isotope r ≡ true) (pq : q ≡ drop at s) (px : x ≡ isotope_of i end q f) where
     long : x.len ≡ isotope_size (drop at s)
     long = ap (λ (x : IsotopeRead). x.len) px ∙ isotope_len i end q f ∙ ap isotope_size pq
 
@@ -64,7 +64,7 @@ module _ {S : Type 0} {step : S → List ℕ → S} {s : List ℕ} {a : S} {at n
 
 -- ---- measured
 
-module _ (end : ℕ) {s : List ℕ} {f : Fault} {at n : ℕ} {g : Fault} (p : Passed (count_isotope end) s (counted 0 f) at n (counted n g)) {r : List ℕ} (pr : r ≡ drop at s) where
+module _ (end : ℕ) {s : List ℕ} {f : Option Refusal} {at n : ℕ} {g : Option Refusal} (p : Passed (count_isotope end) s (counted 0 f) at n (counted n g)) {r : List ℕ} (pr : r ≡ drop at s) where
   pub counts : {q : List ℕ} {x : IsotopeRead} → begins_isotope r ≡ true → q ≡ drop at s → x ≡ isotope_of n end q g
       → Passed (count_isotope end) s (counted 0 f) (at + x.len) (n + 1) (counted (n + 1) x.fault)
   unfolding count_isotope
@@ -89,12 +89,12 @@ puts_none h g = record { done = []; passed = begin; put = put_none h g }
 -- w is what is put for the isotope that stands here
 puts_one : {S : Type 0} {step : S → List ℕ → S} {known : ℕ → List ℕ → S} {s d : List ℕ} {to at n : ℕ} {e : List ℕ} {next : ℕ}
     → (p : Putting step known s d to at n e next)
-    → {r q w : List ℕ} {x : IsotopeRead} {e₂ : List ℕ} {next₂ : ℕ} → r ≡ drop at s → begins_isotope r ≡ true → q ≡ drop at s → x ≡ isotope_of 0 0 q (fault 0 0)
+    → {r q w : List ℕ} {x : IsotopeRead} {e₂ : List ℕ} {next₂ : ℕ} → r ≡ drop at s → begins_isotope r ≡ true → q ≡ drop at s → x ≡ isotope_of 0 0 q None
     → known (n + 1) (p.done ++ w) ≡ step (known n p.done) (drop at s) → Put e next w e₂ next₂ → Putting step known s d to (at + x.len) (n + 1) e₂ next₂
-puts_one p {w} pr b pq px k u = record { done = p.done ++ w; passed = turn p.passed pr 0 0 (fault 0 0) b pq px k; put = put_then p.put u }
+puts_one p {w} pr b pq px k u = record { done = p.done ++ w; passed = turn p.passed pr 0 0 None b pq px k; put = put_then p.put u }
 
-read_here : {q t : List ℕ} {x : IsotopeRead} → q ≡ t → x ≡ isotope_of 0 0 q (fault 0 0) → x ≡ isotope_of 0 0 t (fault 0 0)
-read_here pq px = px ∙ ap (λ (q : List ℕ). isotope_of 0 0 q (fault 0 0)) pq
+read_here : {q t : List ℕ} {x : IsotopeRead} → q ≡ t → x ≡ isotope_of 0 0 q None → x ≡ isotope_of 0 0 t None
+read_here pq px = px ∙ ap (λ (q : List ℕ). isotope_of 0 0 q None) pq
 
 -- ---- stored
 
@@ -106,7 +106,7 @@ abbrev pub Filing : List ℕ → List ℕ → ℕ → ℕ → ℕ → List ℕ �
 Filing = Putting file_isotope filed
 
 module _ {s d : List ℕ} {to at n : ℕ} {e : List ℕ} {next : ℕ} (p : Filing s d to at n e next) {r : List ℕ} (pr : r ≡ drop at s) where
-  pub files : {q : List ℕ} {x : IsotopeRead} {e₂ : List ℕ} {next₂ : ℕ} → begins_isotope r ≡ true → q ≡ drop at s → x ≡ isotope_of 0 0 q (fault 0 0) → Put e next (record_of x) e₂ next₂
+  pub files : {q : List ℕ} {x : IsotopeRead} {e₂ : List ℕ} {next₂ : ℕ} → begins_isotope r ≡ true → q ≡ drop at s → x ≡ isotope_of 0 0 q None → Put e next (record_of x) e₂ next₂
       → Filing s d to (at + x.len) (n + 1) e₂ next₂
   unfolding file_isotope
   files b pq px u = puts_one p pr b pq px (ap (λ (x : IsotopeRead). filed (n + 1) (p.done ++ record_of x)) (read_here pq px)) u
@@ -136,7 +136,7 @@ pub spells_none : {s d : List ℕ} {to : ℕ} → length d ≤ max_place → to 
 spells_none h g = record { n = 0; puts = puts_none h g }
 
 module _ {s d : List ℕ} {to at : ℕ} {e : List ℕ} {next : ℕ} (p : Spelling s d to at e next) {r : List ℕ} (pr : r ≡ drop at s) where
-  pub spells : {q t : List ℕ} {x : IsotopeRead} {e₂ : List ℕ} {next₂ : ℕ} → begins_isotope r ≡ true → q ≡ drop at s → x ≡ isotope_of 0 0 q (fault 0 0)
+  pub spells : {q t : List ℕ} {x : IsotopeRead} {e₂ : List ℕ} {next₂ : ℕ} → begins_isotope r ≡ true → q ≡ drop at s → x ≡ isotope_of 0 0 q None
       → t ≡ drop at s → Put e next (isotope_spelled t x) e₂ next₂ → Spelling s d to (at + x.len) e₂ next₂
   unfolding spell_isotope
   spells b pq px pt u =

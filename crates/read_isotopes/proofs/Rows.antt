@@ -5,6 +5,7 @@ use mathlib.Core.Bool.{true, false}
 use mathlib.Core.List.{List, [], ◌∷◌, ◌++◌, append_assoc}
 use lib.ListN.{length, drop}
 use lib.Seq.{drop-append_seam}
+use Rattle.std.specs.Prelude.{Option, None}
 use Rattle.lang.specs.Re.{Rng, in_c}
 use Rattle.lang.specs.Parts.{flat, word_of}
 use Rattle.lang.specs.Walk.{walked, walk, folded}
@@ -16,8 +17,7 @@ use Rattle.rules.specs.Formulas.{Written, written_text}
 use Rattle.rules.specs.Losses.{Sign, minus, plus, sign_text}
 use Rattle.rules.specs.Isotopes.{Shift, shift_text, Specific, specific_text}
 use Rattle.elements.specs.Symbols.{small}
-use Rattle.faults.specs.declared.Fault.{Fault}
-use Rattle.faults.specs.Faults.{fault}
+use Rattle.faults.specs.declared.Refusal.{Refusal}
 use Rattle.read_opening.specs.Heads.{begins_isotope}
 use Rattle.read_isotopes.specs.declared.IsotopeRead.{IsotopeRead}
 use Rattle.read_isotopes.specs.Isotopes.{isotope_of}
@@ -50,7 +50,7 @@ pub row_first : (c : List Rng) (xs : List (Specific Written)) (k : List ℕ) →
 row_first c [] k p m e = e
 row_first c (x ∷ xs) k p m e = ap (first_in c) (append_assoc (specific_text x) (flat specific_text xs) k) ∙ specific_first x (flat specific_text xs ++ k) c p m
 
-pub specific_here : (i end : ℕ) (f : Fault) (x : Specific Written) (xs : List (Specific Written)) (k : List ℕ) → EndsIsotopes k
+pub specific_here : (i end : ℕ) (f : Option Refusal) (x : Specific Written) (xs : List (Specific Written)) (k : List ℕ) → EndsIsotopes k
     → isotope_of i end (specific_text x ++ (flat specific_text xs ++ k)) f ≡ specific_read i end x (length (specific_text x ++ (flat specific_text xs ++ k))) f
 specific_here i end f x xs k e = specific_read_lem x (flat specific_text xs ++ k) i end f (row_first small xs k refl refl (ends_small k e))
 
@@ -73,13 +73,13 @@ module _ {S : Type 0} (step : S → List ℕ → S) where
 
   pub walk_plain : (x : Shift Written) (k : List ℕ) (a : S) → EndsIsotopes k → walk begins_isotope isotope_size step (shift_text x ++ k) a ≡ walked k (step a (shift_text x ++ k))
   walk_plain x k a e =
-      walk_one (shift_text x) k a e (shift_begins x k).0 (ap (λ (r : IsotopeRead). r.len) (plain_read 0 0 x k (fault 0 0) (ends_digit k e) (ends_average k e)))
+      walk_one (shift_text x) k a e (shift_begins x k).0 (ap (λ (r : IsotopeRead). r.len) (plain_read 0 0 x k None (ends_digit k e) (ends_average k e)))
 
   pub walk_average : (x : Shift Written) (k : List ℕ) (a : S) → EndsIsotopes k
       → walk begins_isotope isotope_size step ((shift_text x ++ bytes "A") ++ k) a ≡ walked k (step a ((shift_text x ++ bytes "A") ++ k))
   walk_average x k a e =
       walk_one (shift_text x ++ bytes "A") k a e (ap begins_isotope (append_assoc (shift_text x) (bytes "A") k) ∙ (shift_begins x (bytes "A" ++ k)).0)
-      (ap (λ (r : IsotopeRead). r.len) (average_read 0 0 x k (fault 0 0)))
+      (ap (λ (r : IsotopeRead). r.len) (average_read 0 0 x k None))
 
   -- specific ones in a row
   pub walk_row : (turn : S → Specific Written → ℕ → S)
@@ -89,4 +89,4 @@ module _ {S : Type 0} (step : S → List ℕ → S) where
   walk_row turn turns =
       walk_spelled begins_isotope isotope_size step isotope_moves specific_text turn EndsIsotopes ends_isotope
       (λ x xs k e. specific_begins x (flat specific_text xs ++ k))
-      (λ x xs k e. ap (λ (r : IsotopeRead). r.len) (specific_here 0 0 (fault 0 0) x xs k e)) turns
+      (λ x xs k e. ap (λ (r : IsotopeRead). r.len) (specific_here 0 0 None x xs k e)) turns

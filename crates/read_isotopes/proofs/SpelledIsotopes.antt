@@ -5,6 +5,7 @@ use mathlib.Core.Bool.{false}
 use mathlib.Core.List.{List, ◌++◌, append_assoc, map}
 use native.Mathlib.Omega.{arith}
 use lib.ListN.{length, length-append, length-map}
+use Rattle.std.specs.Prelude.{Option}
 use Rattle.lang.specs.Re.{Rng, in_c}
 use Rattle.lang.specs.Parts.{items, flat, word_of}
 use Rattle.lang.specs.Walk.{Walked, walked}
@@ -16,7 +17,7 @@ use Rattle.rules.specs.Isotopes.{shift_text, Specific, specific_text, specific_m
 use Rattle.rules.specs.Fields.{filled}
 use Rattle.rules.specs.Stored.{specific_record, isotope_records}
 use Rattle.rules.specs.Limits.{specific_marks, isotopes_marks}
-use Rattle.faults.specs.declared.Fault.{Fault}
+use Rattle.faults.specs.declared.Refusal.{Refusal}
 use Rattle.faults.specs.Faults.{after}
 use Rattle.read_formula.specs.Formulas.{Counted, counted}
 use Rattle.read_formula.proofs.Rows.{turn_of, row_fold}
@@ -32,7 +33,7 @@ use Rattle.read_isotopes.proofs.Rows.{shift_first, row_first, specific_front, sp
 -- ---- what is read
 
 -- the fault after a specific isotope, by how many bytes are left where it begins
-abbrev tell_specific : ℕ → Fault → Specific Written → ℕ → ℕ → Fault
+abbrev tell_specific : ℕ → Option Refusal → Specific Written → ℕ → ℕ → Option Refusal
 tell_specific end f x i left = shift_fault i x.shift (capped x.nucleons.value) end left f
 
 specific_counted : (end : ℕ) (a : Counted) (x : Specific Written) (xs : List (Specific Written)) (k : List ℕ) → EndsIsotopes k
@@ -47,7 +48,7 @@ specific_counted end a x xs k e =
 pub records_length : (xs : List (Specific Written)) → length (map specific_record (map (specific_map filled) xs)) ≡ length xs
 records_length xs = simp length-map
 
-counted_read : (x : Isotopes Written) (k : List ℕ) (end : ℕ) (f : Fault) → EndsIsotopes k → length (isotopes_text x ++ k) ≤ end
+counted_read : (x : Isotopes Written) (k : List ℕ) (end : ℕ) (f : Option Refusal) → EndsIsotopes k → length (isotopes_text x ++ k) ≤ end
     → isotopes_from end (isotopes_text x ++ k) (counted 0 f)
     ≡ walked k (counted (length (isotope_records (isotopes_map filled x))) (after f (isotopes_marks x (end - length (isotopes_text x ++ k)))))
 unfolding count_isotope
@@ -55,12 +56,12 @@ counted_read no_isotope k end f e h = walk_none (count_isotope end) k (counted 0
 counted_read (plain_isotope x) k end f e h =
     walk_plain (count_isotope end) x k (counted 0 f) e
     ∙ ap (λ (r : IsotopeRead). walked k (counted 1 r.fault)) (plain_read 0 end x k f (ends_digit k e) (ends_average k e))
-    ∙ ap (λ (g : Fault). walked k (counted 1 g)) (shift_told end f x (length (shift_text x ++ k)) (omega (arith, length-append (shift_text x) k)) h)
+    ∙ ap (λ (g : Option Refusal). walked k (counted 1 g)) (shift_told end f x (length (shift_text x ++ k)) (omega (arith, length-append (shift_text x) k)) h)
 counted_read (average_isotope x) k end f e h =
     let w = shift_text x ++ bytes "A" in
     walk_average (count_isotope end) x k (counted 0 f) e
     ∙ ap (λ (r : IsotopeRead). walked k (counted 1 r.fault)) (average_read 0 end x k f)
-    ∙ ap (λ (g : Fault). walked k (counted 1 g)) (shift_told end f x (length (w ++ k)) (omega (arith, length-append w k, length-append (shift_text x) (bytes "A"))) h)
+    ∙ ap (λ (g : Option Refusal). walked k (counted 1 g)) (shift_told end f x (length (w ++ k)) (omega (arith, length-append w k, length-append (shift_text x) (bytes "A"))) h)
 counted_read (specific_isotopes xs) k end f e h =
     let ys = items xs in
     let l = length-append (flat specific_text ys) k in
@@ -71,7 +72,7 @@ counted_read (specific_isotopes xs) k end f e h =
     (row_fold specific_text specific_marks (tell_specific end) end (specific_told end) ys (length k) 0 f (omega arith)
     ∙ ap₂ (λ (n p : ℕ). counted n (after f (isotopes_marks (specific_isotopes xs) p))) n p)
 
-pub isotopes_read : (x : Isotopes Written) (k : List ℕ) (end : ℕ) (f : Fault) → EndsIsotopes k → length (isotopes_text x ++ k) ≤ end
+pub isotopes_read : (x : Isotopes Written) (k : List ℕ) (end : ℕ) (f : Option Refusal) → EndsIsotopes k → length (isotopes_text x ++ k) ≤ end
     → isotopes_of end (isotopes_text x ++ k) f
     ≡ record { n = length (isotope_records (isotopes_map filled x)); len = length (isotopes_text x); fault = after f (isotopes_marks x (end - length (isotopes_text x ++ k))) }
 unfolding isotopes_of

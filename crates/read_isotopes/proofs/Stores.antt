@@ -4,6 +4,7 @@ use mathlib.Core.Path.{◌≡◌, refl, sym, ap, ap₂, ◌∙◌}
 use mathlib.Core.List.{List, [], ◌∷◌, ◌++◌, append_assoc, append-nil, map}
 use native.Mathlib.Omega.{arith}
 use lib.ListN.{length}
+use Rattle.std.specs.Prelude.{None}
 use Rattle.lang.specs.Parts.{silent, written, items, flat}
 use Rattle.lang.specs.Mark.{In, here, later, Kept}
 use Rattle.lang.specs.Walk.{walked, folded}
@@ -12,12 +13,12 @@ use Rattle.rules.specs.Formulas.{Written}
 use Rattle.rules.specs.Losses.{sign_text}
 use Rattle.rules.specs.Isotopes.{Shift, shift_text, shift_map, Specific, specific_text, specific_map, Isotopes, no_isotope, plain_isotope, average_isotope, specific_isotopes, isotopes_text, isotopes_map}
 use Rattle.rules.specs.Fields.{filled}
-use Rattle.rules.specs.Preferred.{sign_rank}
+use Rattle.changes.specs.Signs.{sign_number}
+use Rattle.changes.proofs.Signs.{sign_read, sign_ranked}
 use Rattle.rules.specs.Stored.{u8, u16, stores, isotope_record, specific_record, isotope_records}
 use Rattle.rules.specs.Limits.{max_count, bare, part, opt_part, number_part, shift_marks, specific_marks, isotopes_marks}
 use Rattle.rules.proofs.Keeps.{kept_tail, kept_part, row_each}
 use Rattle.rules.proofs.FitParts.{number_within}
-use Rattle.faults.specs.Faults.{fault}
 use Rattle.read_formula.proofs.Spelled.{capped}
 use Rattle.read_opening.proofs.SpelledOpenings.{count_told}
 use Rattle.read_isotopes.specs.declared.IsotopeRead.{IsotopeRead}
@@ -75,11 +76,11 @@ count_filled (written n) h = omega arith
 
 -- of a shift as it is read
 abbrev read_record : Shift Written → ℕ → ℕ → ℕ → List ℕ
-read_record x kind nucleons element = stores (u8 (sign_rank x.sign) ∷ u8 kind ∷ u16 (count_told x.count) ∷ u16 nucleons ∷ u16 element ∷ [])
+read_record x kind nucleons element = stores (u8 (sign_number (sign_read x.sign)) ∷ u8 kind ∷ u16 (count_told x.count) ∷ u16 nucleons ∷ u16 element ∷ [])
 
 shift_record : (x : Shift Written) (kind nucleons element : ℕ) → ShiftTold x → read_record x kind nucleons element ≡ stores (isotope_record (shift_map filled x) kind nucleons element)
 shift_record x kind nucleons element h =
-    ap (λ (n : ℕ). stores (u8 (sign_rank x.sign) ∷ u8 kind ∷ u16 n ∷ u16 nucleons ∷ u16 element ∷ [])) (count_filled x.count h)
+    λ i. stores (u8 (sign_ranked x.sign i) ∷ u8 kind ∷ u16 (count_filled x.count h i) ∷ u16 nucleons ∷ u16 element ∷ [])
 
 abbrev read_specific : Specific Written → List ℕ
 read_specific x = read_record x.shift 2 (capped x.nucleons.value) (atomic_number x.symbol)
@@ -102,7 +103,7 @@ file_specific a x left = filed (a.n + 1) (a.bytes ++ read_specific x)
 specific_filed : (a : Filed) (x : Specific Written) (xs : List (Specific Written)) (k : List ℕ) → EndsIsotopes k
     → file_isotope a (specific_text x ++ (flat specific_text xs ++ k)) ≡ file_specific a x (length (flat specific_text xs) + length k)
 unfolding file_isotope
-specific_filed a x xs k e = ap (λ (r : IsotopeRead). filed (a.n + 1) (a.bytes ++ record_of r)) (specific_here 0 0 (fault 0 0) x xs k e)
+specific_filed a x xs k e = ap (λ (r : IsotopeRead). filed (a.n + 1) (a.bytes ++ record_of r)) (specific_here 0 0 None x xs k e)
 
 row_filed : (xs : List (Specific Written)) (n : ℕ) (b : List ℕ) (left : ℕ) → folded specific_text file_specific (filed n b) xs left ≡ filed (n + length xs) (b ++ flat read_specific xs)
 row_filed [] n b left = ap₂ filed (omega arith) (sym (append-nil b))
@@ -117,11 +118,11 @@ unfolding filed_isotopes file_isotope
 isotopes_stored no_isotope k e h = walk_none file_isotope k (filed 0 []) e
 isotopes_stored (plain_isotope x) k e h =
     walk_plain file_isotope x k (filed 0 []) e
-    ∙ ap (λ (r : IsotopeRead). walked k (filed 1 (record_of r))) (plain_read 0 0 x k (fault 0 0) (ends_digit k e) (ends_average k e))
+    ∙ ap (λ (r : IsotopeRead). walked k (filed 1 (record_of r))) (plain_read 0 0 x k None (ends_digit k e) (ends_average k e))
     ∙ ap (λ (b : List ℕ). walked k (filed 1 b)) (shift_record x 0 0 0 h ∙ sym (append-nil (stores (isotope_record (shift_map filled x) 0 0 0))))
 isotopes_stored (average_isotope x) k e h =
     walk_average file_isotope x k (filed 0 []) e
-    ∙ ap (λ (r : IsotopeRead). walked k (filed 1 (record_of r))) (average_read 0 0 x k (fault 0 0))
+    ∙ ap (λ (r : IsotopeRead). walked k (filed 1 (record_of r))) (average_read 0 0 x k None)
     ∙ ap (λ (b : List ℕ). walked k (filed 1 b)) (shift_record x 1 0 0 h ∙ sym (append-nil (stores (isotope_record (shift_map filled x) 1 0 0))))
 isotopes_stored (specific_isotopes xs) k e h =
     let ys = items xs in

@@ -1,3 +1,4 @@
+pub mod Kinds
 pub mod Isotopes
 pub mod Rows
 pub mod Records

@@ -1,18 +1,19 @@
 -- The records of isotopes. Assumes nothing.
-use Rattle.std.specs.Prelude.{ℕ, ◌+◌, ◌-◌, ◌≡◌, List, [], ◌∷◌, ◌++◌, length}
+use Rattle.std.specs.Prelude.{ℕ, ◌+◌, ◌-◌, ◌≡◌, List, [], ◌∷◌, ◌++◌, length, None}
 use Rattle.lang.specs.Walk.{Walked, walk}
 use Rattle.rules.specs.Stored.{u8, u16, stores}
+use Rattle.changes.specs.Signs.{sign_number}
 use Rattle.put_bytes.specs.Puts.{Put}
-use Rattle.faults.specs.Faults.{fault}
 use Rattle.read_opening.specs.Heads.{begins_isotope}
 use Rattle.read_isotopes.specs.declared.IsotopeRead.{IsotopeRead}
 use Rattle.read_isotopes.specs.declared.IsotopesStored.{IsotopesStored}
+use Rattle.read_isotopes.specs.Kinds.{kind_number, kind_nucleons, kind_element}
 use Rattle.read_isotopes.specs.Isotopes.{isotope_of}
 use Rattle.read_isotopes.specs.Rows.{isotope_size}
 
 -- sign, kind, n, nucleons, atomic number
 abbrev pub record_of : IsotopeRead → List ℕ
-record_of x = stores (u8 x.sign ∷ u8 x.kind ∷ u16 x.count ∷ u16 x.nucleons ∷ u16 x.element ∷ [])
+record_of x = stores (u8 (sign_number x.sign) ∷ u8 (kind_number x.kind) ∷ u16 x.count ∷ u16 (kind_nucleons x.kind) ∷ u16 (kind_element x.kind) ∷ [])
 
 -- how many, and their bytes
 pub record Filed : Type 0 where
@@ -20,7 +21,7 @@ pub record Filed : Type 0 where
   pub bytes : List ℕ
 
 unfoldable pub file_isotope : Filed → List ℕ → Filed
-file_isotope a s = record { n = a.n + 1; bytes = a.bytes ++ record_of (isotope_of 0 0 s (fault 0 0)) }
+file_isotope a s = record { n = a.n + 1; bytes = a.bytes ++ record_of (isotope_of 0 0 s None) }
 
 -- all that bytes begin with
 unfoldable pub filed_isotopes : List ℕ → Walked Filed

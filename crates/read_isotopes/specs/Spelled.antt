@@ -1,8 +1,7 @@
 -- Isotopes spelled anew. Assumes nothing.
-use Rattle.std.specs.Prelude.{ℕ, ◌-◌, ◌≡◌, List, [], ◌++◌, length, take, drop}
+use Rattle.std.specs.Prelude.{ℕ, ◌-◌, ◌≡◌, List, [], ◌++◌, length, take, drop, None}
 use Rattle.lang.specs.Walk.{Walked, walk}
 use Rattle.put_bytes.specs.Puts.{Put}
-use Rattle.faults.specs.Faults.{fault}
 use Rattle.print_count.specs.declared.Respelled.{Respelled}
 use Rattle.print_count.specs.Heads.{head_text}
 use Rattle.read_opening.specs.Heads.{head_of, begins_isotope}
@@ -15,7 +14,7 @@ unfoldable pub isotope_spelled : List ℕ → IsotopeRead → List ℕ
 isotope_spelled s x = head_text x.sign x.count ++ take (x.len - (head_of s).len) (drop (head_of s).len s)
 
 unfoldable pub spell_isotope : List ℕ → List ℕ → List ℕ
-spell_isotope a s = a ++ isotope_spelled s (isotope_of 0 0 s (fault 0 0))
+spell_isotope a s = a ++ isotope_spelled s (isotope_of 0 0 s None)
 
 -- all that bytes begin with
 unfoldable pub spelled_isotopes : List ℕ → Walked (List ℕ)

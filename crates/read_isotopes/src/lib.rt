@@ -4,12 +4,14 @@
 ghost use Rattle.std.specs.Prelude.{◌≡◌};
 ghost use Rattle.put_bytes.specs.Puts.{Put};
 ghost use Rattle.read_isotopes.specs.Isotopes.{isotope_of};
+ghost use Rattle.read_isotopes.specs.Kinds.{kind_number, kind_nucleons, kind_element};
 ghost use Rattle.read_isotopes.specs.Rows.{isotopes_of};
 ghost use Rattle.read_isotopes.specs.Records.{record_of, StoresIsotopes};
 ghost use Rattle.read_isotopes.specs.Spelled.{isotope_spelled, SpellsIsotopes};
 
+use changes::Sign;
 use elements::read_element;
-use faults::Fault;
+use faults::Refusal;
 use limits::MAX_ISOTOPES;
 use numbers::read_number;
 use print_count::{Respelled, put_head};
@@ -18,16 +20,55 @@ use read_formula::numbers_fault;
 use read_opening::{begins_isotope, read_head};
 use slices::{advance, begins_in, begins_with, minus_or_zero, part, rest};
 
-// An isotope. Kind 0: plain; 1: average, `A` behind the `i`; 2: specific, with nucleon number and symbol behind the `i`.
+// What stands behind the `i` of an isotope: nothing, `A`, or nucleon number and symbol.
+#[derive(Clone, Copy, PartialEq, Eq)]
+pub enum IsotopeKind {
+    Plain,
+    Average,
+    Specific { nucleons: u32, element: u16 },
+}
+
+impl IsotopeKind {
+    // As it is stored.
+    pub fn number(self) -> u8
+        ensures { result ≡ kind_number self }
+    {
+        match self {
+            IsotopeKind::Plain => 0,
+            IsotopeKind::Average => 1,
+            IsotopeKind::Specific { .. } => 2,
+        }
+    }
+
+    // The nucleon number, 0 where none stands.
+    pub fn nucleons(self) -> u32
+        ensures { result ≡ kind_nucleons self }
+    {
+        match self {
+            IsotopeKind::Specific { nucleons, .. } => nucleons,
+            _ => 0,
+        }
+    }
+
+    // The atomic number, 0 where no symbol stands.
+    pub fn element(self) -> u16
+        ensures { result ≡ kind_element self }
+    {
+        match self {
+            IsotopeKind::Specific { element, .. } => element,
+            _ => 0,
+        }
+    }
+}
+
+// An isotope.
 #[derive(Clone, Copy)]
 pub struct IsotopeRead {
-    pub sign: u8,
-    pub kind: u8,
+    pub sign: Sign,
     pub count: u32,
-    pub nucleons: u32,
-    pub element: u16,
+    pub kind: IsotopeKind,
     pub len: usize,
-    pub fault: Fault,
+    pub fault: Option<Refusal>,
 }
 
 // Isotopes: how many, how many bytes, and the first broken limit.
@@ -35,7 +76,7 @@ pub struct IsotopeRead {
 pub struct IsotopesRead {
     pub n: usize,
     pub len: usize,
-    pub fault: Fault,
+    pub fault: Option<Refusal>,
 }
 
 // Isotopes that are stored: how many, how many bytes they have in the line, and the place behind their records.
@@ -47,7 +88,7 @@ pub struct IsotopesStored {
 }
 
 // The isotope that a part begins with.
-pub fn isotope(i: usize, s: &[u8], end: usize, f: Fault) -> IsotopeRead
+pub fn isotope(i: usize, s: &[u8], end: usize, f: Option<Refusal>) -> IsotopeRead
     ensures { result ≡ isotope_of i end s.now f }
 {
     let h = read_head(s);
@@ -58,10 +99,11 @@ pub fn isotope(i: usize, s: &[u8], end: usize, f: Fault) -> IsotopeRead
         let e = read_element(rest(t, a.len));
         return IsotopeRead {
             sign: h.sign,
-            kind: 2,
             count: h.count,
-            nucleons: a.value,
-            element: e.number,
+            kind: IsotopeKind::Specific {
+                nucleons: a.value,
+                element: e.number,
+            },
             len: advance(advance(at, a.len, s.len()), e.len, s.len()),
             fault: numbers_fault(f, MAX_ISOTOPES, i, h.count, a.value, at, end, s.len()),
         };
@@ -70,27 +112,23 @@ pub fn isotope(i: usize, s: &[u8], end: usize, f: Fault) -> IsotopeRead
     if begins_with(t, b'A') {
         return IsotopeRead {
             sign: h.sign,
-            kind: 1,
             count: h.count,
-            nucleons: 0,
-            element: 0,
+            kind: IsotopeKind::Average,
             len: advance(at, 1, s.len()),
             fault,
         };
     }
     IsotopeRead {
         sign: h.sign,
-        kind: 0,
         count: h.count,
-        nucleons: 0,
-        element: 0,
+        kind: IsotopeKind::Plain,
         len: at,
         fault,
     }
 }
 
 // All isotopes that a part begins with.
-pub fn isotopes(s: &[u8], end: usize, f: Fault) -> IsotopesRead
+pub fn isotopes(s: &[u8], end: usize, f: Option<Refusal>) -> IsotopesRead
     ensures { result ≡ isotopes_of end s.now f }
 {
     let mut at: usize = 0;
@@ -109,26 +147,22 @@ pub fn isotopes(s: &[u8], end: usize, f: Fault) -> IsotopesRead
 pub fn put_isotope(out: &mut [u8], to: usize, x: IsotopeRead) -> usize
     ensures { Put out.old to (record_of x) out.new result }
 {
-    let a = put8(out, to, x.sign);
-    let b = put8(out, a, x.kind);
+    let a = put8(out, to, u8::from(x.sign));
+    let b = put8(out, a, x.kind.number());
     let c = put_le(out, b, x.count as u64, 2);
-    let d = put_le(out, c, x.nucleons as u64, 2);
-    put_le(out, d, x.element as u64, 2)
+    let d = put_le(out, c, x.kind.nucleons() as u64, 2);
+    put_le(out, d, x.kind.element() as u64, 2)
 }
 
 // The records of all isotopes that a part begins with.
 pub fn store_isotopes(s: &[u8], out: &mut [u8], to: usize) -> IsotopesStored
     ensures { StoresIsotopes s.now out.old to out.new result }
 {
-    let none = Fault {
-        number: 0,
-        place: 0,
-    };
     let mut at: usize = 0;
     let mut n: usize = 0;
     let mut next = to;
     while begins_isotope(rest(s, at)) {
-        let x = isotope(0, rest(s, at), 0, none);
+        let x = isotope(0, rest(s, at), 0, None);
         next = put_isotope(out, next, x);
         at += x.len;
         n += 1;
@@ -149,14 +183,10 @@ fn spell_isotope(out: &mut [u8], to: usize, s: &[u8], x: IsotopeRead) -> usize
 pub fn spell_isotopes(out: &mut [u8], to: usize, s: &[u8]) -> Respelled
     ensures { SpellsIsotopes s.now out.old to out.new result }
 {
-    let none = Fault {
-        number: 0,
-        place: 0,
-    };
     let mut len: usize = 0;
     let mut end = to;
     while begins_isotope(rest(s, len)) {
-        let x = isotope(0, rest(s, len), 0, none);
+        let x = isotope(0, rest(s, len), 0, None);
         end = spell_isotope(out, end, rest(s, len), x);
         len += x.len;
     }

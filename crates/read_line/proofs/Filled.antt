@@ -3,6 +3,7 @@ use Prim.Native.Nat.{◌≤◌}
 use mathlib.Core.Path.{◌≡◌, refl, sym, ap, subst}
 use mathlib.Core.List.{List, [], ◌∷◌, ◌++◌}
 use lib.ListN.{length}
+use Rattle.std.specs.Prelude.{None}
 use Rattle.lang.specs.Parts.{flat}
 use Rattle.lang.specs.Mark.{Kept}
 use Rattle.lang.specs.Order.{Each, none, next}
@@ -14,7 +15,6 @@ use Rattle.put_bytes.specs.Puts.{max_place}
 use Rattle.store_sections.specs.Pages.{Event}
 use Rattle.store_sections.specs.Fills.{Fills}
 use Rattle.store_sections.proofs.Fills.{fills_none, fills_then}
-use Rattle.faults.specs.Faults.{fault}
 use Rattle.store_annotation.specs.Events.{annotation_events}
 use Rattle.store_annotation.proofs.StoredAnnotation.{StoresRead, store_read}
 use Rattle.read_line.specs.Stores.{line_events}
@@ -29,7 +29,7 @@ pub record FilledBy (edition : Edition) (s : Spelling) (es fs : List Event) : Ty
   pub fills : Fills edition table more
 
 events_give : (edition : Edition) → Gives (annotation_events edition) (StoresRead edition)
-events_give edition a k end i at e kept h small = store_read edition a k 0 end (fault 0 0) i at e kept h
+events_give edition a k end i at e kept h small = store_read edition a k 0 end None i at e kept h
 
 each_filled : {edition : Edition} {s : Spelling} {ys : List (List Event)} → Each (StoresRead edition) s ys → FilledBy edition s [] (flat (λ y. y) ys)
 each_filled none = record { table = []; says = none; more = []; are = refl; fills = fills_none }

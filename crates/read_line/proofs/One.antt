@@ -8,10 +8,9 @@ use Rattle.rules.specs.Editions.{Edition}
 use Rattle.store_sections.specs.declared.Cursors.{Cursors}
 use Rattle.store_sections.proofs.One.{ran_one}
 use Rattle.read_annotation.specs.declared.Parts.{Parts}
-use Rattle.answers.specs.declared.Answer.{Answer}
 use Rattle.read_line.specs.declared.StoredTo.{StoredTo}
 use Rattle.read_line.specs.Stores.{StoresNext, StoresLine}
-use Rattle.answers.specs.Delivered.{answered}
+use Rattle.answers.specs.Delivered.{Answer, answered}
 use Rattle.answers.proofs.One.{answered_one}
 use Rattle.read_line.specs.Readings.{ReadsSpelled}
 

@@ -4,13 +4,15 @@ use mathlib.Core.Path.{◌≡◌, refl, sym, ap, ap₂, ◌∙◌, subst}
 use mathlib.Core.Bool.{Bool, true, false, cond}
 use mathlib.Core.List.{List, ◌++◌}
 use native.Mathlib.Omega.{arith}
-use lib.Dec.{ltb}
+use lib.Dec.{leb, ltb}
 use lib.ListN.{length, replicate, length-replicate}
 use lib.Seq.{sets, length-sets}
-use borrow.Author.Tests.{ltb-true, ltb-false, ne_eqb, eqb-true, eq-eqb}
+use borrow.Author.Tests.{leb-true, leb-false, ltb-true, ltb-false}
+use Rattle.std.specs.Prelude.{Option, Some, None, is_none}
 use Rattle.lang.specs.Parts.{Opt, silent, written}
 use Rattle.lang.specs.Mark.{Mark, Kept, Wins}
 use Rattle.lang.specs.Order.{Each}
+use Rattle.lang.proofs.Tests.{is_t}
 use Rattle.lang.proofs.FirstBroken.{first_broken}
 use Rattle.rules.specs.Lines.{Spelling, line_text}
 use Rattle.rules.specs.Fields.{Table, Says}
@@ -20,12 +22,15 @@ use Rattle.rules.specs.Stored.{stored}
 use Rattle.rules.specs.Answers as rules
 use Rattle.rules.specs.Answers.{refuses, Delivers, no_room, done, SoundIn, ReadsSum, ReadsRules, ReadsForm, ReadsSpelling, Reads}
 use Rattle.rules.specs.Editions.{Edition, current, LineEdition, second_lines}
-use Rattle.rules.proofs.FirstBroken.{first_wins, first_keeps, wins_number}
+use Rattle.rules.proofs.FirstBroken.{first_wins, first_keeps}
+use Rattle.rules.proofs.Rises.{line_rises}
 use Rattle.rules.proofs.OneAnswer.{written_not_silent}
 use Rattle.rules.proofs.OneShape.{judged_shape, judged_misshapen}
 use Rattle.put_bytes.specs.Puts.{max_place}
-use Rattle.faults.specs.declared.Fault.{Fault}
-use Rattle.faults.specs.Faults.{fault}
+use Rattle.faults.specs.declared.Refusal.{Refusal}
+use Rattle.faults.specs.Refusals.{number_of, why_of, refused_by}
+use Rattle.faults.specs.declared.Why.TheVariants.{PastBound, TooMany}
+use Rattle.faults.proofs.Refusals.{number_of_why}
 use Rattle.counts.specs.declared.Counts.{Counts}
 use Rattle.store_sections.specs.Pages.{Ran, ends}
 use Rattle.store_sections.specs.Headers.{starts_of, end_at, header_bytes, Headed, counts_of}
@@ -43,7 +48,7 @@ use Rattle.measure_line.proofs.Folds as folds
 use Rattle.measure_line.proofs.Folds.{form_told, breach_told, excess_seen}
 use Rattle.measure_line.proofs.Through.{TotalsRead, totals_read}
 use Rattle.read_line.proofs.Filled.{line_filled}
-use Rattle.measure_line.proofs.Numbered.{told, line_first}
+use Rattle.measure_line.proofs.FirstLimit.{told, line_first}
 use Rattle.read_line.proofs.Counted.{counts_are, end_is}
 use Rattle.measure_line.proofs.Firsts.{first_limit, first_form, first_breach_lem, first_excess_lem}
 
@@ -91,14 +96,22 @@ module _ (edition : Edition) (room : ℕ) (small : room ≤ max_place) (line : L
 
 -- ---- a line with a shape
 
--- a fault is answered by its number and place; without one the table is delivered
-refused : (edition : Edition) (room : ℕ) (line : List ℕ) (t : Totals) (f : Fault) → first_of t ≡ f → (f.number ≡ 0 → ⊥)
-    → refuses room f.number f.place ≡ counted_over edition (replicate room 0) line t
-refused edition room line t f e h = rw (e, ne_eqb f.number 0 h)
+-- a refusal is answered by its number and place; without one the table is delivered
+refused : (edition : Edition) (room : ℕ) (line : List ℕ) (t : Totals) (r : Refusal) → first_of t ≡ Some r
+    → refuses room (number_of r.why) r.place ≡ counted_over edition (replicate room 0) line t
+refused edition room line t r e = rw e
 
-granted : (edition : Edition) (room : ℕ) (line : List ℕ) (t : Totals) → first_of t ≡ fault 0 0
+granted : (edition : Edition) (room : ℕ) (line : List ℕ) (t : Totals) → first_of t ≡ None
     → stored_over edition (replicate room 0) line t.counts ≡ counted_over edition (replicate room 0) line t
 granted edition room line t e = rw e
+
+-- a limit of a line has the number 4 or 5
+wins_told : (s : Spelling) (m : Mark) → Wins (line_marks s) m → number_of (why_of m.number) ≡ m.number
+wins_told s m w = let l = (line_rises s).within m w.is_in w.broken in by l.least l.number (leb m.number 4) refl
+  where
+    by : 4 ≤ m.number → m.number ≤ 5 → (t : Bool) → leb m.number 4 ≡ t → number_of (why_of m.number) ≡ m.number
+    by h k true e = number_of_why PastBound m.number (omega (arith, leb-true m.number 4 e))
+    by h k false e = number_of_why TooMany m.number (omega (arith, leb-false m.number 4 e))
 
 -- the limits, the form and the rules of an edition are kept
 pub record KeepsAll (e : Edition) (s : Spelling) : Type 0 where
@@ -108,19 +121,19 @@ pub record KeepsAll (e : Edition) (s : Spelling) : Type 0 where
   pub sum : first_excess 0 0 s ≡ silent
 
 -- the first refusal of a spelling, or none
-data Found (e : Edition) (s : Spelling) : Fault → Type 0 where
-  limit : (m : Mark) → Wins (line_marks s) m → Found e s (fault m.number m.place)
-  form : Kept (line_marks s) → (p : ℕ) → first_foreign e 0 s ≡ written p → Found e s (fault 11 p)
-  breach : Kept (line_marks s) → first_foreign e 0 s ≡ silent → (p : ℕ) → first_breach e 0 s ≡ written p → Found e s (fault 6 p)
-  excess : Kept (line_marks s) → first_foreign e 0 s ≡ silent → first_breach e 0 s ≡ silent → (p : ℕ) → first_excess 0 0 s ≡ written p → Found e s (fault 7 p)
-  nothing : KeepsAll e s → Found e s (fault 0 0)
+data Found (e : Edition) (s : Spelling) : Option Refusal → Type 0 where
+  limit : (m : Mark) → Wins (line_marks s) m → Found e s (refused_by m.number m.place)
+  form : Kept (line_marks s) → (p : ℕ) → first_foreign e 0 s ≡ written p → Found e s (refused_by 11 p)
+  breach : Kept (line_marks s) → first_foreign e 0 s ≡ silent → (p : ℕ) → first_breach e 0 s ≡ written p → Found e s (refused_by 6 p)
+  excess : Kept (line_marks s) → first_foreign e 0 s ≡ silent → first_breach e 0 s ≡ silent → (p : ℕ) → first_excess 0 0 s ≡ written p → Found e s (refused_by 7 p)
+  nothing : KeepsAll e s → Found e s None
 
 module _ (edition : Edition) (s : Spelling) (u : Totals) (r : TotalsRead edition s u) where
   limit_is : (o : Opt Mark) → first_broken (line_marks s) ≡ o → u.limit ≡ told o
   limit_is o e = r.finds.limit ∙ line_first s ∙ ap told e
 
   -- within the limits
-  module _ (kept : Kept (line_marks s)) (e : u.limit.number ≡ 0) where
+  module _ (kept : Kept (line_marks s)) (e : u.limit ≡ None) where
     form_is : (o : Opt ℕ) → first_foreign edition 0 s ≡ o → u.form ≡ folds.told 11 o
     form_is o q = r.finds.form kept ∙ form_told edition 0 s ∙ ap (folds.told 11) q
 
@@ -131,33 +144,28 @@ module _ (edition : Edition) (s : Spelling) (u : Totals) (r : TotalsRead edition
     excess_is o q = r.finds.excess kept ∙ excess_seen 0 0 s ∙ ap (folds.told 7) q
 
     -- with sequences of the form that the edition asks for
-    module _ (formed : first_foreign edition 0 s ≡ silent) (g : u.form.number ≡ 0) where
+    module _ (formed : first_foreign edition 0 s ≡ silent) (g : u.form ≡ None) where
       -- and within the rules for one annotation
-      found_sum : first_breach edition 0 s ≡ silent → u.breach.number ≡ 0 → (o : Opt ℕ) → first_excess 0 0 s ≡ o → Found edition s (first_of u)
+      found_sum : first_breach edition 0 s ≡ silent → u.breach ≡ None → (o : Opt ℕ) → first_excess 0 0 s ≡ o → Found edition s (first_of u)
       found_sum rules q (written p) z = subst (Found edition s) (sym (first_excess_lem u e g q ∙ excess_is (written p) z)) (excess kept formed rules p z)
       found_sum rules q silent z =
           subst (Found edition s) (sym (first_excess_lem u e g q ∙ excess_is silent z)) (nothing (record { limits = kept; form = formed; rules = rules; sum = z }))
 
       found_rules : (o : Opt ℕ) → first_breach edition 0 s ≡ o → Found edition s (first_of u)
       found_rules (written p) z =
-          let b = breach_is (written p) z in
-          subst (Found edition s) (sym (first_breach_lem u e g (λ x. let y = ap (λ (h : Fault). h.number) b in omega arith) ∙ b)) (breach kept formed p z)
-      found_rules silent z = found_sum z (ap (λ (h : Fault). h.number) (breach_is silent z)) (first_excess 0 0 s) refl
+          subst (Found edition s) (sym (first_breach_lem u e g (breach_is (written p) z))) (breach kept formed p z)
+      found_rules silent z = found_sum z (breach_is silent z) (first_excess 0 0 s) refl
 
     found_form : (o : Opt ℕ) → first_foreign edition 0 s ≡ o → Found edition s (first_of u)
     found_form (written p) z =
-        let b = form_is (written p) z in
-        subst (Found edition s) (sym (first_form u e (λ x. let y = ap (λ (h : Fault). h.number) b in omega arith) ∙ b)) (form kept p z)
-    found_form silent z = found_rules z (ap (λ (h : Fault). h.number) (form_is silent z)) (first_breach edition 0 s) refl
+        subst (Found edition s) (sym (first_form u e (form_is (written p) z))) (form kept p z)
+    found_form silent z = found_rules z (form_is silent z) (first_breach edition 0 s) refl
 
   found_limit : (o : Opt Mark) → first_broken (line_marks s) ≡ o → Found edition s (first_of u)
   found_limit (written m) z =
-      let b = limit_is (written m) z in
-      let w = first_wins s m z in
-      let n = wins_number s m w in
-      subst (Found edition s) (sym (first_limit u (λ x. let y = ap (λ (g : Fault). g.number) b in omega arith) ∙ b)) (limit m w)
+      subst (Found edition s) (sym (first_limit u (limit_is (written m) z))) (limit m (first_wins s m z))
   found_limit silent z =
-      let kept = first_keeps s z in found_form kept (ap (λ (g : Fault). g.number) (limit_is silent z)) (first_foreign edition 0 s) refl
+      let kept = first_keeps s z in found_form kept (limit_is silent z) (first_foreign edition 0 s) refl
 
   found : Found edition s (first_of u)
   found = found_limit (first_broken (line_marks s)) refl
@@ -171,14 +179,14 @@ module _ (edition : Edition) (room : ℕ) (small : room ≤ max_place) (s : Spel
   abbrev answer : rules.Answer
   answer = counted_over edition (replicate room 0) line u
 
-  no_fault : {f : Fault} → first_of u ≡ f → (f.number ≡ 0 → ⊥) → ReadsSpelling edition s room (refuses room f.number f.place) → ReadsSpelling edition s room answer
-  no_fault {f} e n x = subst (ReadsSpelling edition s room) (refused edition room line u f e n) x
+  refused_so : {r : Refusal} → first_of u ≡ Some r → ReadsSpelling edition s room (refuses room (number_of r.why) r.place) → ReadsSpelling edition s room answer
+  refused_so {r} e x = subst (ReadsSpelling edition s room) (refused edition room line u r e) x
 
-  spelling_read : (f : Fault) → first_of u ≡ f → Found edition s f → ReadsSpelling edition s room answer
-  spelling_read f e (limit m w) = let n = wins_number s m w in no_fault e (λ x. omega arith) (ReadsSpelling.limit m w)
-  spelling_read f e (form k p z) = no_fault e (λ x. omega arith) (ReadsSpelling.kept k (ReadsForm.foreign p z))
-  spelling_read f e (breach k g p z) = no_fault e (λ x. omega arith) (ReadsSpelling.kept k (ReadsForm.kept g (ReadsRules.breach p z)))
-  spelling_read f e (excess k g q p z) = no_fault e (λ x. omega arith) (ReadsSpelling.kept k (ReadsForm.kept g (ReadsRules.kept q (ReadsSum.excess p z))))
+  spelling_read : (f : Option Refusal) → first_of u ≡ f → Found edition s f → ReadsSpelling edition s room answer
+  spelling_read f e (limit m w) = refused_so e (subst (λ (n : ℕ). ReadsSpelling edition s room (refuses room n m.place)) (sym (wins_told s m w)) (ReadsSpelling.limit m w))
+  spelling_read f e (form k p z) = refused_so e (ReadsSpelling.kept k (ReadsForm.foreign p z))
+  spelling_read f e (breach k g p z) = refused_so e (ReadsSpelling.kept k (ReadsForm.kept g (ReadsRules.breach p z)))
+  spelling_read f e (excess k g q p z) = refused_so e (ReadsSpelling.kept k (ReadsForm.kept g (ReadsRules.kept q (ReadsSum.excess p z))))
   spelling_read f e (nothing a) =
       let y = line_filled edition s fits a.limits in
       let t = y.table in
@@ -199,14 +207,14 @@ spelled_right edition room small s l =
 
 -- ---- whether everything is kept
 
-told_kept : {e : Edition} {s : Spelling} {f : Fault} → Found e s f → f.number ≡ 0 → KeepsAll e s
-told_kept {s = s} (limit m w) z = absurd (omega (arith, wins_number s m w))
-told_kept (form k p q) z = absurd (omega arith)
-told_kept (breach k g p q) z = absurd (omega arith)
-told_kept (excess k g h p q) z = absurd (omega arith)
+told_kept : {e : Edition} {s : Spelling} {f : Option Refusal} → Found e s f → is_none f ≡ true → KeepsAll e s
+told_kept (limit m w) z = absurd (is_t z)
+told_kept (form k p q) z = absurd (is_t z)
+told_kept (breach k g p q) z = absurd (is_t z)
+told_kept (excess k g h p q) z = absurd (is_t z)
 told_kept (nothing a) z = a
 
-kept_told : {e : Edition} {s : Spelling} {f : Fault} → Found e s f → KeepsAll e s → f.number ≡ 0
+kept_told : {e : Edition} {s : Spelling} {f : Option Refusal} → Found e s f → KeepsAll e s → is_none f ≡ true
 kept_told (limit m w) a = absurd (a.limits m w.is_in w.broken)
 kept_told (form k p q) a = absurd (written_not_silent _ q a.form)
 kept_told (breach k g p q) a = absurd (written_not_silent _ q a.rules)
@@ -219,11 +227,11 @@ module _ (edition : Edition) (s : Spelling) (fits : length (line_text s) ≤ max
 
   pub keeps_told : keeps_all edition (line_text s) ≡ true → KeepsAll edition s
   unfolding keeps_all
-  keeps_told e = told_kept first_found (eqb-true (first_of (totals_of edition (line_text s))).number 0 e)
+  keeps_told e = told_kept first_found e
 
   pub keeps_all_lem : KeepsAll edition s → keeps_all edition (line_text s) ≡ true
   unfolding keeps_all
-  keeps_all_lem a = eq-eqb (first_of (totals_of edition (line_text s))).number 0 (kept_told first_found a)
+  keeps_all_lem a = kept_told first_found a
 
 -- ---- any line, in an edition of lines
 

@@ -1,14 +1,13 @@
 -- Lists of bytes compared: lists with the same bytes are one list, and a list of bytes is one by each of them. Assumes nothing.
-use Prim.Native.Nat.{ℕ, zero, suc, ◌+◌, ◌<◌, ◌≤◌}
-use mathlib.Core.Path.{◌≡◌, refl, sym, ap, ap₂, ◌∙◌}
+use Prim.Native.Nat.{ℕ, zero, suc, ◌<◌}
+use mathlib.Core.Path.{◌≡◌, refl, sym, ap, ap₂}
 use mathlib.Core.Bool.{Bool, true, false, ◌&&◌}
 use mathlib.Core.List.{List, [], ◌∷◌}
 use native.Mathlib.Omega.{arith}
-use native.Mathlib.Numerals.{add-one}
 use lib.Dec.{eqb}
-use lib.ListN.{length, get_or, drop, drop_of_length-le}
-use lib.Seq.{drop-cons}
-use borrow.Author.Tests.{eqb-true, eq-eqb, ne_eqb, lt-ltb}
+use lib.ListN.{length, get_or}
+use borrow.Author.Tests.{eqb-true, eq-eqb, lt-ltb}
+use Rattle.std.specs.Cmp.Lexicographic.{pointwise}
 use Rattle.lang.proofs.Tests.{not_t}
 use Rattle.read_line.specs.Same.{same_bytes, all_bytes}
 
@@ -21,10 +20,6 @@ both_first false y e = absurd (not_t {x = true} (sym e) tt)
 both_second : (x y : Bool) → x && y ≡ true → y ≡ true
 both_second true y e = e
 both_second false y e = absurd (not_t {x = true} (sym e) tt)
-
-and_false : (x : Bool) → x && false ≡ false
-and_false true = refl
-and_false false = refl
 
 -- ---- what the comparison means
 
@@ -41,33 +36,13 @@ unfolding same_bytes
 same_refl [] = refl
 same_refl (b ∷ s) = rw (eq-eqb b b refl, same_refl s)
 
--- ---- the loop of the comparison
-
-pub same_apart : (a b : List ℕ) → (length a ≡ length b → ⊥) → same_bytes a b ≡ false
+-- the library's comparison of parts is this one
+pub same_told : (a b : List ℕ) → pointwise eqb a b ≡ same_bytes a b
 unfolding same_bytes
-same_apart [] [] h = absurd (h refl)
-same_apart [] (b ∷ t) h = refl
-same_apart (a ∷ s) [] h = refl
-same_apart (a ∷ s) (b ∷ t) h = rw (same_apart s t (λ q. h (ap suc q))) (and_false (eqb a b))
-
-same_step : (a b : List ℕ) (i : ℕ) → i < length a → i < length b
-    → same_bytes (drop i a) (drop i b) ≡ eqb (get_or a i 0) (get_or b i 0) && same_bytes (drop (i + 1) a) (drop (i + 1) b)
-unfolding same_bytes
-same_step a b i h g = rw (drop-cons a i 0 h, drop-cons b i 0 g, add-one i)
-
-pub same_on : (a b : List ℕ) (i : ℕ) → i < length a → i < length b → get_or a i 0 ≡ get_or b i 0
-    → same_bytes (drop i a) (drop i b) ≡ same_bytes (drop (i + 1) a) (drop (i + 1) b)
-same_on a b i h g e =
-    same_step a b i h g ∙ ap (λ (x : Bool). x && same_bytes (drop (i + 1) a) (drop (i + 1) b)) (eq-eqb (get_or a i 0) (get_or b i 0) e)
-
-pub same_off : (a b : List ℕ) (i : ℕ) → i < length a → i < length b → (get_or a i 0 ≡ get_or b i 0 → ⊥)
-    → same_bytes (drop i a) (drop i b) ≡ false
-same_off a b i h g e =
-    same_step a b i h g ∙ ap (λ (x : Bool). x && same_bytes (drop (i + 1) a) (drop (i + 1) b)) (ne_eqb (get_or a i 0) (get_or b i 0) e)
-
-pub same_ends : (a b : List ℕ) (i : ℕ) → length a ≤ i → length b ≤ i → same_bytes (drop i a) (drop i b) ≡ true
-unfolding same_bytes
-same_ends a b i h g = rw (drop_of_length-le a h, drop_of_length-le b g)
+same_told [] [] = refl
+same_told [] (b ∷ t) = refl
+same_told (a ∷ s) [] = refl
+same_told (a ∷ s) (b ∷ t) = ap (λ (x : Bool). eqb a b && x) (same_told s t)
 
 -- ---- bytes
 

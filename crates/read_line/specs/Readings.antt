@@ -1,17 +1,19 @@
 -- The answer to a line whose shape was judged, by what is counted of it. Assumes nothing.
-use Rattle.std.specs.Prelude.{ℕ, ◌≡◌, Bool, cond, List, eqb, ltb, length, replicate}
+use Rattle.std.specs.Prelude.{ℕ, ◌≡◌, Bool, cond, List, eqb, ltb, length, replicate, is_none}
+use Rattle.std.specs.Option.{option_map_or}
 use Rattle.std.proofs.lemmas.List.Edits.{sets}
 use Rattle.rules.specs.Limits.{max_line}
 use Rattle.rules.specs.Answers as rules
 use Rattle.rules.specs.Answers.{refuses}
 use Rattle.rules.specs.Editions.{Edition, current}
+use Rattle.faults.specs.Refusals.{number_of}
 use Rattle.counts.specs.declared.Counts.{Counts}
 use Rattle.store_sections.specs.Pages.{run}
 use Rattle.store_sections.specs.Headers.{starts_of, end_at, header_bytes}
 use Rattle.scan_line.specs.declared.Verdict.{Verdict}
-use Rattle.scan_line.specs.Verdicts.{number_of, place_of}
-use Rattle.answers.specs.declared.Answer.{Answer}
-use Rattle.answers.specs.Delivered.{answered}
+use Rattle.scan_line.specs.Verdicts as verdicts
+use Rattle.scan_line.specs.Verdicts.{place_of}
+use Rattle.answers.specs.Delivered.{Answer, answered}
 use Rattle.measure_line.specs.declared.Totals.{Totals}
 use Rattle.measure_line.specs.Totals.{totals_of}
 use Rattle.measure_line.specs.Refusals.{first_of}
@@ -33,7 +35,7 @@ stored_over e d line n =
 
 abbrev pub counted_over : Edition → List ℕ → List ℕ → Totals → rules.Answer
 counted_over e d line t =
-    let f = first_of t in cond (eqb f.number 0) (stored_over e d line t.counts) (refused_over d f.number f.place)
+    option_map_or (λ r. refused_over d (number_of r.why) r.place) (first_of t) (stored_over e d line t.counts)
 
 -- of a line with a shape, into an output d
 unfoldable pub spelled_over : Edition → List ℕ → List ℕ → rules.Answer
@@ -41,14 +43,14 @@ spelled_over e d line = counted_over e d line (totals_of e line)
 
 -- of a line with a shape: it keeps the limits, and the form and rules of an edition
 unfoldable pub keeps_all : Edition → List ℕ → Bool
-keeps_all e line = eqb (first_of (totals_of e line)).number 0
+keeps_all e line = is_none (first_of (totals_of e line))
 
 pub record ReadsSpelled (edition : Edition) (line d e : List ℕ) (r : Answer) : Type 0 where
   pub is : answered r e ≡ spelled_over edition d line
 
 -- of a line whose shape was judged, into an output d: the verdict's own number, or what is read
 abbrev pub any_over : Edition → List ℕ → Verdict → List ℕ → rules.Answer
-any_over e d v line = cond (eqb (number_of v) 0) (spelled_over e d line) (refused_over d (number_of v) (place_of line v))
+any_over e d v line = cond (eqb (verdicts.number_of v) 0) (spelled_over e d line) (refused_over d (verdicts.number_of v) (place_of line v))
 
 unfoldable pub read_of : Verdict → List ℕ → ℕ → rules.Answer
 read_of v line room = cond (ltb max_line (length line)) (refuses room 1 max_line) (any_over current (replicate room 0) v line)

@@ -8,11 +8,11 @@ ghost use Rattle.answers.specs.Delivered.{answered};
 ghost use Rattle.scan_line.specs.Steps.{scanned_by};
 ghost use Rattle.read_line.specs.Stores.{StoresNext, StoresLine};
 ghost use Rattle.read_line.specs.Readings.{ReadsSpelled, spelled_over, keeps_all, any_over, read_of};
-ghost use Rattle.read_line.specs.Same.{same_bytes};
 ghost use Rattle.rules.specs.Largest.{max_any_table};
 ghost use Rattle.read_line.specs.Back.{reads_to, few, zeros};
 
-use answers::{Answer, refuse};
+use answers::refuse;
+use faults::{Refusal, Why};
 use layout::Edition;
 use limits::{MAX_ANY_TABLE, MAX_LINE};
 use measure_line::{first_refusal, read_at, total};
@@ -74,31 +74,26 @@ fn store_all(out: &mut [u8], c: Cursors, edition: Edition, line: &[u8], first: P
 // ---- reading
 
 // A line with a shape, into a cleared output, as a table of an edition.
-fn read_spelled(edition: Edition, line: &[u8], out: &mut [u8]) -> Answer
+fn read_spelled(edition: Edition, line: &[u8], out: &mut [u8]) -> Result<usize, Refusal>
     ensures { ReadsSpelled (edition_of edition) line.now out.old out.new result }
 {
     let first = read_at(line, 0);
     let t = total(edition, line, first);
-    let found = first_refusal(t);
-    if found.number != 0 {
-        return refuse(found.number, found.place);
+    if let Some(refusal) = first_refusal(t) {
+        return Err(refusal);
     }
     let n = t.counts;
     let size = size_of(edition, n);
     if out.len() < size {
-        return refuse(8, size);
+        return refuse(Why::OutputTooShort, size);
     }
     let c = put_header(out, edition, n);
     store_all(out, c, edition, line, first);
-    Answer {
-        number: 0,
-        place: 0,
-        len: size,
-    }
+    Ok(size)
 }
 
 // A line with a shape, of any length, as a table of an edition.
-pub fn read_shaped(edition: Edition, line: &[u8], out: &mut [u8]) -> Answer
+pub fn read_shaped(edition: Edition, line: &[u8], out: &mut [u8]) -> Result<usize, Refusal>
     ensures { answered result out.new ≡ spelled_over (edition_of edition) (zeros (length out.old)) line.now }
 {
     clear(out);
@@ -110,50 +105,32 @@ pub fn keeps_all(edition: Edition, line: &[u8]) -> bool
     ensures { result ≡ keeps_all (edition_of edition) line.now }
 {
     let t = total(edition, line, read_at(line, 0));
-    let found = first_refusal(t);
-    found.number == 0
+    first_refusal(t).is_none()
 }
 
 // A line of any length, by a lent machine, into a cleared output.
-fn read_any(machine: &[u8], edition: Edition, line: &[u8], out: &mut [u8]) -> Answer
+fn read_any(machine: &[u8], edition: Edition, line: &[u8], out: &mut [u8]) -> Result<usize, Refusal>
     ensures { answered result out.new ≡ any_over (edition_of edition) out.old (scanned_by machine.now line.now) line.now }
 {
     match scan_by(machine, line) {
         Verdict::Fine => read_spelled(edition, line, out),
-        Verdict::Short => refuse(3, line.len()),
-        Verdict::Stray(place) => refuse(2, place),
+        Verdict::Short => refuse(Why::Unfinished, line.len()),
+        Verdict::Stray(place) => refuse(Why::StrayByte, place),
     }
 }
 
 // A line by a lent machine: whoever has many lines makes the machine once.
-pub fn read_by(machine: &[u8], line: &[u8], out: &mut [u8]) -> Answer
+pub fn read_by(machine: &[u8], line: &[u8], out: &mut [u8]) -> Result<usize, Refusal>
     ensures { answered result out.new ≡ read_of (scanned_by machine.now line.now) line.now (length out.old) }
 {
     clear(out);
     if MAX_LINE < line.len() {
-        return refuse(1, MAX_LINE);
+        return refuse(Why::LineTooLong, MAX_LINE);
     }
     read_any(machine, Edition::Second, line, out)
 }
 
 // ---- reading back
-
-// Whether two parts have the same bytes.
-fn same_bytes(a: &[u8], b: &[u8]) -> bool
-    ensures { result ≡ same_bytes a.now b.now }
-{
-    if a.len() != b.len() {
-        return false;
-    }
-    let mut i: usize = 0;
-    while i < a.len() {
-        if a[i] != b[i] {
-            return false;
-        }
-        i += 1;
-    }
-    true
-}
 
 // Whether a line of any length reads to a table of an edition; `scratch` is cleared.
 fn reads_into(
@@ -165,11 +142,10 @@ fn reads_into(
 ) -> bool
     ensures { result ≡ reads_to (edition_of edition) (scanned_by machine.now line.now) scratch.old line.now table.now }
 {
-    let a = read_any(machine, edition, line, scratch);
-    if a.number != 0 {
-        return false;
+    match read_any(machine, edition, line, scratch) {
+        Ok(n) => first_of(scratch, n) == table,
+        Err(_) => false,
     }
-    same_bytes(first_of(scratch, a.len), table)
 }
 
 // Whether a line of any length reads to a table of few bytes: clearing more costs more than reading most lines.

@@ -5,6 +5,7 @@ use mathlib.Core.Bool.{Bool, true, false, cond, not, ◌&&◌}
 use mathlib.Core.List.{List, [], ◌∷◌}
 use native.Mathlib.Omega.{arith}
 use lib.ListN.{length, drop, length-drop}
+use Rattle.std.specs.Prelude.{Option}
 use Rattle.lang.proofs.Deriv.{and_0, and_1}
 use Rattle.lang.proofs.Tests.{is_t, t_is}
 use Rattle.rules.specs.Bytes.{bytes, text_byte}
@@ -16,7 +17,7 @@ use Rattle.texts.specs.Leading.{leading_in}
 use Rattle.texts.specs.Names.{name_length}
 use Rattle.texts.proofs.LeadingBytes.{leading_within}
 use Rattle.texts.proofs.NameEnds.{name_length_within}
-use Rattle.faults.specs.declared.Fault.{Fault}
+use Rattle.faults.specs.declared.Refusal.{Refusal}
 use Rattle.read_opening.specs.declared.Enclosed.{Enclosed}
 use Rattle.read_opening.specs.Heads.{head_of, behind, begins_sign, begins_isotope, begins_change}
 use Rattle.read_opening.specs.Enclosed.{enclosed_of, nothing, text_of, name_of}
@@ -70,15 +71,15 @@ pub record Within (c : Enclosed) (s : List ℕ) : Type 0 where
   pub len : c.len ≤ length s
   pub size : c.size ≤ length s
 
-closed_in : (n : ℕ) (s : List ℕ) → n ≤ length (drop 1 s) → (end : ℕ) (f : Fault) (t : Bool) → Within (cond t (enclosed_of n (length s) end f) (nothing f)) s
+closed_in : (n : ℕ) (s : List ℕ) → n ≤ length (drop 1 s) → (end : ℕ) (f : Option Refusal) (t : Bool) → Within (cond t (enclosed_of n (length s) end f) (nothing f)) s
 unfolding enclosed_of
 closed_in n s h end f true = record { len = omega arith; size = omega (arith, h, length-drop 1 s) }
 closed_in n s h end f false = record { len = omega arith; size = omega arith }
 
-pub text_within : (end : ℕ) (s : List ℕ) (f : Fault) → Within (text_of end s f) s
+pub text_within : (end : ℕ) (s : List ℕ) (f : Option Refusal) → Within (text_of end s f) s
 unfolding text_of
 text_within end s f = closed_in (leading_in text_byte (drop 1 s)) s (leading_within text_byte (drop 1 s)) end f (starts_with (bytes "{") s)
 
-pub name_within : (end : ℕ) (s : List ℕ) (f : Fault) → Within (name_of end s f) s
+pub name_within : (end : ℕ) (s : List ℕ) (f : Option Refusal) → Within (name_of end s f) s
 unfolding name_of
 name_within end s f = closed_in (name_length (drop 1 s)) s (name_length_within (drop 1 s)) end f (starts_with (bytes "[") s)

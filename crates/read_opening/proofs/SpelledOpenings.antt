@@ -8,14 +8,15 @@ use lib.Dec.{T, ltb}
 use lib.ListN.{length, drop, length-append}
 use lib.Seq.{drop-append_seam, drop-append-add}
 use borrow.Author.Tests.{ltb-true, ne_eqb}
+use Rattle.std.specs.Prelude.{Option}
 use Rattle.lang.specs.Parts.{Opt, silent, written, opt_text, Such}
 use Rattle.rules.specs.Bytes.{bytes, digit, text_byte}
 use Rattle.rules.specs.Texts.{first_in, starts_with, is_name, Text, braced_text, bracket_text}
 use Rattle.rules.specs.Numbers.{From, number_text}
 use Rattle.rules.specs.Losses.{Sign, minus, plus, sign_text}
-use Rattle.rules.specs.Preferred.{sign_rank}
 use Rattle.rules.specs.Stored.{bytes_of}
 use Rattle.rules.specs.Limits.{max_text, length_mark, opt_part, closed_part}
+use Rattle.changes.proofs.Signs.{sign_read}
 use Rattle.numbers.specs.declared.Number.{Number}
 use Rattle.numbers.specs.Leading.{number_of}
 use Rattle.numbers.proofs.SpelledNumbers.{number_read, number_silent}
@@ -24,7 +25,7 @@ use Rattle.texts.specs.Leading.{leading_in}
 use Rattle.texts.specs.Names.{name_length}
 use Rattle.texts.proofs.LeadingBytes.{text_ends}
 use Rattle.texts.proofs.NameEnds.{name_ends}
-use Rattle.faults.specs.declared.Fault.{Fault}
+use Rattle.faults.specs.declared.Refusal.{Refusal}
 use Rattle.faults.specs.Faults.{join, after}
 use Rattle.read_formula.specs.Units.{or_one}
 use Rattle.faults.proofs.Marks.{join_kept}
@@ -74,11 +75,11 @@ module _ {m : ℕ} (g : Sign) (c : Opt (From m)) (k : List ℕ) where
       by plus = drop-append-add (43 ∷ []) (opt_text number_text c ++ k) (length (opt_text number_text c)) ∙ drop-append_seam (opt_text number_text c) k
 
   module _ (d : first_in digit k ≡ false) where
-    pub head_read_lem : head_of (sign_text g ++ (opt_text number_text c ++ k)) ≡ record { sign = sign_rank g; count = count_told c; len = 1 + length (opt_text number_text c) }
+    pub head_read_lem : head_of (sign_text g ++ (opt_text number_text c ++ k)) ≡ record { sign = sign_read g; count = count_told c; len = 1 + length (opt_text number_text c) }
     unfolding head_of
     head_read_lem = by g
       where
-        by : (g : Sign) → head_of (sign_text g ++ (opt_text number_text c ++ k)) ≡ record { sign = sign_rank g; count = count_told c; len = 1 + length (opt_text number_text c) }
+        by : (g : Sign) → head_of (sign_text g ++ (opt_text number_text c ++ k)) ≡ record { sign = sign_read g; count = count_told c; len = 1 + length (opt_text number_text c) }
         by minus = rw (count_number_lem c k d, count_one c, count_long c)
         by plus = rw (count_number_lem c k d, count_one c, count_long c)
 
@@ -109,7 +110,7 @@ no_sign k e = (ap (λ (x : Bool). x && not (starts_with (bytes "i") (behind k)))
 -- ---- texts in braces, names in brackets
 
 -- the place of a limit that is not broken does not matter
-long_told : (f : Fault) (n p q : ℕ) → (max_text < n → p ≡ q) → join f (long_mark n p) ≡ join f (long_mark n q)
+long_told : (f : Option Refusal) (n p q : ℕ) → (max_text < n → p ≡ q) → join f (long_mark n p) ≡ join f (long_mark n q)
 long_told f n p q h = by (ltb max_text n) refl
   where
     by : (t : Bool) → ltb max_text n ≡ t → join f (long_mark n p) ≡ join f (long_mark n q)
@@ -117,11 +118,11 @@ long_told f n p q h = by (ltb max_text n) refl
     by false e = join_kept f (long_mark n p) e ∙ sym (join_kept f (long_mark n q) e)
 
 -- what is read of n bytes between two, where these stand
-closed_told : (n left end : ℕ) (f : Fault) → n + 2 ≤ left → left ≤ end
+closed_told : (n left end : ℕ) (f : Option Refusal) → n + 2 ≤ left → left ≤ end
     → enclosed_of n left end f ≡ record { size = n; len = n + 2; fault = join f (long_mark n (end - left + 1 + max_text)) }
 unfolding enclosed_of
 closed_told n left end f h g =
-    ap₂ (λ (l : ℕ) (e : Fault). record { size = n; len = l; fault = e }) (omega arith)
+    ap₂ (λ (l : ℕ) (e : Option Refusal). record { size = n; len = l; fault = e }) (omega arith)
     (long_told f n (end - (left - 256)) (end - left + 1 + max_text) (λ m. omega arith))
 
 module _ (a z : ℕ) (w k : List ℕ) where
@@ -135,7 +136,7 @@ module _ (a z : ℕ) (w k : List ℕ) where
   enclosed_long = simp length-append (omega arith)
 
   -- the bytes as the rules measure and mark them
-  enclosed_read : (end : ℕ) (f : Fault) → length (enclosed_by ++ k) ≤ end
+  enclosed_read : (end : ℕ) (f : Option Refusal) → length (enclosed_by ++ k) ≤ end
       → enclosed_of (length w) (length (enclosed_by ++ k)) end f
       ≡ record { size = length w; len = length enclosed_by; fault = after f (length_mark w (end - length (enclosed_by ++ k) + 1)) }
   enclosed_read end f h =
@@ -144,7 +145,7 @@ module _ (a z : ℕ) (w k : List ℕ) where
       closed_told (length w) (length (enclosed_by ++ k)) end f (omega arith) h
       ∙ ap (λ (x : ℕ). record { size = length w; len = x; fault = after f (length_mark w (end - length (enclosed_by ++ k) + 1)) }) (sym l)
 
-pub text_here : (t : Text) (k : List ℕ) (end : ℕ) (f : Fault) → length (braced_text t ++ k) ≤ end
+pub text_here : (t : Text) (k : List ℕ) (end : ℕ) (f : Option Refusal) → length (braced_text t ++ k) ≤ end
     → text_of end (braced_text t ++ k) f
     ≡ record { size = length t.bytes; len = length (braced_text t); fault = after f ((closed_part braced_text t).marks (end - length (braced_text t ++ k))) }
 unfolding text_of
@@ -152,14 +153,14 @@ text_here t k end f h =
     let e : leading_in text_byte (drop 1 (braced_text t ++ k)) ≡ length t.bytes = ap (λ (s : List ℕ). leading_in text_byte (drop 1 s)) (enclosed_text 123 125 t.bytes k) ∙ text_ends t k in
     ap (λ (n : ℕ). enclosed_of n (length (braced_text t ++ k)) end f) e ∙ enclosed_read 123 125 t.bytes k end f h
 
-pub text_read : (t : Opt Text) (k : List ℕ) (end : ℕ) (f : Fault) → starts_with (bytes "{") k ≡ false → length (opt_text braced_text t ++ k) ≤ end
+pub text_read : (t : Opt Text) (k : List ℕ) (end : ℕ) (f : Option Refusal) → starts_with (bytes "{") k ≡ false → length (opt_text braced_text t ++ k) ≤ end
     → text_of end (opt_text braced_text t ++ k) f
     ≡ record { size = length (bytes_of t); len = length (opt_text braced_text t); fault = after f ((opt_part (closed_part braced_text) t).marks (end - length (opt_text braced_text t ++ k))) }
 unfolding text_of
 text_read silent k end f e h = rw e
 text_read (written t) k end f e h = text_here t k end f h
 
-pub name_here : {test : List ℕ → Bool} (n : Such test) → T (is_name n.bytes) → (k : List ℕ) (end : ℕ) (f : Fault) → length (bracket_text n ++ k) ≤ end
+pub name_here : {test : List ℕ → Bool} (n : Such test) → T (is_name n.bytes) → (k : List ℕ) (end : ℕ) (f : Option Refusal) → length (bracket_text n ++ k) ≤ end
     → name_of end (bracket_text n ++ k) f
     ≡ record { size = length n.bytes; len = length (bracket_text n); fault = after f ((closed_part bracket_text n).marks (end - length (bracket_text n ++ k))) }
 unfolding name_of

@@ -3,15 +3,17 @@ use Rattle.std.specs.Prelude.{ℕ, ◌+◌, Bool, cond, not, ◌&&◌, ◌||◌,
 use Rattle.rules.specs.Bytes.{bytes}
 use Rattle.rules.specs.Texts.{starts_with}
 use Rattle.numbers.specs.Leading.{number_of}
+use Rattle.changes.specs.declared.Sign.{Sign}
+use Rattle.changes.specs.declared.Sign.TheVariants.{Minus, Plus}
 use Rattle.read_formula.specs.Units.{or_one}
 use Rattle.read_opening.specs.declared.Head.{Head}
 
 abbrev pub begins_sign : List ℕ → Bool
 begins_sign s = starts_with (bytes "+") s || starts_with (bytes "-") s
 
--- 0 for `-`, 1 for `+`
-abbrev pub sign_of : List ℕ → ℕ
-sign_of s = cond (starts_with (bytes "+") s) 1 0
+-- `-` where no `+` stands
+abbrev pub sign_of : List ℕ → Sign
+sign_of s = cond (starts_with (bytes "+") s) Plus Minus
 
 unfoldable pub head_of : List ℕ → Head
 head_of s = let n = number_of (drop 1 s) in record { sign = sign_of s; count = or_one n; len = 1 + n.len }

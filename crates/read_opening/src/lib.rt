@@ -8,17 +8,18 @@ ghost use Rattle.faults.specs.Faults.{join};
 ghost use Rattle.read_opening.specs.Heads.{sign_of, head_of, behind, begins_sign, begins_change, begins_isotope};
 ghost use Rattle.read_opening.specs.Enclosed.{long_mark, enclosed_of, text_of, name_of};
 
-use faults::Fault;
+use changes::Sign;
+use faults::{Refusal, Why, note};
 use limits::MAX_TEXT;
 use numbers::read_number;
 use read_formula::or_one;
 use slices::{advance, begins_with, minus_or_zero, rest};
 use texts::{name_len, text_len};
 
-// A sign, 0 for `-` and 1 for `+`, and a count, as read_number tells it; a silent count is 1.
+// A sign, and a count, as read_number tells it; a silent count is 1.
 #[derive(Clone, Copy)]
 pub struct Head {
-    pub sign: u8,
+    pub sign: Sign,
     pub count: u32,
     pub len: usize,
 }
@@ -28,28 +29,26 @@ pub struct Head {
 pub struct Enclosed {
     pub size: usize,
     pub len: usize,
-    pub fault: Fault,
+    pub fault: Option<Refusal>,
 }
 
 // ---- sign and count
 
-fn sign(s: &[u8]) -> u8
+fn sign(s: &[u8]) -> Sign
     ensures { result ≡ sign_of s.now }
 {
     if begins_with(s, b'+') {
-        return 1;
+        Sign::Plus
+    } else {
+        Sign::Minus
     }
-    0
 }
 
 // Whether a part begins with a sign.
 pub fn begins_sign(s: &[u8]) -> bool
     ensures { result ≡ begins_sign s.now }
 {
-    if begins_with(s, b'+') {
-        return true;
-    }
-    begins_with(s, b'-')
+    begins_with(s, b'+') || begins_with(s, b'-')
 }
 
 // The sign and the count that a part begins with.
@@ -73,42 +72,32 @@ fn is_counted_i(s: &[u8]) -> bool
 }
 
 // Whether a part begins with an isotope: a sign, and the `i` behind its count.
+#[tactic(auto, unfolding(crate::specs::Heads::begins_isotope))]
 pub fn begins_isotope(s: &[u8]) -> bool
     ensures { result ≡ begins_isotope s.now }
 {
-    if !begins_sign(s) {
-        return false;
-    }
-    is_counted_i(s)
+    begins_sign(s) && is_counted_i(s)
 }
 
 // Whether a part begins with a loss or an adduct item: a sign that begins no isotope.
+#[tactic(auto, unfolding(crate::specs::Heads::begins_change))]
 pub fn begins_change(s: &[u8]) -> bool
     ensures { result ≡ begins_change s.now }
 {
-    if !begins_sign(s) {
-        return false;
-    }
-    !is_counted_i(s)
+    begins_sign(s) && !is_counted_i(s)
 }
 
 // ---- texts in braces, names in brackets
 
 // A text or name of n bytes, against how many it may have; `place` is that of the first byte too many.
-fn check_length(f: Fault, n: usize, place: usize) -> Fault
+fn check_length(f: Option<Refusal>, n: usize, place: usize) -> Option<Refusal>
     ensures { result ≡ join f (long_mark n place) }
 {
-    if f.number != 0 {
-        return f;
-    }
-    if MAX_TEXT < n {
-        return Fault { number: 5, place };
-    }
-    f
+    note(f, Why::TooMany, place, MAX_TEXT < n)
 }
 
 // n bytes behind an opening byte, in a part of which `left` bytes are left of a line of `end` bytes.
-fn close_text(n: usize, left: usize, end: usize, f: Fault) -> Enclosed
+fn close_text(n: usize, left: usize, end: usize, f: Option<Refusal>) -> Enclosed
     ensures { result ≡ enclosed_of n left end f }
 {
     // The first byte too many has the opening byte and 255 bytes before it.
@@ -121,7 +110,7 @@ fn close_text(n: usize, left: usize, end: usize, f: Fault) -> Enclosed
 }
 
 // The text in braces that a part begins with; nothing where it begins with no brace.
-pub fn text_in_braces(s: &[u8], end: usize, f: Fault) -> Enclosed
+pub fn text_in_braces(s: &[u8], end: usize, f: Option<Refusal>) -> Enclosed
     ensures { result ≡ text_of end s.now f }
 {
     if !begins_with(s, b'{') {
@@ -135,7 +124,7 @@ pub fn text_in_braces(s: &[u8], end: usize, f: Fault) -> Enclosed
 }
 
 // The name in brackets that a part begins with; nothing where it begins with no bracket.
-pub fn name_in_brackets(s: &[u8], end: usize, f: Fault) -> Enclosed
+pub fn name_in_brackets(s: &[u8], end: usize, f: Option<Refusal>) -> Enclosed
     ensures { result ≡ name_of end s.now f }
 {
     if !begins_with(s, b'[') {

@@ -29,15 +29,14 @@ use Rattle.rules.proofs.Fractions.{whole_from, last_from, last_digits_lem, last_
 use Rattle.numbers.specs.declared.Decimal.{Decimal}
 use Rattle.numbers.specs.declared.DecimalRead.{DecimalRead}
 use Rattle.numbers.specs.declared.FirstByte.TheVariants.{Digit}
-use Rattle.numbers.specs.declared.MadeDecimal.{MadeDecimal}
-use Rattle.numbers.specs.declared.MadeDecimal.TheVariants.{Fits, Past}
+use Rattle.std.specs.Prelude.{Option, Some, None, is_some}
 use Rattle.numbers.specs.Leading.{leading}
-use Rattle.numbers.specs.Making.{ruled, made_of, made_number, made_decimal}
+use Rattle.numbers.specs.Making.{ruled, made_of, made_decimal}
 use Rattle.numbers.specs.Points.{point, fraction, pointed, decimal_from, decimal_of}
 use Rattle.numbers.proofs.Leads.{leading_silent}
 use Rattle.numbers.proofs.SpelledNumbers.{decimal_read}
 use Rattle.read_row.specs.declared.Column.{Column}
-use Rattle.read_row.specs.Columns.{begins_decimal, ends_column, is_column, column_of}
+use Rattle.read_row.specs.Columns.{begins_decimal, ends_column, is_column, good_column, column_in, column_of}
 use Rattle.read_row.proofs.Cuts.{lacks_more, lacks_append}
 
 -- ---- a decimal has no tab
@@ -82,7 +81,7 @@ begins_text d k e =
 abbrev pub kept : rules.Decimal → Decimal
 kept d = record { value = d.value; places = d.places }
 
-pub fits_made : (d : rules.Decimal) → T (fits d) → made_of d.value d.places ≡ Fits (kept d)
+pub fits_made : (d : rules.Decimal) → T (fits d) → made_of d.value d.places ≡ Some (kept d)
 unfolding made_of
 fits_made d t = rw (t_is (fits d) t)
 
@@ -90,28 +89,28 @@ module _ (d : rules.Decimal) (f : T (fits d)) (k : List ℕ) (n : first_in digit
   abbrev w : List ℕ
   w = decimal_text d
 
-  read : decimal_of Digit (w ++ k) ≡ record { made = Fits (kept d); len = length w }
-  read = decimal_read Digit d k n p ∙ ap (λ (m : MadeDecimal). record { made = m; len = length w }) (fits_made d f)
+  read : decimal_of Digit (w ++ k) ≡ record { made = Some (kept d); len = length w }
+  read = decimal_read Digit d k n p ∙ ap (λ (m : Option Decimal). record { made = m; len = length w }) (fits_made d f)
 
-  pub column_read : column_of (w ++ k) ≡ record { good = true; decimal = kept d; len = length w; next = min (length w + 1) (length (w ++ k)) }
-  unfolding column_of is_column
+  pub column_read : column_of (w ++ k) ≡ Some (record { decimal = kept d; len = length w; next = min (length w + 1) (length (w ++ k)) })
+  unfolding good_column column_in is_column
   column_read = rw (read, begins_text d k n, drop-append_seam w k, z)
 
 -- where the column ends
 pub good_read : {s column more : List ℕ} {place : ℕ} {d : rules.Decimal} → Cut s column more place → GoodColumn column d
-    → column_of s ≡ record { good = true; decimal = kept d; len = length column; next = place }
+    → column_of s ≡ Some (record { decimal = kept d; len = length column; next = place })
 unfolding ends_column
 good_read {d = d} (at_tab column more l e) g =
     let w = decimal_text d in
     let q : length w + 1 ≤ length (w ++ (9 ∷ more)) = omega (arith, length-append w (9 ∷ more)) in
     let m : min (length w + 1) (length (w ++ (9 ∷ more))) ≡ length column + 1 = omega (arith, ap length g.text) in
     ap column_of (sym e ∙ ap (λ (x : List ℕ). x ++ (9 ∷ more)) (sym g.text)) ∙ column_read d g.bounds (9 ∷ more) refl refl refl
-    ∙ ap₂ (λ (n x : ℕ). record { good = true; decimal = kept d; len = n; next = x }) (ap length g.text) m
+    ∙ ap₂ (λ (n x : ℕ). Some (record { decimal = kept d; len = n; next = x })) (ap length g.text) m
 good_read {s} {d = d} (no_tab l) g =
     let w = decimal_text d in
     let m : min (length w + 1) (length (w ++ [])) ≡ length s = omega (arith, length-append {A = ℕ} w [], ap length g.text) in
     ap column_of (sym (append-nil w ∙ g.text)) ∙ column_read d g.bounds [] refl refl refl
-    ∙ ap₂ (λ (n x : ℕ). record { good = true; decimal = kept d; len = n; next = x }) (ap length g.text) m
+    ∙ ap₂ (λ (n x : ℕ). Some (record { decimal = kept d; len = n; next = x })) (ap length g.text) m
 
 -- ---- and none else is
 
@@ -225,14 +224,14 @@ pub both : (a b : Bool) → cond a b false ≡ true → (a ≡ true) × (b ≡ t
 both true b e = (refl, e)
 both false b e = absurd (subst T (sym e) tt)
 
-pub made_zero : (v p : ℕ) → eqb (made_number (made_of v p)) 0 ≡ true
+pub made_some : (v p : ℕ) → is_some (made_of v p) ≡ true
     → T (fits (record { value = v; places = p })) × (made_decimal (made_of v p) ≡ record { value = v; places = p })
 unfolding made_of
-made_zero v p e = by (fits (record { value = v; places = p })) refl e
+made_some v p e = by (fits (record { value = v; places = p })) refl e
   where
     by : (t : Bool) → fits (record { value = v; places = p }) ≡ t
-        → eqb (made_number (cond t (Fits (record { value = v; places = p })) Past)) 0 ≡ true
-        → T (fits (record { value = v; places = p })) × (made_decimal (cond (fits (record { value = v; places = p })) (Fits (record { value = v; places = p })) Past) ≡ record { value = v; places = p })
+        → is_some (cond {A = Option Decimal} t (Some (record { value = v; places = p })) None) ≡ true
+        → T (fits (record { value = v; places = p })) × (made_decimal (cond {A = Option Decimal} (fits (record { value = v; places = p })) (Some (record { value = v; places = p })) None) ≡ record { value = v; places = p })
     by true q h = (is_t q, rw q)
     by false q h = absurd (subst T (sym h) tt)
 
@@ -263,9 +262,9 @@ cut_here s w k e l (inr (more, q)) =
     let m : length w + 1 ≡ min (length w + 1) (length s) = omega (arith, length-append w (9 ∷ more), ap length z) in
     (more, cut_as m (at_tab w more l z))
 
-found_made : (s : List ℕ) → eqb (made_number (decimal_from s).made) 0 ≡ true → T (fits (found s)) × (made_decimal (decimal_from s).made ≡ kept (found s))
+found_made : (s : List ℕ) → is_some (decimal_from s).made ≡ true → T (fits (found s)) × (made_decimal (decimal_from s).made ≡ kept (found s))
 unfolding decimal_from
-found_made s e = made_zero (found s).value (found s).places e
+found_made s e = made_some (found s).value (found s).places e
 
 -- what begins as decimals do begins with the digit that is needed
 begins_digit : (s : List ℕ) → begins_decimal s ≡ true → first_in digit s ≡ true
@@ -283,15 +282,15 @@ digit_first : (s : List ℕ) → first_in digit s ≡ true → decimal_of Digit 
 unfolding decimal_of
 digit_first s e = rw e
 
-pub read_good : (s : List ℕ) → (column_of s).good ≡ true → ColumnRead s (column_of s)
-unfolding column_of is_column
+pub read_good : (s : List ℕ) → good_column s ≡ true → ColumnRead s (column_in s)
+unfolding good_column column_in is_column
 read_good s e =
     let x = decimal_of Digit s in
-    let a = both (begins_decimal s) (cond (eqb (made_number x.made) 0) (ends_column (drop x.len s)) false) e in
-    let b = both (eqb (made_number x.made) 0) (ends_column (drop x.len s)) a.1 in
+    let a = both (begins_decimal s) (cond (is_some x.made) (ends_column (drop x.len s)) false) e in
+    let b = both (is_some x.made) (ends_column (drop x.len s)) a.1 in
     let q = digit_first s (begins_digit s a.0) in
     let d = found s in
-    let made = subst (λ (y : DecimalRead). eqb (made_number y.made) 0 ≡ true) q b.0 in
+    let made = subst (λ (y : DecimalRead). is_some y.made ≡ true) q b.0 in
     let m = found_made s made in
     let size = ap (λ (y : DecimalRead). made_decimal y.made) q ∙ m.1 in
     let len : length (decimal_text d) ≡ x.len = found_length s a.0 ∙ ap (λ (y : DecimalRead). y.len) (sym q) in
@@ -307,8 +306,10 @@ read_good s e =
     }
 
 -- no other column is good
-pub read_bad : (s : List ℕ) → (column_of s).good ≡ false → {column more : List ℕ} {place : ℕ} → Cut s column more place → BadColumn column
-read_bad s e c d g = subst T (sym (ap (λ (x : Column). x.good) (good_read c g)) ∙ e) tt
+pub read_bad : (s : List ℕ) → good_column s ≡ false → {column more : List ℕ} {place : ℕ} → Cut s column more place → BadColumn column
+read_bad s e c d g =
+    let none : is_some (column_of s) ≡ false = ap (λ (t : Bool). is_some (cond {A = Option Column} t (Some (column_in s)) None)) e in
+    subst T (sym (ap is_some (good_read c g)) ∙ none) tt
 
 -- ---- how long it may be
 

@@ -21,8 +21,10 @@ use Rattle.read_line.specs.Readings.{read_of}
 use Rattle.read_line.proofs.Right.{read_right}
 use Rattle.answers.specs.Behind.{capped}
 use Rattle.answers.proofs.Behind.{capped_is}
-use Rattle.read_row.specs.Columns.{column_of}
-use Rattle.read_row.specs.Readings.{head_bytes, headed_of, moved_of, third_of, intensity_of, mz_in, read_row_of}
+use Rattle.std.specs.Prelude.{Option, Some, None}
+use Rattle.read_row.specs.declared.Column.{Column}
+use Rattle.read_row.specs.Columns.{good_column, column_in, column_of}
+use Rattle.read_row.specs.Readings.{head_bytes, headed_of, moved_of, third_of, intensity_in, intensity_of, mz_in, read_row_of}
 use Rattle.read_row.proofs.Cuts.{cut_some}
 use Rattle.read_row.proofs.Decimals.{read_good, read_bad}
 use Rattle.read_row.proofs.LinePlaces.{Filled, reads_place, reads_fill}
@@ -83,32 +85,30 @@ module _ (l : LineEdition) (machine row : List ℕ) (room : ℕ) (small : room �
 
   intensity_right : (mz : Decimal) (at : ℕ) → at ≤ length row → ReadsIntensity l (ruled mz) (drop at row) at room (intensity_of machine row at mz room)
   unfolding intensity_of
-  intensity_right mz at h = by (column_of (drop at row)).good refl
+  intensity_right mz at h = by (good_column (drop at row)) refl
     where
-      by : (t : Bool) → (column_of (drop at row)).good ≡ t
-          → ReadsIntensity l (ruled mz) (drop at row) at room
-          (cond t (third_of machine mz (column_of (drop at row)).decimal (drop (min (at + (column_of (drop at row)).next) (length row)) row) (min (at + (column_of (drop at row)).next) (length row)) room) (refuses room 13 at))
+      by : (t : Bool) → good_column (drop at row) ≡ t
+          → ReadsIntensity l (ruled mz) (drop at row) at room (intensity_in machine row at mz room (cond {A = Option Column} t (Some (column_in (drop at row))) None))
       by true e =
           let g = read_good (drop at row) e in
-          let n = (column_of (drop at row)).next in
+          let n = (column_in (drop at row)).next in
           let p = cut_place g.cut in
           let q : min (at + n) (length row) ≡ at + n = omega (arith, length-drop at row) in
           let z = ap (λ (m : ℕ). drop m row) q ∙ sym (drop-drop n at row) ∙ cut_rest g.cut in
-          ReadsIntensity.good g.cut g.text (third_at mz (column_of (drop at row)).decimal (min (at + n) (length row)) (at + n) g.more (omega arith) q z)
+          ReadsIntensity.good g.cut g.text (third_at mz (column_in (drop at row)).decimal (min (at + n) (length row)) (at + n) g.more (omega arith) q z)
       by false e = ReadsIntensity.bad (cut_some (drop at row)).is (read_bad (drop at row) e (cut_some (drop at row)).is)
 
   pub mz_right : ReadsRow l row room (mz_in machine row room (column_of row))
-  mz_right = by (column_of row).good refl
+  mz_right = by (good_column row) refl
     where
-      by : (t : Bool) → (column_of row).good ≡ t
-          → ReadsRow l row room (cond t (intensity_of machine row (column_of row).next (column_of row).decimal room) (refuses room 12 0))
+      by : (t : Bool) → good_column row ≡ t → ReadsRow l row room (mz_in machine row room (cond {A = Option Column} t (Some (column_in row)) None))
       by true e =
           let g = read_good row e in
-          let n = (column_of row).next in
-          let a = intensity_of machine row n (column_of row).decimal room in
+          let n = (column_in row).next in
+          let a = intensity_of machine row n (column_in row).decimal room in
           ReadsRow.good short g.cut g.text
-          (subst (λ (w : List ℕ). ReadsIntensity l (ruled (column_of row).decimal) w n room a) (cut_rest g.cut)
-          (intensity_right (column_of row).decimal n (cut_place g.cut)))
+          (subst (λ (w : List ℕ). ReadsIntensity l (ruled (column_in row).decimal) w n room a) (cut_rest g.cut)
+          (intensity_right (column_in row).decimal n (cut_place g.cut)))
       by false e = ReadsRow.bad short (cut_some row).is (read_bad row e (cut_some row).is)
 
 pub read_row_right : (l : LineEdition) (machine row : List ℕ) (room : ℕ) → room ≤ max_place → ((n : ℕ) → JudgedBy l (drop n row) (scanned_by machine (drop n row)))

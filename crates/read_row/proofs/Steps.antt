@@ -1,12 +1,13 @@
 -- What each step of reading a row gives, in the words of its model. Assumes nothing.
 use Prim.Native.Nat.{ℕ, ◌+◌, ◌≤◌, ◌<◌, min}
-use mathlib.Core.Path.{◌≡◌, refl, sym, ap, ap₂, ◌∙◌}
-use mathlib.Core.Bool.{true, false}
+use mathlib.Core.Path.{◌≡◌, refl, sym, ap, ◌∙◌}
+use mathlib.Core.Bool.{true}
 use mathlib.Core.List.{List, [], ◌∷◌}
 use native.Mathlib.Omega.{arith}
 use lib.Dec.{eqb}
 use lib.ListN.{length, get_or, drop}
 use borrow.Author.Tests.{lt-ltb, le-ltb}
+use Rattle.std.specs.Prelude.{Option, Some, None}
 use Rattle.rules.specs.Stored.{little}
 use Rattle.rules.specs.Answers.{refuses}
 use Rattle.rules.specs.RowAnswers.{max_row}
@@ -15,7 +16,7 @@ use Rattle.put_bytes.proofs.Putting.{put_then, put_as}
 use Rattle.numbers.specs.declared.Decimal.{Decimal}
 use Rattle.read_row.specs.declared.Column.{Column}
 use Rattle.read_row.specs.Columns.{ends_column, column_of}
-use Rattle.read_row.specs.Readings.{head_bytes, third_of, intensity_of, read_row_of}
+use Rattle.read_row.specs.Readings.{head_bytes, third_of, intensity_in, intensity_of, mz_in, read_row_of}
 
 -- ---- columns
 
@@ -37,37 +38,30 @@ pub head_put : {mz intensity : Decimal} {v w p q : ℕ} {d d1 d2 d3 d4 d5 : List
 head_put a b c e x1 x2 x3 x4 x5 = put_as (put_then x1 (put_then x2 (put_then x3 (put_then x4 x5)))) (rw (a, b, c, e))
 
 module _ (machine row : List ℕ) (room : ℕ) where
-  pub intensity_bad : (at : ℕ) (mz : Decimal) {s : List ℕ} {x : Column} → s ≡ drop at row → x ≡ column_of s → x.good ≡ false
+  pub intensity_bad : (at : ℕ) (mz : Decimal) {s : List ℕ} {o : Option Column} → s ≡ drop at row → o ≡ column_of s → o ≡ None
       → refuses room 13 at ≡ intensity_of machine row at mz room
   unfolding intensity_of
-  intensity_bad at mz q e g =
-      let z : (column_of (drop at row)).good ≡ false = ap (λ (y : Column). y.good) (sym (e ∙ ap column_of q)) ∙ g in
-      rw z
+  intensity_bad at mz q e g = ap (intensity_in machine row at mz room) (sym g ∙ e ∙ ap column_of q)
 
-  pub intensity_good : (at : ℕ) (mz : Decimal) {to : ℕ} {s third : List ℕ} {x : Column} → s ≡ drop at row → x ≡ column_of s → x.good ≡ true
+  pub intensity_good : (at : ℕ) (mz : Decimal) {to : ℕ} {s third : List ℕ} {o : Option Column} {x : Column} → s ≡ drop at row → o ≡ column_of s → o ≡ Some x
       → to ≡ min (at + x.next) (length row) → third ≡ drop to row
       → third_of machine mz x.decimal third to room ≡ intensity_of machine row at mz room
   unfolding intensity_of
-  intensity_good at mz {to} {s} {third} {x} q e g t d =
-      let c : x ≡ column_of (drop at row) = e ∙ ap column_of q in
-      let z : (column_of (drop at row)).good ≡ true = ap (λ (y : Column). y.good) (sym c) ∙ g in
-      let n : to ≡ min (at + (column_of (drop at row)).next) (length row) = t ∙ ap (λ (y : Column). min (at + y.next) (length row)) c in
-      rw z (ap (λ (l : List ℕ). third_of machine mz x.decimal l to room) d
-      ∙ ap₂ (λ (y : Column) (m : ℕ). third_of machine mz y.decimal (drop m row) m room) c n)
+  intensity_good at mz {to} {x = x} q e g t d =
+      ap (λ (l : List ℕ). third_of machine mz x.decimal l to room) d ∙ ap (λ (m : ℕ). third_of machine mz x.decimal (drop m row) m room) t
+      ∙ ap (intensity_in machine row at mz room) (sym g ∙ e ∙ ap column_of q)
 
   pub row_long : max_row < length row → refuses room 1 max_row ≡ read_row_of machine row room
   unfolding read_row_of
   row_long h = rw (lt-ltb max_row (length row) h)
 
-  pub row_bad : {x : Column} → length row ≤ max_row → x ≡ column_of row → x.good ≡ false → refuses room 12 0 ≡ read_row_of machine row room
+  row_in : {o : Option Column} → length row ≤ max_row → o ≡ column_of row → mz_in machine row room o ≡ read_row_of machine row room
   unfolding read_row_of
-  row_bad h e g =
-      let z : (column_of row).good ≡ false = ap (λ (y : Column). y.good) (sym e) ∙ g in
-      rw (le-ltb max_row (length row) h, z)
+  row_in h e = ap (mz_in machine row room) e ∙ rw (le-ltb max_row (length row) h)
 
-  pub row_good : {x : Column} → length row ≤ max_row → x ≡ column_of row → x.good ≡ true
+  pub row_bad : {o : Option Column} → length row ≤ max_row → o ≡ column_of row → o ≡ None → refuses room 12 0 ≡ read_row_of machine row room
+  row_bad h e g = ap (mz_in machine row room) (sym g) ∙ row_in h e
+
+  pub row_good : {o : Option Column} {x : Column} → length row ≤ max_row → o ≡ column_of row → o ≡ Some x
       → intensity_of machine row x.next x.decimal room ≡ read_row_of machine row room
-  unfolding read_row_of
-  row_good h e g =
-      let z : (column_of row).good ≡ true = ap (λ (y : Column). y.good) (sym e) ∙ g in
-      rw (le-ltb max_row (length row) h, z) (ap (λ (y : Column). intensity_of machine row y.next y.decimal room) e)
+  row_good h e g = ap (mz_in machine row room) (sym g) ∙ row_in h e

@@ -1,9 +1,9 @@
 -- The column that bytes begin with, read as a decimal. Assumes nothing.
-use Rattle.std.specs.Prelude.{ℕ, ◌+◌, min, Bool, true, false, cond, not, List, [], ◌∷◌, eqb, length, drop}
+use Rattle.std.specs.Prelude.{ℕ, ◌+◌, min, Bool, true, false, cond, not, List, [], ◌∷◌, eqb, length, drop, is_some, Option, Some, None}
 use Rattle.rules.specs.Bytes.{bytes, ◌to◌, digit}
 use Rattle.rules.specs.Texts.{first_in, starts_with}
 use Rattle.numbers.specs.declared.DecimalRead.{DecimalRead}
-use Rattle.numbers.specs.Making.{made_number, made_decimal}
+use Rattle.numbers.specs.Making.{made_decimal}
 use Rattle.numbers.specs.declared.FirstByte.TheVariants.{Digit}
 use Rattle.numbers.specs.Points.{decimal_of}
 use Rattle.read_row.specs.declared.Column.{Column}
@@ -19,14 +19,21 @@ ends_column (b ∷ s) = eqb b 9
 
 -- the bytes begin with a decimal, as it was read, and a column ends behind it
 unfoldable pub is_column : List ℕ → DecimalRead → Bool
-is_column s d = cond (begins_decimal s) (cond (eqb (made_number d.made) 0) (ends_column (drop d.len s)) false) false
+is_column s d = cond (begins_decimal s) (cond (is_some d.made) (ends_column (drop d.len s)) false) false
 
--- whether the column is good, its decimal, how many bytes that has, and where what stands behind its tab begins
-unfoldable pub column_of : List ℕ → Column
-column_of s =
+-- the bytes begin with a column
+unfoldable pub good_column : List ℕ → Bool
+good_column s = is_column s (decimal_of Digit s)
+
+-- its decimal, how many bytes that has, and where what stands behind its tab begins
+unfoldable pub column_in : List ℕ → Column
+column_in s =
     record {
-      good = is_column s (decimal_of Digit s);
       decimal = made_decimal (decimal_of Digit s).made;
       len = (decimal_of Digit s).len;
       next = min ((decimal_of Digit s).len + 1) (length s);
     }
+
+-- the column that the bytes begin with
+abbrev pub column_of : List ℕ → Option Column
+column_of s = cond (good_column s) (Some (column_in s)) None

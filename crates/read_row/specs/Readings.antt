@@ -1,5 +1,5 @@
 -- The answer to a row, by what its columns are read as. Assumes nothing.
-use Rattle.std.specs.Prelude.{ℕ, ◌+◌, ◌-◌, min, cond, List, ◌++◌, eqb, ltb, length, drop}
+use Rattle.std.specs.Prelude.{ℕ, ◌+◌, ◌-◌, min, cond, List, ◌++◌, eqb, ltb, length, drop, Ok, Err, Option, Some, None}
 use Rattle.std.proofs.lemmas.List.Edits.{sets}
 use Rattle.rules.specs.Stored.{stores}
 use Rattle.rules.specs.Answers as rules
@@ -11,7 +11,8 @@ use Rattle.numbers.specs.declared.Decimal.{Decimal}
 use Rattle.numbers.specs.Making.{ruled}
 use Rattle.read_line.specs.Readings.{read_of}
 use Rattle.read_row.specs.declared.Column.{Column}
-use Rattle.answers.specs.declared.Answer.{Answer}
+use Rattle.faults.specs.Refusals.{number_of}
+use Rattle.answers.specs.Delivered.{Answer}
 use Rattle.answers.specs.Behind.{capped}
 use Rattle.read_row.specs.Columns.{column_of}
 
@@ -27,9 +28,9 @@ filled_over d head size =
 
 -- the line, which begins at a place, was answered so
 unfoldable pub ended_over : List ℕ → List ℕ → ℕ → Answer → rules.Answer
-ended_over d head at r =
-    cond (eqb r.number 0) (filled_over d head (capped row_head_size r.len))
-    (cond (eqb r.number 8) (refuses (length d) 8 (capped row_head_size r.place)) (refuses (length d) r.number (capped at r.place)))
+ended_over d head at (Ok n) = filled_over d head (capped row_head_size n)
+ended_over d head at (Err r) =
+    cond (eqb (number_of r.why) 8) (refuses (length d) 8 (capped row_head_size r.place)) (refuses (length d) (number_of r.why) (capped at r.place))
 
 -- ---- the whole
 
@@ -50,17 +51,17 @@ third_of machine mz intensity third at room =
     moved_of (head_bytes mz intensity) at room (read_of (scanned_by machine third) third (room - row_head_size))
 
 -- of a row with m/z, where the intensity begins at a place and was read
-abbrev pub intensity_in : List ℕ → List ℕ → ℕ → Decimal → ℕ → Column → rules.Answer
-intensity_in machine row at mz room c =
-    let to = min (at + c.next) (length row) in
-    cond c.good (third_of machine mz c.decimal (drop to row) to room) (refuses room 13 at)
+abbrev pub intensity_in : List ℕ → List ℕ → ℕ → Decimal → ℕ → Option Column → rules.Answer
+intensity_in machine row at mz room (Some c) = let to = min (at + c.next) (length row) in third_of machine mz c.decimal (drop to row) to room
+intensity_in machine row at mz room None = refuses room 13 at
 
 unfoldable pub intensity_of : List ℕ → List ℕ → ℕ → Decimal → ℕ → rules.Answer
 intensity_of machine row at mz room = intensity_in machine row at mz room (column_of (drop at row))
 
 -- of a row whose m/z was read
-abbrev pub mz_in : List ℕ → List ℕ → ℕ → Column → rules.Answer
-mz_in machine row room c = cond c.good (intensity_of machine row c.next c.decimal room) (refuses room 12 0)
+abbrev pub mz_in : List ℕ → List ℕ → ℕ → Option Column → rules.Answer
+mz_in machine row room (Some c) = intensity_of machine row c.next c.decimal room
+mz_in machine row room None = refuses room 12 0
 
 unfoldable pub read_row_of : List ℕ → List ℕ → ℕ → rules.Answer
 read_row_of machine row room = cond (ltb max_row (length row)) (refuses room 1 max_row) (mz_in machine row room (column_of row))

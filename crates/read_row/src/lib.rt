@@ -11,7 +11,8 @@ ghost use Rattle.read_line.specs.Readings.{read_of};
 ghost use Rattle.read_row.specs.Columns.{begins_decimal, ends_column, is_column, column_of};
 ghost use Rattle.read_row.specs.Readings.{head_bytes, ended_over, third_of, intensity_of, read_row_of};
 
-use answers::{Answer, plus, refuse};
+use answers::{plus, refuse};
+use faults::{Refusal, Why};
 use layout::ROW_HEAD_SIZE;
 use limits::MAX_ROW;
 use numbers::{Decimal, DecimalRead, FirstByte, read_decimal};
@@ -19,11 +20,9 @@ use put_bytes::{clear, put_le};
 use read_line::read_by;
 use slices::{advance, begins_in, begins_with, rest};
 
-// A column as it was read: whether it is a decimal within its bounds, which, how many bytes it has, and where what stands behind its tab
-// begins.
-#[derive(Drop)]
+// A column as it was read: its decimal, how many bytes that has, and where what stands behind its tab begins.
+#[derive(Clone, Copy)]
 pub struct Column {
-    pub good: bool,
     pub decimal: Decimal,
     pub len: usize,
     pub next: usize,
@@ -55,37 +54,33 @@ fn ends_column(s: &[u8]) -> bool
 }
 
 // Whether a decimal that was read is a column.
+#[tactic(auto, unfolding(crate::specs::Columns::is_column))]
 fn is_column(s: &[u8], d: DecimalRead) -> bool
     ensures { result ≡ is_column s.now d }
 {
-    if !begins_decimal(s) {
-        return false;
-    }
-    let made = d.made;
-    if made.number() != 0 {
-        return false;
-    }
-    ends_column(rest(s, d.len))
+    begins_decimal(s) && d.made.is_some() && ends_column(rest(s, d.len))
 }
 
-// The column that a part begins with.
-pub fn read_column(s: &[u8]) -> Column
+// The column that a part begins with; none where it begins with no decimal within its bounds, or with more behind it.
+#[tactic(auto, unfolding(crate::specs::Columns::good_column, crate::specs::Columns::column_in))]
+pub fn read_column(s: &[u8]) -> Option<Column>
     ensures { result ≡ column_of s.now }
 {
     let d = read_decimal(s, FirstByte::Digit);
-    let made = d.made;
-    Column {
-        good: is_column(s, d),
-        decimal: made.decimal(),
+    if !is_column(s, d) {
+        return None;
+    }
+    Some(Column {
+        decimal: d.made.unwrap_or(Decimal::zero()),
         len: d.len,
         next: advance(d.len, 1, s.len()),
-    }
+    })
 }
 
 // ---- reading
 
 // A line, read into what stands behind the head: its table is not moved.
-fn read_behind(machine: &[u8], line: &[u8], out: &mut [u8]) -> Answer
+fn read_behind(machine: &[u8], line: &[u8], out: &mut [u8]) -> Result<usize, Refusal>
     ensures { Behind row_head_size out.old out.new (read_of (scanned_by machine.now line.now) line.now (length out.old - row_head_size)) result }
 {
     let from = advance(0, ROW_HEAD_SIZE, out.len());
@@ -104,27 +99,33 @@ fn put_head(out: &mut [u8], mz: Decimal, intensity: Decimal) -> usize
 }
 
 // A row with both numbers, by the answer to its line, which begins at a place. The table of the line stands where it is to be, behind the head.
-pub fn end_row(line: Answer, at: usize, mz: Decimal, intensity: Decimal, out: &mut [u8]) -> Answer
+pub fn end_row(
+    line: Result<usize, Refusal>,
+    at: usize,
+    mz: Decimal,
+    intensity: Decimal,
+    out: &mut [u8],
+) -> Result<usize, Refusal>
     ensures { answered result out.new ≡ ended_over out.old (head_bytes mz intensity) at line }
 {
-    if line.number == 0 {
-        let size = plus(ROW_HEAD_SIZE, line.len);
-        if out.len() < size {
-            clear(out);
-            return refuse(8, size);
+    match line {
+        Ok(len) => {
+            let size = plus(ROW_HEAD_SIZE, len);
+            if out.len() < size {
+                clear(out);
+                return refuse(Why::OutputTooShort, size);
+            }
+            put_head(out, mz, intensity);
+            Ok(size)
         }
-        put_head(out, mz, intensity);
-        return Answer {
-            number: 0,
-            place: 0,
-            len: size,
-        };
+        Err(line) => {
+            clear(out);
+            match line.why {
+                Why::OutputTooShort => refuse(line.why, plus(ROW_HEAD_SIZE, line.place)),
+                _ => refuse(line.why, plus(at, line.place)),
+            }
+        }
     }
-    clear(out);
-    if line.number == 8 {
-        return refuse(8, plus(ROW_HEAD_SIZE, line.place));
-    }
-    refuse(line.number, plus(at, line.place))
 }
 
 // A row of which both numbers were read, and whose third column begins at a place.
@@ -135,7 +136,7 @@ fn read_third(
     mz: Decimal,
     intensity: Decimal,
     out: &mut [u8],
-) -> Answer
+) -> Result<usize, Refusal>
     ensures { answered result out.new ≡ third_of machine.now mz intensity third.now at (length out.old) }
 {
     let line = read_behind(machine, third, out);
@@ -143,30 +144,34 @@ fn read_third(
 }
 
 // A row of which m/z was read, and whose intensity begins at a place.
-fn read_intensity(machine: &[u8], row: &[u8], at: usize, mz: Decimal, out: &mut [u8]) -> Answer
+fn read_intensity(
+    machine: &[u8],
+    row: &[u8],
+    at: usize,
+    mz: Decimal,
+    out: &mut [u8],
+) -> Result<usize, Refusal>
     ensures { answered result out.new ≡ intensity_of machine.now row.now at mz (length out.old) }
 {
-    let intensity = read_column(rest(row, at));
-    if !intensity.good {
+    let Some(intensity) = read_column(rest(row, at)) else {
         clear(out);
-        return refuse(13, at);
-    }
+        return refuse(Why::BadIntensity, at);
+    };
     let to = advance(at, intensity.next, row.len());
     read_third(machine, rest(row, to), to, mz, intensity.decimal, out)
 }
 
 // A row by a lent machine: whoever has many rows makes the machine once.
-pub fn read_row_by(machine: &[u8], row: &[u8], out: &mut [u8]) -> Answer
+pub fn read_row_by(machine: &[u8], row: &[u8], out: &mut [u8]) -> Result<usize, Refusal>
     ensures { answered result out.new ≡ read_row_of machine.now row.now (length out.old) }
 {
     if MAX_ROW < row.len() {
         clear(out);
-        return refuse(1, MAX_ROW);
+        return refuse(Why::LineTooLong, MAX_ROW);
     }
-    let mz = read_column(row);
-    if !mz.good {
+    let Some(mz) = read_column(row) else {
         clear(out);
-        return refuse(12, 0);
-    }
+        return refuse(Why::BadMz, 0);
+    };
     read_intensity(machine, row, mz.next, mz.decimal, out)
 }

@@ -5,7 +5,7 @@ use mathlib.Core.Bool.{Bool, true, false, ◌&&◌}
 use mathlib.Core.List.{List, [], ◌∷◌}
 use native.Mathlib.Omega.{arith}
 use lib.Dec.{eqb, ltb}
-use lib.ListN.{length, get_or, drop, length-drop}
+use lib.ListN.{length, drop, length-drop}
 use borrow.Author.Tests.{ltb-true, ltb-false}
 use Rattle.lang.proofs.Tests.{not_t}
 use Rattle.rules.specs.Bytes.{bytes}
@@ -37,7 +37,7 @@ size_small false = omega arith
 -- ---- `ppm`
 
 module _ (s : List ℕ) where
-  pub ppm_short : length s < 3 → false ≡ starts_with (bytes "ppm") s
+  ppm_short : length s < 3 → false ≡ starts_with (bytes "ppm") s
   ppm_short h = go s h
     where
       and_false : (x : Bool) → false ≡ (x && false)
@@ -49,15 +49,6 @@ module _ (s : List ℕ) where
       go (a ∷ []) h = and_false (eqb 112 a)
       go (a ∷ b ∷ []) h = rw (← and_false (eqb 112 b)) (and_false (eqb 112 a))
       go (a ∷ b ∷ d ∷ s) h = absurd (omega arith)
-
-  pub ppm_at : 3 ≤ length s → starts_with (bytes "ppm") s ≡ eqb 112 (get_or s 0 0) && (eqb 112 (get_or s 1 0) && (eqb 109 (get_or s 2 0) && true))
-  ppm_at h = go s h
-    where
-      go : (s : List ℕ) → 3 ≤ length s → starts_with (bytes "ppm") s ≡ eqb 112 (get_or s 0 0) && (eqb 112 (get_or s 1 0) && (eqb 109 (get_or s 2 0) && true))
-      go [] h = absurd (omega arith)
-      go (a ∷ []) h = absurd (omega arith)
-      go (a ∷ b ∷ []) h = absurd (omega arith)
-      go (a ∷ b ∷ d ∷ s) h = refl
 
 ppm_long : (t : List ℕ) → starts_with (bytes "ppm") t ≡ true → 3 ≤ length t
 ppm_long t e = by (ltb (length t) 3) refl

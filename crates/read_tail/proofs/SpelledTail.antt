@@ -21,15 +21,16 @@ use Rattle.rules.specs.Limits.{max_charge, fits, decimal_mark, opt_part, charge_
 use Rattle.rules.proofs.Confidences.{leaves_zero, places_some, point_length}
 use Rattle.numbers.specs.declared.Decimal as numbers
 use Rattle.numbers.specs.declared.FirstByte.TheVariants.{Digit, DigitOrPoint}
-use Rattle.numbers.specs.declared.MadeDecimal.TheVariants.{Fits, Past}
+use Rattle.std.specs.Prelude.{Some, None, Option}
 use Rattle.numbers.specs.Making.{zero_decimal, made_of}
 use Rattle.numbers.specs.Points.{point}
 use Rattle.numbers.proofs.SpelledNumbers.{number_read, decimal_begins, decimal_read, point_read}
-use Rattle.faults.specs.declared.Fault.{Fault}
-use Rattle.faults.specs.Faults.{numbered, join, after}
-use Rattle.faults.proofs.Marks.{join_kept}
+use Rattle.faults.specs.declared.Refusal.{Refusal}
+use Rattle.faults.specs.Faults.{join, after}
 use Rattle.read_formula.proofs.Spelled.{capped}
 use Rattle.read_formula.proofs.Limits.{mark_told}
+use Rattle.read_tail.specs.declared.PartKind.{PartKind}
+use Rattle.read_tail.specs.declared.PartKind.TheVariants.{Plain, Ppm}
 use Rattle.read_tail.specs.declared.DecimalPart.{DecimalPart}
 use Rattle.read_tail.specs.Charges.{charge_of}
 use Rattle.read_tail.specs.Decimals.{no_part, part_of, digit_at, confidence_of, deviation_of}
@@ -41,7 +42,7 @@ abbrev pub charge_read : Opt (From 2) → ℕ
 charge_read silent = 1
 charge_read (written n) = capped n.value
 
-pub charge_read_lem : (c : Opt (From 2)) (k : List ℕ) (end : ℕ) (f : Fault) → first_in digit k ≡ false → starts_with (bytes "^") k ≡ false
+pub charge_read_lem : (c : Opt (From 2)) (k : List ℕ) (end : ℕ) (f : Option Refusal) → first_in digit k ≡ false → starts_with (bytes "^") k ≡ false
     → length (opt_text charge_text c ++ k) ≤ end
     → charge_of end (opt_text charge_text c ++ k) f
     ≡ record { value = charge_read c; len = length (opt_text charge_text c); fault = after f ((opt_part charge_part c).marks (end - length (opt_text charge_text c ++ k))) }
@@ -49,7 +50,7 @@ unfolding charge_of
 charge_read_lem silent k end f d e h = rw e
 charge_read_lem (written n) k end f d e h =
     rw (number_read n.value k d)
-    (ap₂ (λ (l : ℕ) (g : Fault). record { value = capped n.value; len = l; fault = g }) (omega arith)
+    (ap₂ (λ (l : ℕ) (g : Option Refusal). record { value = capped n.value; len = l; fault = g }) (omega arith)
     (mark_told f max_charge n.value (end - (length (charge_text n ++ k) - 1)) (end - length (charge_text n ++ k) + 1) (omega arith) (omega arith)))
 
 -- ---- decimals
@@ -58,19 +59,17 @@ charge_read_lem (written n) k end f d e h =
 abbrev pub size_read : Decimal → Bool → numbers.Decimal
 size_read d fitting = cond fitting (record { value = d.value; places = d.places }) zero_decimal
 
-abbrev pub part_read : ℕ → Bool → Bool → Decimal → ℕ → Fault → DecimalPart
+abbrev pub part_read : PartKind → Bool → Bool → Decimal → ℕ → Option Refusal → DecimalPart
 part_read kind minus bare d len g = record { kind = kind; minus = minus; bare = bare; size = size_read d (fits d); len = len; fault = g }
 
-pub part_made : (d : Decimal) (kind : ℕ) (minus bare : Bool) (len place : ℕ) (f : Fault)
+pub part_made : (d : Decimal) (kind : PartKind) (minus bare : Bool) (len place : ℕ) (f : Option Refusal)
     → part_of (made_of d.value d.places) kind minus bare len place f ≡ part_read kind minus bare d len (after f (decimal_mark d place))
 unfolding made_of part_of
 part_made d kind minus bare len place f = by (fits d)
   where
-    by : (t : Bool) → part_of (cond t (Fits (record { value = d.value; places = d.places })) Past) kind minus bare len place f
+    by : (t : Bool) → part_of (cond t (Some (record { value = d.value; places = d.places })) None) kind minus bare len place f
         ≡ record { kind = kind; minus = minus; bare = bare; size = size_read d t; len = len; fault = join f (record { place = place; number = 4; broken = not t }) }
-    by true =
-        ap (λ (g : Fault). record { kind = kind; minus = minus; bare = bare; size = size_read d true; len = len; fault = g })
-        (join_kept f (numbered 0 place) refl ∙ sym (join_kept f (record { place = place; number = 4; broken = false }) refl))
+    by true = refl
     by false = refl
 
 -- ---- confidences
@@ -85,26 +84,26 @@ unfolding point_text
 point_begins zero v k h = absurd (omega arith)
 point_begins (suc n) v k h = refl
 
-abbrev pub confidence_read : Opt Confidence → Fault → DecimalPart
+abbrev pub confidence_read : Opt Confidence → Option Refusal → DecimalPart
 confidence_read silent g = no_part g
-confidence_read (written c) g = part_read 1 false (leaves_zero c) (meant_decimal c) (length (confidence_text c)) g
+confidence_read (written c) g = part_read Plain false (leaves_zero c) (meant_decimal c) (length (confidence_text c)) g
 
-pub confidence_read_lem : (c : Opt Confidence) (k : List ℕ) (end : ℕ) (f : Fault) → first_in digit k ≡ false → first_in point k ≡ false → starts_with (bytes "*") k ≡ false
+pub confidence_read_lem : (c : Opt Confidence) (k : List ℕ) (end : ℕ) (f : Option Refusal) → first_in digit k ≡ false → first_in point k ≡ false → starts_with (bytes "*") k ≡ false
     → length (opt_text confidence_text c ++ k) ≤ end
     → confidence_of end (opt_text confidence_text c ++ k) f ≡ confidence_read c (after f ((opt_part confidence_part c).marks (end - length (opt_text confidence_text c ++ k))))
 unfolding confidence_of
 confidence_read_lem silent k end f d p e h = rw e
 confidence_read_lem (written (in_full x)) k end f d p e h =
     rw (digit_not 46 (omega arith) (decimal_text x ++ k) (decimal_begins x k), decimal_read DigitOrPoint x k d p)
-    (part_made x 1 false false (1 + length (decimal_text x)) (end - (length (confidence_text (in_full x) ++ k) - 1)) f
-    ∙ ap₂ (λ (l n : ℕ). part_read 1 false false x l (after f (decimal_mark x n))) (omega arith) (omega arith))
+    (part_made x Plain false false (1 + length (decimal_text x)) (end - (length (confidence_text (in_full x) ++ k) - 1)) f
+    ∙ ap₂ (λ (l n : ℕ). part_read Plain false false x l (after f (decimal_mark x n))) (omega arith) (omega arith))
 confidence_read_lem (written (from_point_lem z)) k end f d p e h =
     let x = z.decimal in
     let t = point_text x.places x.value in
     let some : 1 ≤ length t = omega (arith, point_length x.places x.value (places_some z)) in
     rw (point_begins x.places x.value k (places_some z), point_read z k d p)
-    (part_made x 1 false true (1 + length t) (end - (length (confidence_text (from_point_lem z) ++ k) - 2)) f
-    ∙ ap₂ (λ (l n : ℕ). part_read 1 false true x l (after f (decimal_mark x n))) (omega arith) (omega (arith, length-append t k)))
+    (part_made x Plain false true (1 + length t) (end - (length (confidence_text (from_point_lem z) ++ k) - 2)) f
+    ∙ ap₂ (λ (l n : ℕ). part_read Plain false true x l (after f (decimal_mark x n))) (omega arith) (omega (arith, length-append t k)))
 
 -- ---- deviations
 
@@ -136,28 +135,28 @@ size_flag : (m : Bool) → digit_at m ≡ 1 + length (flag_text (bytes "-") m)
 size_flag true = refl
 size_flag false = refl
 
-abbrev pub kind_read : Bool → ℕ
-kind_read true = 2
-kind_read false = 1
+abbrev pub kind_read : Bool → PartKind
+kind_read true = Ppm
+kind_read false = Plain
 
 text_is : (x : Deviation) (k : List ℕ) → deviation_text x ++ k ≡ spelled x.minus x.size (flag_text (bytes "ppm") x.ppm ++ k)
 text_is x k = simp append_assoc
 
-parts_read_lem : (m p : Bool) (d : Decimal) (k : List ℕ) (end : ℕ) (f : Fault) → first_in digit k ≡ false → first_in point k ≡ false → starts_with (bytes "p") k ≡ false
+parts_read_lem : (m p : Bool) (d : Decimal) (k : List ℕ) (end : ℕ) (f : Option Refusal) → first_in digit k ≡ false → first_in point k ≡ false → starts_with (bytes "p") k ≡ false
     → let s = spelled m d (flag_text (bytes "ppm") p ++ k) in
     part_of (made_of d.value d.places) (kind_read p) m false (digit_at m + length (decimal_text d) + length (flag_text (bytes "ppm") p)) (end - (length s - digit_at m)) f ≡ deviation_of end s f
 parts_read_lem m true d k end f e o n =
     let j = bytes "ppm" ++ k in
     in_ppm (spelled m d j) end f refl (minus_read m d j) refl (size_read_lem m d j) (sym (decimal_read Digit d j refl refl)) (rest_read m d j) refl refl refl refl
 parts_read_lem m false d k end f e o n =
-    ap (λ (l : ℕ). part_of (made_of d.value d.places) 1 m false l (end - (length (spelled m d k) - digit_at m)) f) (omega arith)
+    ap (λ (l : ℕ). part_of (made_of d.value d.places) Plain m false l (end - (length (spelled m d k) - digit_at m)) f) (omega arith)
     ∙ in_units (spelled m d k) end f refl (minus_read m d k) refl (size_read_lem m d k) (sym (decimal_read Digit d k e o)) (rest_read m d k) refl refl (no_ppm k n) refl
 
-abbrev pub deviation_read : Opt Deviation → Fault → DecimalPart
+abbrev pub deviation_read : Opt Deviation → Option Refusal → DecimalPart
 deviation_read silent g = no_part g
 deviation_read (written x) g = part_read (kind_read x.ppm) x.minus false x.size (length (deviation_text x)) g
 
-pub deviation_read_lem : (c : Opt Deviation) (k : List ℕ) (end : ℕ) (f : Fault) → first_in digit k ≡ false → first_in point k ≡ false → starts_with (bytes "p") k ≡ false → starts_with (bytes "/") k ≡ false
+pub deviation_read_lem : (c : Opt Deviation) (k : List ℕ) (end : ℕ) (f : Option Refusal) → first_in digit k ≡ false → first_in point k ≡ false → starts_with (bytes "p") k ≡ false → starts_with (bytes "/") k ≡ false
     → length (opt_text deviation_text c ++ k) ≤ end
     → deviation_of end (opt_text deviation_text c ++ k) f ≡ deviation_read c (after f ((opt_part deviation_part c).marks (end - length (opt_text deviation_text c ++ k))))
 unfolding deviation_of

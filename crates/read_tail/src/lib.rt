@@ -4,12 +4,13 @@
 ghost use Rattle.std.specs.Prelude.{◌≡◌};
 ghost use Rattle.rules.specs.Bytes.{bytes};
 ghost use Rattle.rules.specs.Texts.{starts_with};
+ghost use Rattle.read_tail.specs.Kinds.{part_number};
 ghost use Rattle.read_tail.specs.Charges.{charge_of};
 ghost use Rattle.read_tail.specs.Decimals.{no_part, part_of, digit_at, confidence_of, deviation_of};
 
-use faults::{Fault, check_number, check_refusal};
+use faults::{Refusal, Why, check_number, note};
 use limits::MAX_CHARGE;
-use numbers::{Decimal, FirstByte, MadeDecimal, read_decimal, read_number};
+use numbers::{Decimal, FirstByte, read_decimal, read_number};
 use slices::{begins_with, minus_or_zero, rest};
 
 // A charge: its number, as read_number tells it, how many bytes it has, and the first broken limit. A silent charge is 1.
@@ -17,23 +18,39 @@ use slices::{begins_with, minus_or_zero, rest};
 pub struct ChargeRead {
     pub value: u32,
     pub len: usize,
-    pub fault: Fault,
+    pub fault: Option<Refusal>,
 }
 
-// A deviation or a confidence. Kind 0: there is none; 1: there is one; 2: a deviation in ppm. A bare one lacks the 0 before its point.
-// A decimal past its bounds is told as 0.
+// Whether there is a deviation or a confidence; a deviation may be in ppm.
+#[derive(Clone, Copy, PartialEq, Eq)]
+pub enum PartKind {
+    Absent,
+    Plain,
+    Ppm,
+}
+
+impl From<PartKind> for u8 {
+    // As it is stored.
+    fn from(kind: PartKind) -> Self
+        ensures { result ≡ part_number kind }
+    {
+        kind as u8
+    }
+}
+
+// A deviation or a confidence. A bare one lacks the 0 before its point. A decimal past its bounds is told as 0.
 #[derive(Clone, Copy)]
 pub struct DecimalPart {
-    pub kind: u8,
+    pub kind: PartKind,
     pub minus: bool,
     pub bare: bool,
     pub size: Decimal,
     pub len: usize,
-    pub fault: Fault,
+    pub fault: Option<Refusal>,
 }
 
 // The charge that a part begins with, where the part is the rest of a line of `end` bytes.
-pub fn read_charge(s: &[u8], end: usize, f: Fault) -> ChargeRead
+pub fn read_charge(s: &[u8], end: usize, f: Option<Refusal>) -> ChargeRead
     ensures { result ≡ charge_of end s.now f }
 {
     if !begins_with(s, b'^') {
@@ -58,11 +75,11 @@ pub fn read_charge(s: &[u8], end: usize, f: Fault) -> ChargeRead
 }
 
 // No part, with the first limit that was broken before it.
-fn no_part(f: Fault) -> DecimalPart
+fn no_part(f: Option<Refusal>) -> DecimalPart
     ensures { result ≡ no_part f }
 {
     DecimalPart {
-        kind: 0,
+        kind: PartKind::Absent,
         minus: false,
         bare: false,
         size: Decimal::zero(),
@@ -72,29 +89,31 @@ fn no_part(f: Fault) -> DecimalPart
 }
 
 // A decimal at a place, as a part.
+#[tactic(auto, unfolding(crate::specs::Decimals::part_of))]
 fn made_part(
-    made: MadeDecimal,
-    kind: u8,
+    made: Option<Decimal>,
+    kind: PartKind,
     minus: bool,
     bare: bool,
     len: usize,
     place: usize,
-    f: Fault,
+    f: Option<Refusal>,
 ) -> DecimalPart
     ensures { result ≡ part_of made kind minus bare len place f }
 {
+    let past = made.is_none();
     DecimalPart {
         kind,
         minus,
         bare,
-        size: made.decimal(),
+        size: made.unwrap_or(Decimal::zero()),
         len,
-        fault: check_refusal(f, made.number(), place),
+        fault: note(f, Why::PastBound, place, past),
     }
 }
 
 // The confidence that a part begins with.
-pub fn read_confidence(s: &[u8], end: usize, f: Fault) -> DecimalPart
+pub fn read_confidence(s: &[u8], end: usize, f: Option<Refusal>) -> DecimalPart
     ensures { result ≡ confidence_of end s.now f }
 {
     if !begins_with(s, b'*') {
@@ -104,39 +123,26 @@ pub fn read_confidence(s: &[u8], end: usize, f: Fault) -> DecimalPart
     let bare = begins_with(t, b'.');
     let at = digit_at(bare);
     let d = read_decimal(t, FirstByte::DigitOrPoint);
-    let made = d.made;
     let place = minus_or_zero(end, minus_or_zero(s.len(), at));
-    made_part(made, 1, false, bare, 1 + d.len, place, f)
+    made_part(d.made, PartKind::Plain, false, bare, 1 + d.len, place, f)
 }
 
 // Whether a part begins with `ppm`.
 fn begins_ppm(s: &[u8]) -> bool
     ensures { result ≡ starts_with (bytes "ppm") s.now }
 {
-    if s.len() < 3 {
-        return false;
-    }
-    if s[0] != b'p' {
-        return false;
-    }
-    if s[1] != b'p' {
-        return false;
-    }
-    b'm' == s[2]
+    s.starts_with(b"ppm")
 }
 
 // Where the first digit stands: behind `/` or `*`, or behind one byte more, `-` or the point.
 fn digit_at(second: bool) -> usize
     ensures { result ≡ digit_at second }
 {
-    if second {
-        return 2;
-    }
-    1
+    if second { 2 } else { 1 }
 }
 
 // The deviation that a part begins with.
-pub fn read_deviation(s: &[u8], end: usize, f: Fault) -> DecimalPart
+pub fn read_deviation(s: &[u8], end: usize, f: Option<Refusal>) -> DecimalPart
     ensures { result ≡ deviation_of end s.now f }
 {
     if !begins_with(s, b'/') {
@@ -145,11 +151,10 @@ pub fn read_deviation(s: &[u8], end: usize, f: Fault) -> DecimalPart
     let minus = begins_with(rest(s, 1), b'-');
     let at = digit_at(minus);
     let d = read_decimal(rest(s, at), FirstByte::Digit);
-    let made = d.made;
     let len = at + d.len;
     let place = minus_or_zero(end, minus_or_zero(s.len(), at));
     if begins_ppm(rest(s, len)) {
-        return made_part(made, 2, minus, false, len + 3, place, f);
+        return made_part(d.made, PartKind::Ppm, minus, false, len + 3, place, f);
     }
-    made_part(made, 1, minus, false, len, place, f)
+    made_part(d.made, PartKind::Plain, minus, false, len, place, f)
 }

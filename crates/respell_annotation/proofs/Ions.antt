@@ -8,6 +8,7 @@ use lib.Dec.{eqb}
 use lib.ListN.{length, take, drop}
 use lib.Seq.{take-append_seam}
 use borrow.Author.Tests.{ne_eqb}
+use Rattle.std.specs.Prelude.{Option}
 use Rattle.lang.specs.Parts.{silent, written, opt_text, items, flat, word_of}
 use Rattle.lang.specs.Mark.{Kept, here, later, marks_of}
 use Rattle.rules.specs.Bytes.{bytes}
@@ -19,7 +20,7 @@ use Rattle.rules.specs.Fields.{filled, filled_cut}
 use Rattle.rules.specs.Preferred.{shortened, shortened_cut}
 use Rattle.rules.specs.Limits.{formula_part, ion_parts}
 use Rattle.rules.proofs.Keeps.{kept_part}
-use Rattle.faults.specs.declared.Fault.{Fault}
+use Rattle.faults.specs.declared.Refusal.{Refusal}
 use Rattle.put_formula.specs.Preferred.{preferred_units}
 use Rattle.put_formula.proofs.PutUnits.{preferred_read}
 use Rattle.read_ion.proofs.SpelledIon.{ion_read, ion_spelled_formula}
@@ -28,7 +29,7 @@ use Rattle.sort_changes.proofs.Fits.{units_told}
 use Rattle.respell_annotation.specs.Annotations.{ion_spelled}
 
 -- the letters yb are left out, the units of a formula are spelled anew, and all else stays
-pub ion_spelled_lem : (x : SpelledIon) (k : List ℕ) (at : ℕ) (g : Fault) → Kept (marks_of at (ion_parts x))
+pub ion_spelled_lem : (x : SpelledIon) (k : List ℕ) (at : ℕ) (g : Option Refusal) → Kept (marks_of at (ion_parts x))
     → ion_spelled (ion_text x ++ k) (ion_read x g) ≡ ion_text (ion_map shortened shortened_cut (ion_map filled filled_cut x))
 unfolding ion_spelled
 ion_spelled_lem (series s n t) k at g h = rw (yb_read (series s n t) k) (take-append_seam (ion_text (series s n t)) k)

@@ -6,6 +6,7 @@ use mathlib.Core.List.{List, ◌++◌, append_assoc}
 use lib.Dec.{T, eqb, leb, leb→le}
 use lib.ListN.{length, take, drop}
 use borrow.Author.Tests.{eqb-true, not-true}
+use Rattle.std.specs.Prelude.{Option, None}
 use Rattle.lang.specs.Parts.{opt_text}
 use Rattle.lang.specs.Mark.{Kept}
 use Rattle.lang.specs.Walk.{Walked}
@@ -22,8 +23,7 @@ use Rattle.rules.specs.Fields.{Says}
 use Rattle.rules.specs.Limits.{annotation_marks}
 use Rattle.rules.proofs.Confidences.{zero_left_out}
 use Rattle.put_bytes.specs.Puts.{max_place}
-use Rattle.faults.specs.declared.Fault.{Fault}
-use Rattle.faults.specs.Faults.{fault}
+use Rattle.faults.specs.declared.Refusal.{Refusal}
 use Rattle.counts.specs.declared.Counts.{Counts}
 use Rattle.put_formula.proofs.Chains.{flat_map}
 use Rattle.read_ion.specs.declared.IonRead.{IonRead}
@@ -71,7 +71,7 @@ glance x n free s e =
       no_one = not-true (has_one s) (t_is o (and_1 b o c));
     }
 
-module _ (a : SpelledAnnotation) (k : List ℕ) (nth end : ℕ) (f : Fault) where
+module _ (a : SpelledAnnotation) (k : List ℕ) (nth end : ℕ) (f : Option Refusal) where
   abbrev read : Parts
   read = parts_read a k nth end f
 
@@ -142,9 +142,9 @@ module _ (a : SpelledAnnotation) (k : List ℕ) (nth end : ℕ) (f : Fault) wher
 -- the first of a line of `end` bytes
 pub annotation_respelled : (a : SpelledAnnotation) (k : List ℕ) (end i at : ℕ) → EndsAnnotation k → Kept (annotation_marks i a at)
     → length (annotation_text a ++ k) ≤ end → end ≤ max_place
-    → Respelling first_preferred a (annotation_spelled (annotation_text a ++ k) (parts_of 0 end (annotation_text a ++ k) (fault 0 0)))
+    → Respelling first_preferred a (annotation_spelled (annotation_text a ++ k) (parts_of 0 end (annotation_text a ++ k) None))
 annotation_respelled a k end i at e kept h m =
-    let f = fault 0 0 in
+    let f = None in
     let t = text_is a k in
     let g : length (first a k) ≤ end = subst (λ (s : List ℕ). length s ≤ end) t h in
     subst (λ (s : List ℕ). Respelling first_preferred a (annotation_spelled s (parts_of 0 end s f))) (sym t)

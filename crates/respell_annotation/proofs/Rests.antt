@@ -5,6 +5,7 @@ use mathlib.Core.List.{List, ◌++◌, map, append_assoc}
 use native.Mathlib.Omega.{arith}
 use lib.ListN.{length, take, drop, length-append}
 use lib.Seq.{take-append_seam, drop-append_seam}
+use Rattle.std.specs.Prelude.{Option}
 use Rattle.lang.specs.Parts.{Opt, silent, written, opt_text, opt_map, flat}
 use Rattle.lang.specs.Mark.{Kept, here, later, marks_of}
 use Rattle.lang.specs.Walk.{Walked, walked}
@@ -21,7 +22,7 @@ use Rattle.rules.specs.Preferred.{shortened, loss_le, shortened_cut}
 use Rattle.rules.specs.Limits.{part, row_part, ion_parts, loss_marks, isotopes_marks, adduct_marks, annotation_parts, annotation_marks}
 use Rattle.rules.proofs.Confidences.{zero_before}
 use Rattle.rules.proofs.Keeps.{kept_tail, kept_part}
-use Rattle.faults.specs.declared.Fault.{Fault}
+use Rattle.faults.specs.declared.Refusal.{Refusal}
 use Rattle.read_ion.proofs.SpelledIon.{ion_read}
 use Rattle.read_tail.proofs.SpelledTail.{confidence_read}
 use Rattle.read_isotopes.specs.Spelled.{spelled_isotopes}
@@ -66,7 +67,7 @@ zero_put u v w n e =
     ∙ ap₂ (λ (x y : List ℕ). x ++ (bytes "0" ++ y)) (take-append_seam front w) (drop-append_seam front w)
     ∙ append_assoc u (v ++ bytes "*") (bytes "0" ++ w) ∙ ap (λ (l : List ℕ). u ++ l) (append_assoc v (bytes "*") (bytes "0" ++ w))
 
-tail_spelled_lem : (u v : List ℕ) (c : Opt Confidence) (g : Fault)
+tail_spelled_lem : (u v : List ℕ) (c : Opt Confidence) (g : Option Refusal)
     → tail_spelled (u ++ (v ++ opt_text confidence_text c)) (confidence_read c g) ≡ u ++ (v ++ opt_text confidence_text (opt_map in_full (opt_map meant_decimal c)))
 unfolding tail_spelled
 tail_spelled_lem u v silent g = refl
@@ -81,7 +82,7 @@ module _ (a : SpelledAnnotation) (k : List ℕ) where
   pub prefix_is : take (prefix_length a.marked a.analyte) (first a k) ≡ flag_text (bytes "&") a.marked ++ opt_text analyte_text a.analyte
   prefix_is = take_two (flag_text (bytes "&") a.marked) (opt_text analyte_text a.analyte) (ion_text a.ion ++ second a k)
 
-  module _ (nth end : ℕ) (f : Fault) where
+  module _ (nth end : ℕ) (f : Option Refusal) where
     abbrev read : Parts
     read = parts_read a k nth end f
 

@@ -1,15 +1,16 @@
 -- The steps of telling whether an annotation stays as it is, and of spelling it anew. Assumes nothing.
-use Prim.Native.Nat.{ℕ, ◌+◌, ◌-◌, ◌≤◌, ◌<◌}
-use mathlib.Core.Path.{◌≡◌, sym, ap, ap₂, ◌∙◌}
+use Prim.Native.Nat.{ℕ, ◌-◌, ◌≤◌}
+use mathlib.Core.Path.{◌≡◌, refl, sym, ap, ap₂, ◌∙◌}
 use mathlib.Core.Bool.{Bool, true, false, not, ◌||◌}
 use mathlib.Core.List.{List, [], ◌∷◌, ◌++◌}
-use lib.ListN.{length, take, drop, get_or, drop_of_length-le}
-use borrow.Author.Tests.{eq-eqb, ne_eqb, le-leb, lt-leb}
+use lib.Dec.{eqb}
+use lib.ListN.{length, take, drop}
+use borrow.Author.Tests.{eq-eqb, ne_eqb, le-leb}
+use Rattle.std.specs.List.{list_any}
 use Rattle.rules.specs.Bytes.{bytes}
 use Rattle.rules.specs.Texts.{starts_with}
 use Rattle.put_bytes.specs.Puts.{max_place, Put}
 use Rattle.put_bytes.proofs.Putting.{put_none, put_then, put_as}
-use Rattle.put_bytes.proofs.PutLoop.{run_more}
 use Rattle.counts.specs.declared.Counts.{Counts}
 use Rattle.print_count.specs.declared.Respelled.{Respelled}
 use Rattle.put_formula.specs.Preferred.{preferred_units}
@@ -24,45 +25,18 @@ use Rattle.read_annotation.specs.Measured.{is_free, behind_ion, annotation_size}
 use Rattle.respell_annotation.specs.Kept.{has_one, is_kept}
 use Rattle.respell_annotation.specs.Annotations.{ion_spelled, adduct_spelled, tail_spelled, parts_spelled, annotation_spelled, SpellsAnnotation}
 
--- ---- a `1` in a part: what is left to look at decides
-
-module _ (s : List ℕ) (i : ℕ) (w : has_one s ≡ has_one (drop i s)) where
-  pub one_found : i < length s → get_or s i 0 ≡ 49 → true ≡ has_one s
-  unfolding has_one
-  one_found h e = sym (w ∙ ap has_one (run_more s i h) ∙ ap (λ (t : Bool). t || has_one (drop (i + 1) s)) (eq-eqb (get_or s i 0) 49 e))
-
-  pub one_on : i < length s → (get_or s i 0 ≡ 49 → ⊥) → has_one s ≡ has_one (drop (i + 1) s)
-  unfolding has_one
-  one_on h e = w ∙ ap has_one (run_more s i h) ∙ ap (λ (t : Bool). t || has_one (drop (i + 1) s)) (ne_eqb (get_or s i 0) 49 e)
-
-  pub one_none : length s ≤ i → false ≡ has_one s
-  unfolding has_one
-  one_none h = sym (w ∙ ap has_one (drop_of_length-le s h))
-
 -- ---- what is kept
 
-module _ (x : IonRead) (n : Counts) (free : Bool) (s : List ℕ) where
-  pub with_formula : (x.units ≡ 0 → ⊥) → false ≡ is_kept x n free s
-  unfolding is_kept
-  with_formula u = rw (ne_eqb x.units 0 u)
+-- a `1` in a part, as the library looks for it
+pub one_told : (s : List ℕ) → list_any (λ b. eqb b 49) s ≡ has_one s
+unfolding has_one
+one_told [] = refl
+one_told (b ∷ s) = ap (λ (t : Bool). eqb b 49 || t) (one_told s)
 
-  module _ (u : x.units ≡ 0) where
-    pub with_losses : 1 < n.losses → false ≡ is_kept x n free s
-    unfolding is_kept
-    with_losses l = rw (eq-eqb x.units 0 u, lt-leb n.losses 1 l)
-
-    module _ (l : n.losses ≤ 1) where
-      pub with_items : 1 < n.items → false ≡ is_kept x n free s
-      unfolding is_kept
-      with_items d = rw (eq-eqb x.units 0 u, le-leb n.losses 1 l, lt-leb n.items 1 d)
-
-      pub with_free : n.items ≤ 1 → free ≡ true → false ≡ is_kept x n free s
-      unfolding is_kept
-      with_free d b = rw (eq-eqb x.units 0 u, le-leb n.losses 1 l, le-leb n.items 1 d, b)
-
-      pub by_bytes : {t : Bool} → n.items ≤ 1 → free ≡ false → t ≡ has_one s → not t ≡ is_kept x n free s
-      unfolding is_kept
-      by_bytes d b e = rw (eq-eqb x.units 0 u, le-leb n.losses 1 l, le-leb n.items 1 d, b) (ap not e)
+pub by_bytes : (x : IonRead) (n : Counts) (free : Bool) (s : List ℕ) {t : Bool} → x.units ≡ 0 → n.losses ≤ 1 → n.items ≤ 1 → free ≡ false
+    → t ≡ list_any (λ b. eqb b 49) s → not t ≡ is_kept x n free s
+unfolding is_kept
+by_bytes x n free s u l d b e = rw (eq-eqb x.units 0 u, le-leb n.losses 1 l, le-leb n.items 1 d, b) (ap not (e ∙ one_told s))
 
 -- ---- the ion
 

@@ -4,7 +4,7 @@
 
 ghost use Rattle.std.specs.Prelude.{◌≡◌};
 ghost use Rattle.put_bytes.specs.Puts.{Put};
-ghost use Rattle.respell_annotation.specs.Kept.{has_one, is_kept};
+ghost use Rattle.respell_annotation.specs.Kept.{is_kept};
 ghost use Rattle.respell_annotation.specs.Annotations.{ion_spelled, adduct_spelled, tail_spelled, parts_spelled, SpellsAnnotation};
 
 use counts::Counts;
@@ -15,43 +15,17 @@ use read_annotation::{Parts, begins_adduct, is_free};
 use read_ion::{IonRead, spells_yb};
 use read_isotopes::spell_isotopes;
 use read_tail::DecimalPart;
-use slices::{first_of, minus_or_zero, rest};
+use slices::{first_of, rest};
 use sort_changes::spell_changes;
 
 // ---- what stays as it is
-
-// Whether a `1` stands in a part.
-fn has_one(s: &[u8]) -> bool
-    ensures { result ≡ has_one s.now }
-{
-    let mut i: usize = 0;
-    while i < s.len() {
-        if s[i] == b'1' {
-            return true;
-        }
-        i += 1;
-    }
-    false
-}
 
 // Whether an annotation is spelled as it is preferred, as can be told at a glance: it has no formula, one loss and one adduct item at most,
 // no other free spelling, and no `1` stands between ion and charge. Most annotations are such.
 fn is_kept(x: IonRead, n: Counts, free: bool, s: &[u8]) -> bool
     ensures { result ≡ is_kept x n free s.now }
 {
-    if x.units != 0 {
-        return false;
-    }
-    if 1 < n.losses {
-        return false;
-    }
-    if 1 < n.items {
-        return false;
-    }
-    if free {
-        return false;
-    }
-    !has_one(s)
+    x.units == 0 && n.losses <= 1 && n.items <= 1 && !free && !s.contains(&b'1')
 }
 
 // ---- what is spelled anew
@@ -62,39 +36,41 @@ fn spell_ion(out: &mut [u8], to: usize, s: &[u8], x: IonRead) -> usize
 {
     if spells_yb(s) {
         let m = put8(out, to, b'm');
-        return put_run(out, m, rest(first_of(s, x.len), 3));
+        put_run(out, m, rest(first_of(s, x.len), 3))
+    } else if x.units == 0 {
+        put_run(out, to, first_of(s, x.len))
+    } else {
+        let a = put_run(out, to, first_of(s, x.start));
+        let b = put_preferred(out, a, rest(s, x.start), x.units);
+        put8(out, b, b'}')
     }
-    if x.units == 0 {
-        return put_run(out, to, first_of(s, x.len));
-    }
-    let a = put_run(out, to, first_of(s, x.start));
-    let b = put_preferred(out, a, rest(s, x.start), x.units);
-    put8(out, b, b'}')
 }
 
 // The adduct that a part begins with.
 fn spell_adduct(out: &mut [u8], to: usize, s: &[u8]) -> usize
     ensures { Put out.old to (adduct_spelled s.now) out.new result }
 {
-    if !begins_adduct(s) {
-        return to;
+    if begins_adduct(s) {
+        let a = put_run(out, to, first_of(s, 2));
+        let x = spell_changes(out, a, rest(s, 2));
+        put8(out, x.to, b']')
+    } else {
+        to
     }
-    let a = put_run(out, to, first_of(s, 2));
-    let x = spell_changes(out, a, rest(s, 2));
-    put8(out, x.to, b']')
 }
 
 // Charge, deviation and confidence, where c was read of the last: a 0 is put before a point that it begins with.
 fn spell_tail(out: &mut [u8], to: usize, s: &[u8], c: DecimalPart) -> usize
     ensures { Put out.old to (tail_spelled s.now c) out.new result }
 {
-    if !c.bare {
-        return put_run(out, to, s);
+    if c.bare {
+        let at = s.len().saturating_sub(c.len.saturating_sub(1));
+        let a = put_run(out, to, first_of(s, at));
+        let b = put8(out, a, b'0');
+        put_run(out, b, rest(s, at))
+    } else {
+        put_run(out, to, s)
     }
-    let at = minus_or_zero(s.len(), minus_or_zero(c.len, 1));
-    let a = put_run(out, to, first_of(s, at));
-    let b = put8(out, a, b'0');
-    put_run(out, b, rest(s, at))
 }
 
 // The parts of the annotation that a part begins with, one after the other.
@@ -126,12 +102,12 @@ pub fn spell_annotation(out: &mut [u8], to: usize, s: &[u8], p: Parts) -> Respel
     let b = p.tail;
     let c = b.confidence;
     let s1 = rest(s, f.len);
-    let len = minus_or_zero(s.len(), rest(rest(s1, m.len), b.len).len());
+    let len = s.len().saturating_sub(rest(rest(s1, m.len), b.len).len());
     let free = is_free(c.bare, rest(s, f.at));
-    if is_kept(x, n, free, first_of(s1, m.len)) {
-        let end = put_run(out, to, first_of(s, len));
-        return Respelled { to: end, len };
-    }
-    let end = spell_parts(out, to, s, p);
+    let end = if is_kept(x, n, free, first_of(s1, m.len)) {
+        put_run(out, to, first_of(s, len))
+    } else {
+        spell_parts(out, to, s, p)
+    };
     Respelled { to: end, len }
 }

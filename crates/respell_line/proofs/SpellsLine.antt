@@ -4,36 +4,18 @@ use mathlib.Core.Path.{◌≡◌, sym, ap, ◌∙◌, subst}
 use mathlib.Core.Bool.{Bool, true, false, cond}
 use mathlib.Core.List.{List}
 use lib.Dec.{eqb}
-use borrow.Author.Tests.{eq-eqb, ne_eqb}
+use borrow.Author.Tests.{eq-eqb}
 use Rattle.put_bytes.specs.Puts.{Put}
 use Rattle.counts.specs.declared.Counts.{Counts}
 use Rattle.read_annotation.specs.declared.Parts.{Parts}
 use Rattle.measure_line.specs.declared.Totals.{Totals}
 use Rattle.respell_line.specs.Plain.{is_plain, line_spelled, spelling_of}
 
--- ---- the five tests, one after the other
+-- ---- what was counted, where no test before the last fails
 
-module _ (n : Counts) (free : Bool) where
-  pub with_free : free ≡ true → false ≡ is_plain n free
-  unfolding is_plain
-  with_free f = rw f
-
-  module _ (f : free ≡ false) where
-    pub with_losses : (n.losses ≡ 0 → ⊥) → false ≡ is_plain n free
-    unfolding is_plain
-    with_losses l = rw (f, ne_eqb n.losses 0 l)
-
-    pub with_isotopes : n.losses ≡ 0 → (n.isotopes ≡ 0 → ⊥) → false ≡ is_plain n free
-    unfolding is_plain
-    with_isotopes l i = rw (f, eq-eqb n.losses 0 l, ne_eqb n.isotopes 0 i)
-
-    pub with_items : n.losses ≡ 0 → n.isotopes ≡ 0 → (n.items ≡ 0 → ⊥) → false ≡ is_plain n free
-    unfolding is_plain
-    with_items l i x = rw (f, eq-eqb n.losses 0 l, eq-eqb n.isotopes 0 i, ne_eqb n.items 0 x)
-
-    pub by_units : n.losses ≡ 0 → n.isotopes ≡ 0 → n.items ≡ 0 → eqb n.units 0 ≡ is_plain n free
-    unfolding is_plain
-    by_units l i x = rw (f, eq-eqb n.losses 0 l, eq-eqb n.isotopes 0 i, eq-eqb n.items 0 x)
+pub by_units : (n : Counts) (free : Bool) → free ≡ false → n.losses ≡ 0 → n.isotopes ≡ 0 → n.items ≡ 0 → eqb n.units 0 ≡ is_plain n free
+unfolding is_plain
+by_units n free f l i x = rw (f, eq-eqb n.losses 0 l, eq-eqb n.isotopes 0 i, eq-eqb n.items 0 x)
 
 -- ---- the line
 

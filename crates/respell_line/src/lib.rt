@@ -8,8 +8,9 @@ ghost use Rattle.answers.specs.Delivered.{answered};
 ghost use Rattle.respell_line.specs.Plain.{is_plain, line_spelled, spelling_of};
 ghost use Rattle.respell_line.specs.Relabelled.{relabelled_over};
 
-use answers::{Answer, close_line, refuse};
+use answers::close_line;
 use counts::Counts;
+use faults::Refusal;
 use layout::Edition;
 use measure_line::{Totals, first_refusal, read_at, total};
 use put_bytes::{clear, put_run, put8};
@@ -22,26 +23,14 @@ use slices::{advance, begins_with, rest};
 fn is_plain(n: Counts, free: bool) -> bool
     ensures { result ≡ is_plain n free }
 {
-    if free {
-        return false;
-    }
-    if n.losses != 0 {
-        return false;
-    }
-    if n.isotopes != 0 {
-        return false;
-    }
-    if n.items != 0 {
-        return false;
-    }
-    n.units == 0
+    !free && n.losses == 0 && n.isotopes == 0 && n.items == 0 && n.units == 0
 }
 
 // All annotations of a line, of which the first was read; the place behind them.
 fn spell_line(out: &mut [u8], line: &[u8], first: Parts) -> usize
     ensures { Put out.old 0 (line_spelled line.now first) out.new result }
 {
-    if line.len() < 1 {
+    if line.is_empty() {
         return 0;
     }
     let x = spell_annotation(out, 0, line, first);
@@ -64,21 +53,21 @@ fn put_spelling(out: &mut [u8], line: &[u8], t: Totals, first: Parts) -> usize
 {
     let n = t.counts;
     if is_plain(n, t.free) {
-        return put_run(out, 0, line);
+        put_run(out, 0, line)
+    } else {
+        spell_line(out, line, first)
     }
-    spell_line(out, line, first)
 }
 
 // A line with a shape: its refusal, or its preferred spelling.
-pub fn relabel_spelled(line: &[u8], out: &mut [u8]) -> Answer
+pub fn relabel_spelled(line: &[u8], out: &mut [u8]) -> Result<usize, Refusal>
     ensures { answered result out.new ≡ relabelled_over line.now (length out.old) }
 {
     let first = read_at(line, 0);
     let t = total(Edition::Second, line, first);
-    let found = first_refusal(t);
-    if found.number != 0 {
+    if let Some(refusal) = first_refusal(t) {
         clear(out);
-        return refuse(found.number, found.place);
+        return Err(refusal);
     }
     let n = put_spelling(out, line, t, first);
     close_line(out, n)

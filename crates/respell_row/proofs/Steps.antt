@@ -4,11 +4,12 @@ use mathlib.Core.Path.{◌≡◌, refl, sym, ap, ap₂, ◌∙◌, subst}
 use mathlib.Core.Bool.{Bool, true, false, cond}
 use mathlib.Core.List.{List, ◌++◌}
 use native.Mathlib.Omega.{arith}
-use lib.Dec.{eqb, ltb}
+use lib.Dec.{ltb}
 use lib.ListN.{length, take, drop, replicate, length-take, take-append-drop}
 use lib.Seq.{take-append_seam}
-use borrow.Author.Tests.{ltb-false, lt-ltb, le-ltb, le-leb, lt-leb, eq-eqb, ne_eqb}
+use borrow.Author.Tests.{ltb-false, lt-ltb, le-ltb, le-leb, lt-leb, ne_eqb}
 use Rattle.rules.specs.Limits.{max_line}
+use Rattle.std.specs.Prelude.{Ok, Err, Option, Some, None}
 use Rattle.rules.specs.Answers as rules
 use Rattle.rules.specs.Answers.{refuses}
 use Rattle.rules.specs.RowAnswers.{max_row}
@@ -16,37 +17,41 @@ use Rattle.slices.proofs.Parts.{drop_min}
 use Rattle.put_bytes.specs.Puts.{max_place, Put}
 use Rattle.put_bytes.proofs.Putting.{put_length}
 use Rattle.scan_line.specs.Steps.{scanned_by}
-use Rattle.answers.specs.declared.Answer.{Answer}
-use Rattle.answers.specs.Delivered.{answered, refused_of}
+use Rattle.faults.specs.declared.Why.TheVariants.{LineTooLong, OutputTooShort}
+use Rattle.faults.specs.declared.Why.{Why}
+use Rattle.faults.specs.declared.Refusal.{Refusal}
+use Rattle.faults.specs.Refusals.{number_of}
+use Rattle.answers.specs.Delivered.{Answer, answered, refused_of}
 use Rattle.answers.specs.Behind.{capped, Behind}
 use Rattle.answers.proofs.Behind.{capped_more, over_front, refused_is}
+use Rattle.answers.proofs.One.{number_not_0, why_one}
 use Rattle.lines.specs.Relabels.{relabelled_of}
 use Rattle.read_row.specs.declared.Column.{Column}
 use Rattle.read_row.specs.Columns.{column_of}
 use Rattle.write_row.specs.Writings.{bare_over, bare_of}
 use Rattle.write_row.proofs.Over.{bare_stands}
-use Rattle.respell_row.specs.Relabelled.{place_of, refused_over, finished_over, spelled_of, third_of, columns_of, intensity_of, relabelled_row_of}
+use Rattle.respell_row.specs.Relabelled.{place_of, refused_over, finished_over, spelled_of, third_of, columns_of, intensity_in, intensity_of, mz_in, relabelled_row_of}
 
 -- ---- the place of a refusal
 
-module _ (number place n at : ℕ) where
-  pub place_moved : {r : ℕ} → (number ≡ 1 → ⊥) → r ≡ capped at place → r ≡ place_of number place n at
+module _ (why : Why) (place n at : ℕ) where
+  pub place_moved : {r : ℕ} → (why ≡ LineTooLong → ⊥) → r ≡ capped at place → r ≡ place_of (number_of why) place n at
   unfolding place_of
-  place_moved h e = rw (ne_eqb number 1 h) e
+  place_moved h e = rw (ne_eqb (number_of why) 1 (λ w. h (why_one why LineTooLong w))) e
 
-  pub place_long : {r : ℕ} → number ≡ 1 → max_line < n → r ≡ capped at place → r ≡ place_of number place n at
+  pub place_long : {r : ℕ} → why ≡ LineTooLong → max_line < n → r ≡ capped at place → r ≡ place_of (number_of why) place n at
   unfolding place_of
-  place_long q h e = rw (eq-eqb number 1 q, lt-ltb max_line n h) e
+  place_long q h e = rw (q, lt-ltb max_line n h) e
 
-  pub place_kept : number ≡ 1 → n ≤ max_line → place ≡ place_of number place n at
+  pub place_kept : why ≡ LineTooLong → n ≤ max_line → place ≡ place_of (number_of why) place n at
   unfolding place_of
-  place_kept q h = rw (eq-eqb number 1 q, le-ltb max_line n h)
+  place_kept q h = rw (q, le-ltb max_line n h)
 
 -- ---- the answer to the line
 
 -- zeros over the first bytes of an output
-pub line_refused : (d : List ℕ) (at n : ℕ) (r : Answer) {to p : ℕ} {z : List ℕ} {a : Answer} → to ≡ min (0 + at) (length d)
-    → z ≡ replicate (length (take to d)) 0 → p ≡ place_of r.number r.place n at → a ≡ refused_of r.number p
+pub line_refused : (d : List ℕ) (at n : ℕ) (r : Refusal) {to p : ℕ} {z : List ℕ} {a : Answer} → to ≡ min (0 + at) (length d)
+    → z ≡ replicate (length (take to d)) 0 → p ≡ place_of (number_of r.why) r.place n at → a ≡ refused_of r.why p
     → answered a (z ++ drop to d) ≡ refused_over d at n r
 unfolding refused_over
 line_refused d at n r {to} {p} {z} t q e f =
@@ -54,28 +59,26 @@ line_refused d at n r {to} {p} {z} t q e f =
     let l : length (take to d) ≡ min at (length d) = length-take to d ∙ omega arith in
     let o : z ++ drop to d ≡ replicate (min at (length d)) 0 ++ drop at d =
     ap₂ (λ (x y : List ℕ). x ++ y) (q ∙ ap (λ (i : ℕ). replicate i 0) l) (ap (λ (i : ℕ). drop i d) m ∙ drop_min d at) in
-    ap (λ (x : Answer). answered x (z ++ drop to d)) (f ∙ ap (refused_of r.number) e)
-    ∙ ap (λ (y : List ℕ). record { number = r.number; place = place_of r.number r.place n at; size = 0; out = y }) o
+    ap (λ (x : Answer). answered x (z ++ drop to d)) (f ∙ ap (refused_of r.why) e)
+    ∙ ap (answered (refused_of r.why (place_of (number_of r.why) r.place n at))) o
 
-module _ (d : List ℕ) (at n : ℕ) (r : Answer) where
-  pub finished_refused : {b : rules.Answer} → (r.number ≡ 0 → ⊥) → b ≡ refused_over d at n r → b ≡ finished_over d at n r
+module _ (d : List ℕ) (at n : ℕ) {r : Answer} where
+  pub finished_refused : {x : Refusal} {b : rules.Answer} → r ≡ Err x → b ≡ refused_over d at n x → b ≡ finished_over d at n r
   unfolding finished_over
-  finished_refused h e = rw (ne_eqb r.number 0 h) e
+  finished_refused i e = rw i e
 
-  pub finished_short : {size : ℕ} {e : List ℕ} {a : Answer} → r.number ≡ 0 → size ≡ capped at r.len → length d < size
-      → e ≡ replicate (length d) 0 → a ≡ refused_of 8 size → answered a e ≡ finished_over d at n r
+  pub finished_short : {m size : ℕ} {e : List ℕ} {a : Answer} → r ≡ Ok m → size ≡ capped at m → length d < size
+      → e ≡ replicate (length d) 0 → a ≡ refused_of OutputTooShort size → answered a e ≡ finished_over d at n r
   unfolding finished_over
-  finished_short {size} {e} q s h z f =
-      let g : length d < capped at r.len = omega arith in
-      rw (eq-eqb r.number 0 q, lt-ltb (length d) (capped at r.len) g) (refused_is (length d) 8 (capped at r.len) (f ∙ ap (refused_of 8) s) z)
+  finished_short {m} i s h z f =
+      let g : length d < capped at m = omega arith in
+      rw (i, lt-ltb (length d) (capped at m) g) (refused_is (length d) OutputTooShort (capped at m) (f ∙ ap (refused_of OutputTooShort) s) z)
 
-  pub finished_done : {size : ℕ} → r.number ≡ 0 → size ≡ capped at r.len → size ≤ length d
-      → answered (record { number = 0; place = 0; len = size }) d ≡ finished_over d at n r
+  pub finished_done : {m size : ℕ} → r ≡ Ok m → size ≡ capped at m → size ≤ length d → answered (Ok size) d ≡ finished_over d at n r
   unfolding finished_over
-  finished_done {size} q s h =
-      let g : capped at r.len ≤ length d = omega arith in
-      rw (eq-eqb r.number 0 q, le-ltb (length d) (capped at r.len) g)
-      (ap (λ (m : ℕ). record { number = 0; place = 0; size = m; out = d }) s)
+  finished_done {m} i s h =
+      let g : capped at m ≤ length d = omega arith in
+      rw (i, le-ltb (length d) (capped at m) g) (ap (λ (k : ℕ). record { number = 0; place = 0; size = k; out = d }) s)
 
 -- ---- what stands before the third column was put, and the line behind it
 
@@ -88,34 +91,31 @@ module _ {front d d1 e : List ℕ} {b : rules.Answer} {r : Answer} {to : ℕ} (n
   abbrev k : ℕ
   k = length front
 
-  abbrev size : ℕ
-  size = capped k r.len
-
-  stands : size ≤ length d → e ≡ front ++ drop k e
-  stands h =
-      let g : k ≤ length d = omega (arith, capped_more k r.len small) in
+  stands : (m : ℕ) → capped k m ≤ length d → e ≡ front ++ drop k e
+  stands m h =
+      let g : k ≤ length d = omega (arith, capped_more k m small) in
       sym (take-append-drop k e) ∙ ap (λ (l : List ℕ). l ++ drop k e) (w.kept ∙ front_stands p g)
 
-  -- the same in an output of m bytes
-  abbrev over : ℕ → rules.Answer
-  over m =
-      cond (eqb r.number 0) (cond (ltb m size) (refuses m 8 size) (record { number = 0; place = 0; size = size; out = e }))
-      (record { number = r.number; place = place_of r.number r.place n k; size = 0; out = replicate (min k m) 0 ++ drop k e })
+  same : length e ≡ length d
+  same = w.same ∙ put_length p
 
-  done_is : (t : Bool) → ltb (length d) size ≡ t
-      → cond t (refuses (length d) 8 size) (record { number = 0; place = 0; size = size; out = e })
-      ≡ cond t (refuses (length d) 8 size) (record { number = 0; place = 0; size = size; out = front ++ drop k e })
-  done_is true q = refl
-  done_is false q = ap (λ (l : List ℕ). record { number = 0; place = 0; size = size; out = l }) (stands (ltb-false (length d) size q))
+  done_is : (m : ℕ) (t : Bool) → ltb (length d) (capped k m) ≡ t
+      → cond t (refuses (length d) 8 (capped k m)) (record { number = 0; place = 0; size = capped k m; out = e })
+      ≡ cond t (refuses (length d) 8 (capped k m)) (record { number = 0; place = 0; size = capped k m; out = front ++ drop k e })
+  done_is m true q = refl
+  done_is m false q = ap (λ (l : List ℕ). record { number = 0; place = 0; size = capped k m; out = l }) (stands m (ltb-false (length d) (capped k m) q))
+
+  by_answer : (r : Answer) → finished_over e k n r ≡ spelled_of front n (length d) (answered r (drop k e))
+  unfolding finished_over refused_over spelled_of
+  by_answer (Ok m) =
+      ap (λ (i : ℕ). cond (ltb i (capped k m)) (refuses i 8 (capped k m)) (record { number = 0; place = 0; size = capped k m; out = e })) same
+      ∙ done_is m (ltb (length d) (capped k m)) refl
+  by_answer (Err x) =
+      rw (ne_eqb (number_of x.why) 0 (number_not_0 x.why))
+      (ap (λ (i : ℕ). record { number = number_of x.why; place = place_of (number_of x.why) x.place n k; size = 0; out = replicate (min k i) 0 ++ drop k e }) same)
 
   pub spelled_is : finished_over e k n r ≡ spelled_of front n (length d) b
-  unfolding finished_over refused_over spelled_of
-  spelled_is =
-      ap over (w.same ∙ put_length p)
-      ∙ ap (λ (x : rules.Answer). cond (eqb r.number 0) x
-      (record { number = r.number; place = place_of r.number r.place n k; size = 0; out = replicate (min k (length d)) 0 ++ drop k e }))
-      (done_is (ltb (length d) size) refl)
-      ∙ ap (spelled_of front n (length d)) w.is
+  spelled_is = by_answer r ∙ ap (spelled_of front n (length d)) w.is
 
 -- the cursor stands behind them
 cursor : {front d d1 : List ℕ} {to : ℕ} → length front ≤ max_place → Put d 0 front d1 to → to ≡ length front
@@ -156,36 +156,27 @@ module _ (machine row : List ℕ) (room : ℕ) where
 
   -- ---- the columns
 
-  pub intensity_bad : (at : ℕ) {s : List ℕ} {x : Column} → s ≡ drop at row → x ≡ column_of s → x.good ≡ false
-      → refuses room 13 at ≡ intensity_of machine row at room
+  pub intensity_bad : (at : ℕ) {s : List ℕ} {o : Option Column} → s ≡ drop at row → o ≡ column_of s → o ≡ None → refuses room 13 at ≡ intensity_of machine row at room
   unfolding intensity_of
-  intensity_bad at q e g =
-      let z : (column_of (drop at row)).good ≡ false = ap (λ (y : Column). y.good) (sym (e ∙ ap column_of q)) ∙ g in
-      rw z
+  intensity_bad at q e g = ap (intensity_in machine row at room) (sym g ∙ e ∙ ap column_of q)
 
-  pub intensity_good : (at : ℕ) {end to : ℕ} {s : List ℕ} {x : Column} → s ≡ drop at row → x ≡ column_of s → x.good ≡ true
+  pub intensity_good : (at : ℕ) {end to : ℕ} {s : List ℕ} {o : Option Column} {x : Column} → s ≡ drop at row → o ≡ column_of s → o ≡ Some x
       → end ≡ min (at + x.len) (length row) → to ≡ min (at + x.next) (length row)
       → columns_of machine row end to room ≡ intensity_of machine row at room
   unfolding intensity_of
-  intensity_good at {end} {to} {s} {x} q e g m t =
-      let c : x ≡ column_of (drop at row) = e ∙ ap column_of q in
-      let z : (column_of (drop at row)).good ≡ true = ap (λ (y : Column). y.good) (sym c) ∙ g in
-      rw z (ap₂ (λ (i j : ℕ). columns_of machine row i j room) m t
-      ∙ ap (λ (y : Column). columns_of machine row (min (at + y.len) (length row)) (min (at + y.next) (length row)) room) c)
+  intensity_good at q e g m t = ap₂ (λ (i j : ℕ). columns_of machine row i j room) m t ∙ ap (intensity_in machine row at room) (sym g ∙ e ∙ ap column_of q)
 
   pub row_long : max_row < length row → refuses room 1 max_row ≡ relabelled_row_of machine row room
   unfolding relabelled_row_of
   row_long h = rw (lt-ltb max_row (length row) h)
 
-  pub row_bad : {x : Column} → length row ≤ max_row → x ≡ column_of row → x.good ≡ false → refuses room 12 0 ≡ relabelled_row_of machine row room
+  row_in : {o : Option Column} → length row ≤ max_row → o ≡ column_of row → mz_in machine row room o ≡ relabelled_row_of machine row room
   unfolding relabelled_row_of
-  row_bad h e g =
-      let z : (column_of row).good ≡ false = ap (λ (y : Column). y.good) (sym e) ∙ g in
-      rw (le-ltb max_row (length row) h, z)
+  row_in h e = ap (mz_in machine row room) e ∙ rw (le-ltb max_row (length row) h)
 
-  pub row_good : {x : Column} → length row ≤ max_row → x ≡ column_of row → x.good ≡ true
+  pub row_bad : {o : Option Column} → length row ≤ max_row → o ≡ column_of row → o ≡ None → refuses room 12 0 ≡ relabelled_row_of machine row room
+  row_bad h e g = ap (mz_in machine row room) (sym g) ∙ row_in h e
+
+  pub row_good : {o : Option Column} {x : Column} → length row ≤ max_row → o ≡ column_of row → o ≡ Some x
       → intensity_of machine row x.next room ≡ relabelled_row_of machine row room
-  unfolding relabelled_row_of
-  row_good h e g =
-      let z : (column_of row).good ≡ true = ap (λ (y : Column). y.good) (sym e) ∙ g in
-      rw (le-ltb max_row (length row) h, z) (ap (λ (y : Column). intensity_of machine row y.next room) e)
+  row_good h e g = ap (mz_in machine row room) (sym g) ∙ row_in h e

@@ -1,11 +1,13 @@
 -- The answer to a row that is relabelled, by what its columns are read as and its line is relabelled to. Assumes nothing.
-use Rattle.std.specs.Prelude.{ℕ, ◌+◌, ◌-◌, min, cond, List, ◌++◌, eqb, ltb, leb, length, take, drop, replicate}
+use Rattle.std.specs.Prelude.{ℕ, ◌+◌, ◌-◌, min, cond, List, ◌++◌, eqb, ltb, leb, length, take, drop, replicate, Ok, Err, Option, Some, None}
 use Rattle.rules.specs.Limits.{max_line}
 use Rattle.rules.specs.Answers as rules
 use Rattle.rules.specs.Answers.{refuses}
 use Rattle.rules.specs.RowAnswers.{max_row}
 use Rattle.scan_line.specs.Steps.{scanned_by}
-use Rattle.answers.specs.declared.Answer.{Answer}
+use Rattle.faults.specs.declared.Refusal.{Refusal}
+use Rattle.faults.specs.Refusals.{number_of}
+use Rattle.answers.specs.Delivered.{Answer}
 use Rattle.answers.specs.Behind.{capped}
 use Rattle.lines.specs.Relabels.{relabelled_of}
 use Rattle.read_row.specs.declared.Column.{Column}
@@ -20,17 +22,15 @@ place_of number place n at = cond (eqb number 1) (cond (ltb max_line n) (capped 
 -- ---- over an output d, in which a line of n bytes was relabelled behind the first bytes, up to a place
 
 -- it was refused
-unfoldable pub refused_over : List ℕ → ℕ → ℕ → Answer → rules.Answer
+unfoldable pub refused_over : List ℕ → ℕ → ℕ → Refusal → rules.Answer
 refused_over d at n r =
-    record { number = r.number; place = place_of r.number r.place n at; size = 0; out = replicate (min at (length d)) 0 ++ drop at d }
+    record { number = number_of r.why; place = place_of (number_of r.why) r.place n at; size = 0; out = replicate (min at (length d)) 0 ++ drop at d }
 
 -- it was answered so
 unfoldable pub finished_over : List ℕ → ℕ → ℕ → Answer → rules.Answer
-finished_over d at n r =
-    let size = capped at r.len in
-    cond (eqb r.number 0)
-    (cond (ltb (length d) size) (refuses (length d) 8 size) (record { number = 0; place = 0; size = size; out = d }))
-    (refused_over d at n r)
+finished_over d at n (Ok m) =
+    let size = capped at m in cond (ltb (length d) size) (refuses (length d) 8 size) (record { number = 0; place = 0; size = size; out = d })
+finished_over d at n (Err r) = refused_over d at n r
 
 -- ---- the whole
 
@@ -55,16 +55,17 @@ unfoldable pub columns_of : List ℕ → List ℕ → ℕ → ℕ → ℕ → ru
 columns_of machine row end at room = cond (leb (length row) at) (bare_of (take end row) (length (take end row)) room) (third_of machine row at room)
 
 -- of a row with m/z, where the intensity begins at a place and was read
-abbrev pub intensity_in : List ℕ → List ℕ → ℕ → ℕ → Column → rules.Answer
-intensity_in machine row at room c =
-    cond c.good (columns_of machine row (min (at + c.len) (length row)) (min (at + c.next) (length row)) room) (refuses room 13 at)
+abbrev pub intensity_in : List ℕ → List ℕ → ℕ → ℕ → Option Column → rules.Answer
+intensity_in machine row at room (Some c) = columns_of machine row (min (at + c.len) (length row)) (min (at + c.next) (length row)) room
+intensity_in machine row at room None = refuses room 13 at
 
 unfoldable pub intensity_of : List ℕ → List ℕ → ℕ → ℕ → rules.Answer
 intensity_of machine row at room = intensity_in machine row at room (column_of (drop at row))
 
 -- of a row whose m/z was read
-abbrev pub mz_in : List ℕ → List ℕ → ℕ → Column → rules.Answer
-mz_in machine row room c = cond c.good (intensity_of machine row c.next room) (refuses room 12 0)
+abbrev pub mz_in : List ℕ → List ℕ → ℕ → Option Column → rules.Answer
+mz_in machine row room (Some c) = intensity_of machine row c.next room
+mz_in machine row room None = refuses room 12 0
 
 unfoldable pub relabelled_row_of : List ℕ → List ℕ → ℕ → rules.Answer
 relabelled_row_of machine row room = cond (ltb max_row (length row)) (refuses room 1 max_row) (mz_in machine row room (column_of row))

@@ -4,12 +4,14 @@
 
 ghost use Rattle.std.specs.Prelude.{◌≡◌, ◌-◌, length};
 ghost use Rattle.scan_line.specs.Steps.{scanned_by};
+ghost use Rattle.faults.specs.Refusals.{number_of};
 ghost use Rattle.answers.specs.Delivered.{answered};
 ghost use Rattle.answers.specs.Behind.{Behind};
 ghost use Rattle.lines.specs.Relabels.{relabelled_of};
 ghost use Rattle.respell_row.specs.Relabelled.{place_of, refused_over, finished_over, third_of, columns_of, intensity_of, relabelled_row_of};
 
-use answers::{Answer, plus, refuse};
+use answers::{plus, refuse};
+use faults::{Refusal, Why};
 use limits::{MAX_LINE, MAX_ROW};
 use lines::relabel_by;
 use put_bytes::{clear, put_run};
@@ -19,20 +21,23 @@ use write_row::end_bare;
 
 // The place of a line's refusal in its row: moved by where the line begins. But a preferred line that is too long, of a line of n bytes
 // that is not, is refused at its bound, as on writing.
-fn place_in_row(number: usize, place: usize, n: usize, at: usize) -> usize
-    ensures { result ≡ place_of number place n at }
+fn place_in_row(line: Refusal, n: usize, at: usize) -> usize
+    ensures { result ≡ place_of (number_of line.why) line.place n at }
 {
-    if number != 1 {
-        return plus(at, place);
+    match line.why {
+        Why::LineTooLong => {
+            if n <= MAX_LINE {
+                line.place
+            } else {
+                plus(at, line.place)
+            }
+        }
+        _ => plus(at, line.place),
     }
-    if MAX_LINE < n {
-        return plus(at, place);
-    }
-    place
 }
 
 // A preferred line, behind the first bytes of an output: it is not moved.
-fn relabel_behind(machine: &[u8], line: &[u8], at: usize, out: &mut [u8]) -> Answer
+fn relabel_behind(machine: &[u8], line: &[u8], at: usize, out: &mut [u8]) -> Result<usize, Refusal>
     ensures { Behind at out.old out.new (relabelled_of (scanned_by machine.now line.now) line.now (length out.old - at)) result }
 {
     let from = advance(0, at, out.len());
@@ -40,35 +45,38 @@ fn relabel_behind(machine: &[u8], line: &[u8], at: usize, out: &mut [u8]) -> Ans
 }
 
 // A row whose line, of n bytes, is refused and begins at a place: from there on the output is cleared already.
-fn refuse_line(line: Answer, n: usize, at: usize, out: &mut [u8]) -> Answer
+fn refuse_line(line: Refusal, n: usize, at: usize, out: &mut [u8]) -> Result<usize, Refusal>
     ensures { answered result out.new ≡ refused_over out.old at n line }
 {
     let to = advance(0, at, out.len());
     clear(&mut out[..to]);
-    refuse(line.number, place_in_row(line.number, line.place, n, at))
+    refuse(line.why, place_in_row(line, n, at))
 }
 
 // A row by the answer to its line, of n bytes, which begins at a place and stands there in its preferred spelling.
-fn finish_line(line: Answer, n: usize, at: usize, out: &mut [u8]) -> Answer
+fn finish_line(
+    line: Result<usize, Refusal>,
+    n: usize,
+    at: usize,
+    out: &mut [u8],
+) -> Result<usize, Refusal>
     ensures { answered result out.new ≡ finished_over out.old at n line }
 {
-    if line.number != 0 {
-        return refuse_line(line, n, at, out);
-    }
-    let size = plus(at, line.len);
-    if out.len() < size {
-        clear(out);
-        return refuse(8, size);
-    }
-    Answer {
-        number: 0,
-        place: 0,
-        len: size,
+    match line {
+        Ok(len) => {
+            let size = plus(at, len);
+            if out.len() < size {
+                clear(out);
+                return refuse(Why::OutputTooShort, size);
+            }
+            Ok(size)
+        }
+        Err(line) => refuse_line(line, n, at, out),
     }
 }
 
 // A row whose third column begins at a place, with what stands before it.
-fn relabel_third(machine: &[u8], row: &[u8], at: usize, out: &mut [u8]) -> Answer
+fn relabel_third(machine: &[u8], row: &[u8], at: usize, out: &mut [u8]) -> Result<usize, Refusal>
     ensures { answered result out.new ≡ third_of machine.now row.now at (length out.old) }
 {
     let third = rest(row, at);
@@ -78,7 +86,13 @@ fn relabel_third(machine: &[u8], row: &[u8], at: usize, out: &mut [u8]) -> Answe
 }
 
 // A row with both numbers, of which the second ends at a place, and whose third column begins at another: an empty one is not written.
-fn relabel_columns(machine: &[u8], row: &[u8], end: usize, at: usize, out: &mut [u8]) -> Answer
+fn relabel_columns(
+    machine: &[u8],
+    row: &[u8],
+    end: usize,
+    at: usize,
+    out: &mut [u8],
+) -> Result<usize, Refusal>
     ensures { answered result out.new ≡ columns_of machine.now row.now end at (length out.old) }
 {
     if row.len() <= at {
@@ -89,31 +103,34 @@ fn relabel_columns(machine: &[u8], row: &[u8], end: usize, at: usize, out: &mut 
 }
 
 // A row of which m/z was read, and whose intensity begins at a place.
-fn relabel_intensity(machine: &[u8], row: &[u8], at: usize, out: &mut [u8]) -> Answer
+fn relabel_intensity(
+    machine: &[u8],
+    row: &[u8],
+    at: usize,
+    out: &mut [u8],
+) -> Result<usize, Refusal>
     ensures { answered result out.new ≡ intensity_of machine.now row.now at (length out.old) }
 {
-    let intensity = read_column(rest(row, at));
-    if !intensity.good {
+    let Some(intensity) = read_column(rest(row, at)) else {
         clear(out);
-        return refuse(13, at);
-    }
+        return refuse(Why::BadIntensity, at);
+    };
     let end = advance(at, intensity.len, row.len());
     let to = advance(at, intensity.next, row.len());
     relabel_columns(machine, row, end, to, out)
 }
 
 // The preferred spelling of a row, by a lent machine: whoever has many rows makes the machine once.
-pub fn relabel_row_by(machine: &[u8], row: &[u8], out: &mut [u8]) -> Answer
+pub fn relabel_row_by(machine: &[u8], row: &[u8], out: &mut [u8]) -> Result<usize, Refusal>
     ensures { answered result out.new ≡ relabelled_row_of machine.now row.now (length out.old) }
 {
     if MAX_ROW < row.len() {
         clear(out);
-        return refuse(1, MAX_ROW);
+        return refuse(Why::LineTooLong, MAX_ROW);
     }
-    let mz = read_column(row);
-    if !mz.good {
+    let Some(mz) = read_column(row) else {
         clear(out);
-        return refuse(12, 0);
-    }
+        return refuse(Why::BadMz, 0);
+    };
     relabel_intensity(machine, row, mz.next, out)
 }

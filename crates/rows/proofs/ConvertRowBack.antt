@@ -1,12 +1,11 @@
 -- Converting a row: what it gives is the stored row of the current edition that is the same row as the old bytes; and with how long an output it is never
 -- too short. Assumes nothing.
 use Prim.Native.Nat.{ℕ, ◌+◌, ◌-◌, ◌≤◌}
-use mathlib.Core.Path.{◌≡◌, sym, ap, ◌∙◌, subst}
-use mathlib.Core.List.{List, ◌++◌}
+use mathlib.Core.Path.{◌≡◌, sym, ap, subst}
+use mathlib.Core.List.{List}
 use native.Mathlib.Omega.{arith}
 use lib.ListN.{length, take, length-append}
 use lib.Seq.{take-append-add}
-use Rattle.rules.specs.Fields.{Table}
 use Rattle.rules.specs.Limits.{max_annotations}
 use Rattle.rules.specs.Preferred.{preferred_spelling}
 use Rattle.rules.specs.Stored.{stores}

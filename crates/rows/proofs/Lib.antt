@@ -1,5 +1,4 @@
 -- Laws of rows and peak lists.
-pub mod Steps
 pub mod OneRow
 pub mod RowBack
 pub mod ConvertRowBack

@@ -11,8 +11,8 @@ use borrow.Author.Tests.{eqb-true, eqb-false, leb-true, leb-false}
 use Rattle.rules.specs.RowAnswers.{lacks}
 use Rattle.rules.specs.Lists.{RowsOf, no_rows, last_row, next_row}
 use Rattle.io_parts.specs.Feeds.{before_feed}
-use Rattle.rows.specs.declared.NextRow.{NextRow}
-use Rattle.rows.specs.declared.NextRow.TheVariants.{Found, End}
+use Rattle.std.specs.Prelude.{Option, Some, None, is_some}
+use Rattle.rows.specs.declared.Row.{Row}
 use Rattle.rows.specs.Walks.{next_row_of}
 use Rattle.read_row.proofs.Cuts.{lacks_more, cut_same, no_cut}
 
@@ -83,107 +83,95 @@ ended (b ∷ s) = by (eqb b 10) refl (ended s)
 
 -- the rows that `next_row` hands out from a place on
 pub data Walked (list : List ℕ) : ℕ → List (List ℕ) → Type 0 where
-  ends : {at : ℕ} → next_row_of list at ≡ End → Walked list at []
-  goes : {at n next : ℕ} {rows : List (List ℕ)} → next_row_of list at ≡ Found n next → Walked list next rows → Walked list at (take n (drop at list) ∷ rows)
-
-abbrev is_end : NextRow → Bool
-is_end End = true
-is_end (Found n next) = false
-
-abbrev len_of : NextRow → ℕ
-len_of End = 0
-len_of (Found n next) = n
-
-abbrev next_of : NextRow → ℕ
-next_of End = 0
-next_of (Found n next) = next
+  ends : {at : ℕ} → next_row_of list at ≡ None → Walked list at []
+  goes : {at : ℕ} {row : Row} {rows : List (List ℕ)} → next_row_of list at ≡ Some row → Walked list row.next rows → Walked list at (take row.len (drop at list) ∷ rows)
 
 -- a row that was found
-pub record FoundAt (list : List ℕ) (at n next : ℕ) : Type 0 where
+pub record FoundAt (list : List ℕ) (at : ℕ) (row : Row) : Type 0 where
   pub before : at < length list
-  pub len : n ≡ before_feed (drop at list)
-  pub after : next ≡ min (min (at + n) (length list) + 1) (length list)
+  pub len : row.len ≡ before_feed (drop at list)
+  pub after : row.next ≡ min (min (at + row.len) (length list) + 1) (length list)
 
-pub found_at : (list : List ℕ) (at n next : ℕ) → next_row_of list at ≡ Found n next → FoundAt list at n next
+-- the row that begins at a place within the list
+abbrev row_at : List ℕ → ℕ → Row
+row_at list at =
+    let n = before_feed (drop at list) in record { len = n; next = min (min (at + n) (length list) + 1) (length list) }
+
+abbrev or_none : Option Row → Row
+or_none (Some row) = row
+or_none None = record { len = 0; next = 0 }
+
+pub found_at : (list : List ℕ) (at : ℕ) (row : Row) → next_row_of list at ≡ Some row → FoundAt list at row
 unfolding next_row_of
-found_at list at n next e = by (leb (length list) at) refl e
+found_at list at row e = by (leb (length list) at) refl e
   where
-    by : (t : Bool) → leb (length list) at ≡ t
-        → cond t End (Found (before_feed (drop at list)) (min (min (at + before_feed (drop at list)) (length list) + 1) (length list))) ≡ Found n next
-        → FoundAt list at n next
-    by true q h = absurd (subst T (ap is_end h) tt)
-    by false q h =
-        let m : n ≡ before_feed (drop at list) = sym (ap len_of h) in
-        record {
-          before = leb-false (length list) at q;
-          len = m;
-          after = sym (ap next_of h) ∙ ap (λ (x : ℕ). min (min (at + x) (length list) + 1) (length list)) (sym m);
-        }
+    by : (t : Bool) → leb (length list) at ≡ t → cond {A = Option Row} t None (Some (row_at list at)) ≡ Some row → FoundAt list at row
+    by true q h = absurd (subst T (sym (ap is_some h)) tt)
+    by false q h = subst (FoundAt list at) (ap or_none h) (record { before = leb-false (length list) at q; len = refl; after = refl })
 
-at_end : (list : List ℕ) (at : ℕ) → next_row_of list at ≡ End → length list ≤ at
+at_end : (list : List ℕ) (at : ℕ) → next_row_of list at ≡ None → length list ≤ at
 unfolding next_row_of
 at_end list at e = by (leb (length list) at) refl e
   where
-    by : (t : Bool) → leb (length list) at ≡ t
-        → cond t End (Found (before_feed (drop at list)) (min (min (at + before_feed (drop at list)) (length list) + 1) (length list))) ≡ End → length list ≤ at
+    by : (t : Bool) → leb (length list) at ≡ t → cond {A = Option Row} t None (Some (row_at list at)) ≡ None → length list ≤ at
     by true q h = leb-true (length list) at q
-    by false q h = absurd (subst T (sym (ap is_end h)) tt)
+    by false q h = absurd (subst T (ap is_some h) tt)
 
 -- each row goes further, so that a walk ends
-pub goes_further : (list : List ℕ) (at n next : ℕ) → next_row_of list at ≡ Found n next → (at < next) × (next ≤ length list)
-goes_further list at n next e =
-    let x = found_at list at n next e in
+pub goes_further : (list : List ℕ) (at : ℕ) (row : Row) → next_row_of list at ≡ Some row → (at < row.next) × (row.next ≤ length list)
+goes_further list at row e =
+    let x = found_at list at row e in
     let h = x.before in
     (omega (arith, x.after), omega (arith, x.after))
 
 -- what a walk hands out are the rows
 pub walk_rows : {list : List ℕ} {at : ℕ} {rows : List (List ℕ)} → Walked list at rows → RowsOf (drop at list) rows
 walk_rows {list} {at} (ends e) = subst (λ (l : List ℕ). RowsOf l []) (sym (drop_of_length-le list {i = at} (at_end list at e))) no_rows
-walk_rows {list} {at} (goes {n = n} {next = next} {rows = rows} e w) = by (found_at list at n next e) (walk_rows w)
+walk_rows {list} {at} (goes {row = f} {rows = rows} e w) = by (found_at list at f e) (walk_rows w)
   where
-    by : FoundAt list at n next → RowsOf (drop next list) rows → RowsOf (drop at list) (take n (drop at list) ∷ rows)
+    by : FoundAt list at f → RowsOf (drop f.next list) rows → RowsOf (drop at list) (take f.len (drop at list) ∷ rows)
     by x r =
         let s = drop at list in
         let y = subst (Ended s) (sym x.len) (ended s) in
-        go x r y (leb (length s) n) refl
+        go x r y (leb (length s) f.len) refl
       where
-        go : FoundAt list at n next → RowsOf (drop next list) rows → Ended (drop at list) n → (t : Bool) → leb (length (drop at list)) n ≡ t
-            → RowsOf (drop at list) (take n (drop at list) ∷ rows)
+        go : FoundAt list at f → RowsOf (drop f.next list) rows → Ended (drop at list) f.len → (t : Bool) → leb (length (drop at list)) f.len ≡ t
+            → RowsOf (drop at list) (take f.len (drop at list) ∷ rows)
         go x r y true q =
             let s = drop at list in
             let b = x.before in
-            let k = leb-true (length s) n q in
+            let k = leb-true (length s) f.len q in
             let l = length-drop at list in
-            let a : take n s ≡ s = take_all n s k in
-            let d : length list ≤ next = omega (arith, x.after) in
-            let z : rows ≡ [] = rows_same r no_rows (drop_of_length-le list {i = next} d) in
+            let a : take f.len s ≡ s = take_all f.len s k in
+            let d : length list ≤ f.next = omega (arith, x.after) in
+            let z : rows ≡ [] = rows_same r no_rows (drop_of_length-le list {i = f.next} d) in
             subst (λ (v : List ℕ). RowsOf s (v ∷ rows)) (sym a) (subst (λ (v : List (List ℕ)). RowsOf s (s ∷ v)) (sym z)
             (last_row (λ c. absurd (omega (arith, ap length c))) (subst (λ (v : List ℕ). T (lacks 10 v)) a y.free)))
         go x r y false q =
             let s = drop at list in
-            let k = leb-false (length s) n q in
+            let k = leb-false (length s) f.len q in
             let l = length-drop at list in
             let b = x.before in
-            let d : next ≡ at + (n + 1) = omega (arith, x.after) in
-            let z : drop next list ≡ drop (n + 1) s = ap (λ (m : ℕ). drop m list) d ∙ sym (drop-drop (n + 1) at list) in
-            next_row (take n s) y.free (y.fed k) (subst (λ (v : List ℕ). RowsOf v rows) z r)
+            let d : f.next ≡ at + (f.len + 1) = omega (arith, x.after) in
+            let z : drop f.next list ≡ drop (f.len + 1) s = ap (λ (m : ℕ). drop m list) d ∙ sym (drop-drop (f.len + 1) at list) in
+            next_row (take f.len s) y.free (y.fed k) (subst (λ (v : List ℕ). RowsOf v rows) z r)
 
 -- every walk comes to its end
 walk_in_lem : (list : List ℕ) (f at : ℕ) → length list ≤ at + f → (rows : List (List ℕ)) × Walked list at rows
 walk_in_lem list zero at h = by (next_row_of list at) refl
   where
-    by : (x : NextRow) → next_row_of list at ≡ x → (rows : List (List ℕ)) × Walked list at rows
-    by End e = ([], ends e)
-    by (Found n next) e = absurd (omega (arith, (found_at list at n next e).before))
+    by : (x : Option Row) → next_row_of list at ≡ x → (rows : List (List ℕ)) × Walked list at rows
+    by None e = ([], ends e)
+    by (Some row) e = absurd (omega (arith, (found_at list at row e).before))
 walk_in_lem list (suc f) at h = by (λ m g. walk_in_lem list f m g) (next_row_of list at) refl
   where
-    by : ((m : ℕ) → length list ≤ m + f → (rows : List (List ℕ)) × Walked list m rows) → (x : NextRow) → next_row_of list at ≡ x
+    by : ((m : ℕ) → length list ≤ m + f → (rows : List (List ℕ)) × Walked list m rows) → (x : Option Row) → next_row_of list at ≡ x
         → (rows : List (List ℕ)) × Walked list at rows
-    by more End e = ([], ends e)
-    by more (Found n next) e =
-        let g = (goes_further list at n next e).0 in
-        let w = more next (omega arith) in
-        (take n (drop at list) ∷ w.0, goes e w.1)
+    by more None e = ([], ends e)
+    by more (Some row) e =
+        let g = (goes_further list at row e).0 in
+        let w = more row.next (omega arith) in
+        (take row.len (drop at list) ∷ w.0, goes e w.1)
 
 pub walk_some : (list : List ℕ) → (rows : List (List ℕ)) × Walked list 0 rows
 walk_some list = walk_in_lem list (length list) 0 (omega arith)

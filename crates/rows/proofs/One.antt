@@ -4,14 +4,13 @@ use mathlib.Core.Path.{◌≡◌}
 use mathlib.Core.List.{List}
 use Rattle.rules.specs.Editions.{LineEdition}
 use Rattle.rules.specs.RowAnswers.{ReadsRow, WritesRow, ConvertsRow}
-use Rattle.answers.specs.declared.Answer.{Answer}
-use Rattle.answers.specs.Delivered.{answered}
+use Rattle.answers.specs.Delivered.{Answer, answered}
 use Rattle.answers.proofs.One.{answered_one}
 use Rattle.rows.specs.Relabels.{RelabelsRow}
 use Rattle.rows.proofs.OneRow as one
 use Rattle.rows.proofs.RelabelBack as back
 
-module _ {room : ℕ} {r q : Answer} {e f : List ℕ} where
+module _ {room : ℕ} {e f : List ℕ} (r q : Answer) where
   pub reads_row_one : {l : LineEdition} (row : List ℕ) → ReadsRow l row room (answered r e) → ReadsRow l row room (answered q f) → (e ≡ f) × (r ≡ q)
   reads_row_one row a b = answered_one (one.reads_row_one a b)
 

@@ -39,7 +39,9 @@ use Rattle.lines.specs.Relabels.{Relabels}
 use Rattle.lines.proofs.Small.{table_small}
 use Rattle.lines.proofs.Enough.{read_enough}
 use Rattle.lines.proofs.Right.{reads_table, bytes_read, relabel_right}
-use Rattle.read_row.specs.Columns.{column_of}
+use Rattle.std.specs.Prelude.{Option, Some, None}
+use Rattle.read_row.specs.declared.Column.{Column}
+use Rattle.read_row.specs.Columns.{good_column, column_in, column_of}
 use Rattle.read_row.proofs.Cuts.{cut_some, no_cut}
 use Rattle.read_row.proofs.Decimals.{decimal_lacks, read_good, read_bad}
 use Rattle.read_row.proofs.LinePlaces.{reads_place}
@@ -47,7 +49,7 @@ use Rattle.read_row.proofs.Right.{cut_rest}
 use Rattle.write_row.specs.Writings.{bare_of}
 use Rattle.write_row.proofs.Heads.{bytes_drop}
 use Rattle.write_row.proofs.Right.{bare_delivered, preferred_some}
-use Rattle.respell_row.specs.Relabelled.{place_of, spelled_of, third_of, columns_of, intensity_of, mz_in, relabelled_row_of}
+use Rattle.respell_row.specs.Relabelled.{place_of, spelled_of, third_of, columns_of, intensity_in, intensity_of, mz_in, relabelled_row_of}
 use Rattle.rows.specs.Relabels.{max_stored_row, RelabelsRow, refused, relabelled}
 use Rattle.rows.proofs.RowBack.{third_read, no_decimal}
 use Rattle.rows.proofs.StrayRow.{columns, columns_length, columns_then}
@@ -322,32 +324,31 @@ module _ (l : LineEdition) (machine row : List ℕ) (room : ℕ) (small : room �
 
   -- where the intensity begins
   abbrev n : ℕ
-  n = (column_of row).next
+  n = (column_in row).next
 
-  intensity_right : (column_of row).good ≡ true → RelabelsRow l row room (intensity_of machine row (column_of row).next room)
+  intensity_right : good_column row ≡ true → RelabelsRow l row room (intensity_of machine row (column_in row).next room)
   unfolding intensity_of
-  intensity_right e = by (column_of (drop n row)).good refl
+  intensity_right e = by (good_column (drop n row)) refl
     where
-      by : (t : Bool) → (column_of (drop n row)).good ≡ t
-          → RelabelsRow l row room (cond t (columns_of machine row (min (n + (column_of (drop n row)).len) (length row)) (min (n + (column_of (drop n row)).next) (length row)) room) (refuses room 13 n))
+      by : (t : Bool) → good_column (drop n row) ≡ t → RelabelsRow l row room (intensity_in machine row n room (cond {A = Option Column} t (Some (column_in (drop n row))) None))
       by true q =
           let g = read_good row e in
           let h = read_good (drop n row) q in
-          let c = subst (λ (w : List ℕ). Cut w h.column h.more (column_of (drop n row)).next) (cut_rest g.cut) h.cut in
+          let c = subst (λ (w : List ℕ). Cut w h.column h.more (column_in (drop n row)).next) (cut_rest g.cut) h.cut in
           columns_right
-          (subst (λ (i : ℕ). Split l row (min (n + i) (length row)) (min (n + (column_of (drop n row)).next) (length row))) h.size (split_at short g.cut g.text c h.text))
+          (subst (λ (i : ℕ). Split l row (min (n + i) (length row)) (min (n + (column_in (drop n row)).next) (length row))) h.size (split_at short g.cut g.text c h.text))
       by false q =
           let g = read_good row e in
           let c = (cut_some (drop n row)).is in
           refused
           (ReadsRow.good short g.cut g.text
-          (subst (λ (w : List ℕ). ReadsIntensity l (ruled (column_of row).decimal) w n max_stored_row (refuses max_stored_row 13 n)) (cut_rest g.cut)
+          (subst (λ (w : List ℕ). ReadsIntensity l (ruled (column_in row).decimal) w n max_stored_row (refuses max_stored_row 13 n)) (cut_rest g.cut)
           (ReadsIntensity.bad c (read_bad (drop n row) q c)))) (λ z. absurd (omega arith))
 
   mz_right : RelabelsRow l row room (mz_in machine row room (column_of row))
-  mz_right = by (column_of row).good refl
+  mz_right = by (good_column row) refl
     where
-      by : (t : Bool) → (column_of row).good ≡ t → RelabelsRow l row room (cond t (intensity_of machine row (column_of row).next room) (refuses room 12 0))
+      by : (t : Bool) → good_column row ≡ t → RelabelsRow l row room (mz_in machine row room (cond {A = Option Column} t (Some (column_in row)) None))
       by true e = intensity_right e
       by false e =
           let c = (cut_some row).is in refused (ReadsRow.bad short c (read_bad row e c)) (λ z. absurd (omega arith))

@@ -1,5 +1,5 @@
 -- Worked columns and rows. Assumes nothing.
-use Prim.Native.Nat.{ℕ, ◌+◌}
+use Prim.Native.Nat.{ℕ}
 use Prim.Native.String.{String}
 use mathlib.Core.Path.{◌≡◌, refl}
 use mathlib.Core.Bool.{false}
@@ -24,45 +24,45 @@ use Rattle.rules.proofs.TableOf.{table_of}
 use Rattle.numbers.specs.Leading.{leading}
 use Rattle.numbers.specs.Making.{made_of}
 use Rattle.numbers.specs.Points.{fraction, pointed, decimal_from, decimal_of}
-use Rattle.read_row.specs.Columns.{begins_decimal, ends_column, is_column, column_of}
+use Rattle.read_row.specs.Columns.{begins_decimal, ends_column, is_column, good_column}
 use Rattle.read_row.proofs.Decimals.{read_bad}
 
 -- ---- columns
 
 -- a column without a tab that is read as no decimal
-bad : (w : String) → (column_of (bytes w)).good ≡ false → T (lacks 9 (bytes w)) → BadColumn (bytes w)
+bad : (w : String) → good_column (bytes w) ≡ false → T (lacks 9 (bytes w)) → BadColumn (bytes w)
 bad w e l = read_bad (bytes w) e (no_tab l)
 
 pub empty : BadColumn (bytes "")
-unfolding column_of is_column begins_decimal ends_column decimal_of decimal_from leading fraction pointed made_of digits digits_in whole value_from
+unfolding good_column is_column begins_decimal ends_column decimal_of decimal_from leading fraction pointed made_of digits digits_in whole value_from
 empty = bad "" refl tt
 
 pub no_whole_number : BadColumn (bytes ".5")
-unfolding column_of is_column begins_decimal ends_column decimal_of decimal_from leading fraction pointed made_of digits digits_in whole value_from
+unfolding good_column is_column begins_decimal ends_column decimal_of decimal_from leading fraction pointed made_of digits digits_in whole value_from
 no_whole_number = bad ".5" refl tt
 
 pub no_places : BadColumn (bytes "5.")
-unfolding column_of is_column begins_decimal ends_column decimal_of decimal_from leading fraction pointed made_of digits digits_in whole value_from
+unfolding good_column is_column begins_decimal ends_column decimal_of decimal_from leading fraction pointed made_of digits digits_in whole value_from
 no_places = bad "5." refl tt
 
 pub leading_zero : BadColumn (bytes "05")
-unfolding column_of is_column begins_decimal ends_column decimal_of decimal_from leading fraction pointed made_of digits digits_in whole value_from
+unfolding good_column is_column begins_decimal ends_column decimal_of decimal_from leading fraction pointed made_of digits digits_in whole value_from
 leading_zero = bad "05" refl tt
 
 pub signed : BadColumn (bytes "-5")
-unfolding column_of is_column begins_decimal ends_column decimal_of decimal_from leading fraction pointed made_of digits digits_in whole value_from
+unfolding good_column is_column begins_decimal ends_column decimal_of decimal_from leading fraction pointed made_of digits digits_in whole value_from
 signed = bad "-5" refl tt
 
 pub with_exponent : BadColumn (bytes "5e3")
-unfolding column_of is_column begins_decimal ends_column decimal_of decimal_from leading fraction pointed made_of digits digits_in whole value_from
+unfolding good_column is_column begins_decimal ends_column decimal_of decimal_from leading fraction pointed made_of digits digits_in whole value_from
 with_exponent = bad "5e3" refl tt
 
 pub thirteen_digits : BadColumn (bytes "1234567890123")
-unfolding column_of is_column begins_decimal ends_column decimal_of decimal_from leading fraction pointed made_of digits digits_in whole value_from
+unfolding good_column is_column begins_decimal ends_column decimal_of decimal_from leading fraction pointed made_of digits digits_in whole value_from
 thirteen_digits = bad "1234567890123" refl tt
 
 pub ten_places : BadColumn (bytes "0.1234567890")
-unfolding column_of is_column begins_decimal ends_column decimal_of decimal_from leading fraction pointed made_of digits digits_in whole value_from
+unfolding good_column is_column begins_decimal ends_column decimal_of decimal_from leading fraction pointed made_of digits digits_in whole value_from
 ten_places = bad "0.1234567890" refl tt
 
 pub twelve_digits : GoodColumn (bytes "123456789.012") (decimal 123456789012 3)

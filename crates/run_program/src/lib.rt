@@ -1,13 +1,14 @@
-// How each program begins and ends: what it says of its arguments, and of what the system refused. What the system hands over and
-// takes cannot be stated: `was_asked`, `asked_lines`, `has_argument`, `show`, `explain`, `refuse`, `finish`, `fail` and `put_word` are proved safe and ending,
-// `only_word` states no more than that it counts bytes of its buffer, and the others state their answers.
+// How each program begins and ends, and how it goes through its lines: what it says of its arguments, and of what the system refused. What
+// the system hands over and takes cannot be stated: `was_asked`, `asked_lines`, `has_argument`, `only_word`, `show`, `explain`, `refuse`,
+// `answer_all`, `finish`, `fail` and `put_word` are proved safe and ending, and the others state their answers. Programs that differ in
+// a name, a help text and switches alone stay programs, since each is what a user runs.
 #![tactic(auto)]
 
-ghost use Rattle.std.specs.Prelude.{◌≡◌, ◌++◌, take, length};
+ghost use Rattle.std.specs.Prelude.{ℕ, ◌≤◌, ◌≡◌, ◌++◌, take, length};
 ghost use Rattle.put_bytes.specs.Puts.{Put};
-ghost use Rattle.run_program.specs.Words.{IsPrefixLen, Tells, help_word, second_word};
+ghost use Rattle.run_program.specs.Words.{Tells, help_word, second_word};
 
-use io_lines::{Failed, Stream, System, flush};
+use io_lines::{Failure, Stream, System, flush, next_line};
 use put_bytes::put_run;
 use scan_line::Lines;
 use slices::{first_of, minus_or_zero, rest};
@@ -40,12 +41,12 @@ pub fn was_asked(rt: &HostRuntime, name: &[u8], help: &[u8], numbered: bool) -> 
         return None;
     }
     let mut word = [0u8; WORD];
-    let n = only_word(rt, &mut word);
-    if is_second(&word[..n]) {
+    let asked = only_word(rt, &mut word);
+    if asked.is_some_and(is_second) {
         return None;
     }
     let mut system = System::begin(*rt);
-    if is_help(&word[..n]) {
+    if asked.is_some_and(is_help) {
         return Some(show(&mut system, name, help, numbered));
     }
     refuse(&system, name);
@@ -55,37 +56,31 @@ pub fn was_asked(rt: &HostRuntime, name: &[u8], help: &[u8], numbered: bool) -> 
 // The edition of the lines that the program reads or writes: the second where the one argument is `--second`, and else the first.
 pub fn asked_lines(rt: &HostRuntime) -> Lines {
     let mut word = [0u8; WORD];
-    let n = only_word(rt, &mut word);
-    if is_second(&word[..n]) {
-        return Lines::Second;
+    if only_word(rt, &mut word).is_some_and(is_second) {
+        Lines::Second
+    } else {
+        Lines::First
     }
-    Lines::First
 }
 
 // Whether the program was given the argument of this number, which may be empty or of any length; its own name has the number 0.
 fn has_argument(rt: &HostRuntime, i: usize) -> bool {
     let mut word = [0u8; WORD];
-    match rt.arg(i, &mut word) {
-        Ok(_) => true,
-        Err(FillError::TooLong) => true,
-        Err(FillError::NotPresent) => false,
-    }
+    !matches!(rt.arg(i, &mut word), Err(FillError::NotPresent))
 }
 
-// The program's argument where it has one alone, at the start of a buffer, and its length; 0, which is no word, where it has none or more
-// than one, and where the argument is longer than the buffer.
-fn only_word(rt: &HostRuntime, word: &mut [u8]) -> usize
-    ensures { IsPrefixLen result word.new }
-{
+// The program's argument where it has one alone, at the start of a buffer; none where the argument is longer than the buffer.
+fn only_word<'a>(rt: &HostRuntime, word: &'a mut [u8]) -> Option<&'a [u8]> {
     if has_argument(rt, 2) {
-        return 0;
+        return None;
     }
     match rt.arg(1, word) {
-        Ok(n) => n,
-        Err(_) => 0,
+        Ok(n) => Some(&word[..n]),
+        Err(_) => None,
     }
 }
 
+// Each of the two says which word it knows: one function over a word would say no more than `==`.
 fn is_help(word: &[u8]) -> bool
     ensures { Tells result word.now help_word }
 {
@@ -99,19 +94,17 @@ fn is_second(word: &[u8]) -> bool
 }
 
 fn show(system: &mut System, name: &[u8], help: &[u8], numbered: bool) -> ExitCode {
-    if !explain(system, help, numbered) {
-        return fail(system, name, b": standard output");
+    match explain(system, help, numbered) {
+        Ok(()) => ExitCode::SUCCESS,
+        Err(_) => fail(system, name, Failure::Writing),
     }
-    ExitCode::SUCCESS
 }
 
-// Whether the system took all of the text.
-fn explain(system: &mut System, help: &[u8], numbered: bool) -> bool {
+// What the program does, and what the numbers mean where its answers have such.
+fn explain(system: &mut System, help: &[u8], numbered: bool) -> io::Result<()> {
+    system.write(help)?;
     if !numbered {
-        return system.write(help);
-    }
-    if !system.write(help) {
-        return false;
+        return Ok(());
     }
     system.write(
         b"
@@ -149,22 +142,65 @@ fn refuse(system: &System, name: &[u8]) {
     system.tell(first_of(&text, n));
 }
 
+// What a program does with its lines, or with the parts of lines that it takes.
+pub trait Answers {
+    // How many bytes the output has at least.
+    ghost least: { ℕ };
+
+    // What comes next: a line, where a program does not say otherwise.
+    fn next(&mut self, system: &mut System, buf: &mut [u8], out: &[u8], s: Stream) -> Stream {
+        next_line(system, buf, out, s)
+    }
+
+    // What was found is answered, behind the answers that wait.
+    fn answer(&mut self, system: &mut System, buf: &[u8], out: &mut [u8], s: Stream) -> Stream
+        requires { least ≤ length out.old };
+
+    // What is left to answer at the end: nothing, where a program does not say otherwise.
+    fn end(&mut self, _system: &mut System, _out: &mut [u8], s: Stream) -> Stream {
+        s
+    }
+}
+
+// Line after line is answered, until none comes. A proved loop has to end, so it counts up to a number that no run reaches.
+pub fn answer_all<A: Answers>(
+    system: &mut System,
+    name: &[u8],
+    buf: &mut [u8],
+    out: &mut [u8],
+    answers: &mut A,
+) -> ExitCode
+    requires { A.least ≤ length out.old }
+{
+    let mut s = answers.next(system, buf, out, Stream::begin());
+    for _ in 0..u64::MAX {
+        if s.found.is_none() {
+            let end = answers.end(system, out, s);
+            return finish(system, name, out, end);
+        }
+        let said = answers.answer(system, buf, out, s);
+        s = answers.next(system, buf, out, said);
+    }
+    ExitCode::SUCCESS
+}
+
 // The last of a program: the answers that wait are written, and what the system refused is told on standard error. Its exit status.
 pub fn finish(system: &mut System, name: &[u8], out: &[u8], s: Stream) -> ExitCode {
-    match s.failed {
-        Failed::Nothing => {
-            if !flush(system, out, s.waiting) {
-                return fail(system, name, b": standard output");
-            }
-            ExitCode::SUCCESS
-        }
-        Failed::Reading => fail(system, name, b": standard input"),
-        Failed::Writing => fail(system, name, b": standard output"),
+    if let Some(failure) = s.failed {
+        return fail(system, name, failure);
+    }
+    match flush(system, out, s.waiting) {
+        Ok(()) => ExitCode::SUCCESS,
+        Err(_) => fail(system, name, Failure::Writing),
     }
 }
 
 // The name of the program, what could not be read or written, and the system's own word for it.
-fn fail(system: &System, name: &[u8], what: &[u8]) -> ExitCode {
+fn fail(system: &System, name: &[u8], failure: Failure) -> ExitCode {
+    let what = match failure {
+        Failure::Reading => b": standard input".as_slice(),
+        Failure::Writing => b": standard output".as_slice(),
+    };
     let mut text = [0u8; TEXT];
     let n = join(&mut text, name, what);
     system.tell(first_of(&text, n));

@@ -5,7 +5,7 @@ use mathlib.Core.Bool.{Bool}
 use mathlib.Core.List.{List}
 use lib.ListN.{length}
 use Rattle.put_bytes.specs.Puts.{Put}
-use Rattle.answers.specs.declared.Answer.{Answer}
+use Rattle.answers.specs.Delivered.{Answer}
 use Rattle.rows.specs.Relabels.{max_stored_row}
 use Rattle.io_lines.specs.declared.Stream.{Stream}
 use Rattle.io_lines.specs.Streams.{waiting_of, Roomed}

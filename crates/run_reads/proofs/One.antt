@@ -1,12 +1,12 @@
 -- Two answers that meet a contract of this crate are equal. Assumes nothing.
-use mathlib.Core.Path.{◌≡◌, sym, ap, ap₂, ◌∙◌}
+use mathlib.Core.Path.{◌≡◌, sym, ap₂, ◌∙◌}
 use mathlib.Core.Bool.{Bool}
 use mathlib.Core.List.{List}
 use Prim.Native.Nat.{ℕ}
 use lib.ListN.{length}
 use Rattle.put_bytes.proofs.Putting.{put_as}
 use Rattle.put_bytes.proofs.One.{put_one}
-use Rattle.answers.specs.declared.Answer.{Answer}
+use Rattle.answers.specs.Delivered.{Answer}
 use Rattle.read_line.proofs.One.{answered_in_one}
 use Rattle.io_lines.specs.declared.Stream.{Stream}
 use Rattle.io_lines.specs.Streams.{waiting_of}

@@ -10,8 +10,7 @@ use Rattle.rules.specs.Answers as rules
 use Rattle.scan_line.specs.Steps.{scanned_by}
 use Rattle.read_line.specs.Readings.{read_of}
 use Rattle.read_row.specs.Readings.{read_row_of}
-use Rattle.answers.specs.declared.Answer.{Answer}
-use Rattle.answers.specs.Delivered.{answered}
+use Rattle.answers.specs.Delivered.{Answer, answered}
 use Rattle.io_answers.specs.Asked.{behind_size, asked_in, room_in}
 use Rattle.run_program.specs.declared.Input.{Input}
 use Rattle.run_program.specs.declared.Input.TheVariants.{Lines, Rows}

@@ -1,6 +1,6 @@
 -- What is printed for a line of the input, and where it waits to be written. Assumes nothing.
 use Rattle.std.specs.Prelude.{ℕ, Bool, List}
-use Rattle.answers.specs.declared.Answer.{Answer}
+use Rattle.answers.specs.Delivered.{Answer}
 use Rattle.rows.specs.Relabels.{max_stored_row}
 use Rattle.io_lines.specs.declared.Stream.{Stream}
 use Rattle.run_program.specs.Waits.{Waits}

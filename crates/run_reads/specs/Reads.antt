@@ -1,8 +1,7 @@
 -- What is read of a line of the input, and into how many bytes of a table. Assumes nothing.
 use Rattle.std.specs.Prelude.{◌≡◌, Bool, ℕ, List, length, take, drop}
 use Rattle.scan_line.specs.Steps.{scanned_by}
-use Rattle.answers.specs.declared.Answer.{Answer}
-use Rattle.answers.specs.Delivered.{answered}
+use Rattle.answers.specs.Delivered.{Answer, answered}
 use Rattle.read_line.specs.Readings.{read_of}
 use Rattle.rules.specs.Answers as rules
 use Rattle.read_row.specs.Readings.{read_row_of}

@@ -1,24 +1,25 @@
 // The programs `reads` and `row_reads`, `try_read_sized` and `try_read_row_sized`: lines of standard input, or rows of a peak list, are read, and each
 // is answered by number, place and length, and the table, or the stored row, in hexadecimal digits, `-` where there is none. Lines end at line feeds,
-// and the last may lack its own. Which lines are found is stated by `next_line`, and `one_line` states what is answered to the line that was
-// found; what is written cannot be stated, so `answer_lines` and `all` are proved safe and ending.
+// and the last may lack its own. Which lines are found is stated by `next_line`, and `Reader::answer` states what is answered to the line that was
+// found; what is written cannot be stated, so `answer_lines` is proved safe and ending. `Input`, and whether lines are sized, stay values that are
+// tested and no closures: `ReadInto`, which says what is answered, speaks of both.
 #![tactic(auto)]
 
 ghost use Rattle.std.specs.Prelude.{◌≡◌, true, length, take, drop};
 ghost use Rattle.answers.specs.Delivered.{answered};
+ghost use Rattle.io_lines.specs.Streams.{line_in};
 ghost use Rattle.run_reads.specs.Answered.{Answered};
 ghost use Rattle.run_reads.specs.Reads.{read_as, ReadInto};
 
-use answers::Answer;
+use faults::Refusal;
 use io_answers::{behind_size, put_answer, size_in};
-use io_lines::{Stream, System, next_line, room};
+use io_lines::{Stream, System, room};
 use layout::ROW_HEAD_SIZE;
 use limits::MAX_TABLE;
 use read_line::read_by;
 use read_row::read_row_by;
-use run_program::{Input, finish};
+use run_program::{Answers, Input, answer_all};
 use scan_line::Lines;
-use slices::part;
 use std::process::ExitCode;
 
 // The bytes of the stored row of a row that is read.
@@ -40,79 +41,66 @@ pub fn answer_lines(
     input: Input,
     sized: bool,
 ) -> ExitCode {
-    let machine = scan_line::machine(lines);
     let mut buf = [0u8; BUFFER];
     let mut out = [0u8; BUFFER];
-    let mut table = [0u8; MAX_STORED_ROW];
-    let mut system = System::begin(*rt);
-    all(
-        &mut system,
-        name,
+    let mut reader = Reader {
         input,
-        &machine,
-        &mut buf,
-        &mut out,
-        &mut table,
+        machine: &scan_line::machine(lines),
         sized,
-    )
+        table: [0u8; MAX_STORED_ROW],
+    };
+    let mut system = System::begin(*rt);
+    answer_all(&mut system, name, &mut buf, &mut out, &mut reader)
 }
 
-// Line after line, until none comes. A proved loop has to end, so it counts down from a number that no run uses up.
-fn all(
-    system: &mut System,
-    name: &[u8],
+// What lines are read as, by which machine, whether they are sized, and what they are read into.
+#[derive(Drop)]
+struct Reader<'a> {
     input: Input,
-    machine: &[u8],
-    buf: &mut [u8],
-    out: &mut [u8],
-    table: &mut [u8],
+    machine: &'a [u8],
     sized: bool,
-) -> ExitCode {
-    let mut s = next_line(system, buf, out, Stream::begin());
-    let mut turns = u64::MAX;
-    while turns > 0 {
-        if !s.found {
-            return finish(system, name, out, s);
-        }
-        let said = one_line(system, input, machine, buf, out, table, s, sized);
-        s = next_line(system, buf, out, said);
-        turns -= 1;
+    table: [u8; MAX_STORED_ROW],
+}
+
+impl Answers for Reader<'_> {
+    ghost least = { 0 };
+
+    // The line that was found is answered, behind the answers that wait.
+    fn answer(&mut self, system: &mut System, buf: &[u8], out: &mut [u8], s: Stream) -> Stream
+        ensures { Answered self.old.input self.old.machine.now (line_in buf.now s) self.old.sized s self.old.table self.new.table out.old out.new result }
+    {
+        let t = room(system, out, s, ANSWER);
+        let line = s.line(buf);
+        let a = read_one(self.input, self.machine, line, &mut self.table, self.sized);
+        let end = put_answer(out, t.waiting, a, &self.table);
+        t.answered(end)
     }
-    ExitCode::SUCCESS
-}
-
-// The line that was found is answered, behind the answers that wait.
-fn one_line(
-    system: &mut System,
-    input: Input,
-    machine: &[u8],
-    buf: &[u8],
-    out: &mut [u8],
-    table: &mut [u8],
-    s: Stream,
-    sized: bool,
-) -> Stream
-    ensures { Answered input machine.now (take s.len (drop s.from buf.now)) sized s table.old table.new out.old out.new result }
-{
-    let t = room(system, out, s, ANSWER);
-    let line = part(buf, s.from, s.len);
-    let a = read_one(input, machine, line, table, sized);
-    let end = put_answer(out, t.waiting, a, table);
-    t.answered(end)
 }
 
 // A line behind its number, or, where lines are not sized, all of it into the whole table.
-fn read_one(input: Input, machine: &[u8], line: &[u8], table: &mut [u8], sized: bool) -> Answer
+fn read_one(
+    input: Input,
+    machine: &[u8],
+    line: &[u8],
+    table: &mut [u8],
+    sized: bool,
+) -> Result<usize, Refusal>
     ensures { ReadInto input machine.now line.now sized table.old table.new result }
 {
     if sized {
-        return read_sized(input, machine, line, table);
+        read_sized(input, machine, line, table)
+    } else {
+        read_as(input, machine, line, table)
     }
-    read_as(input, machine, line, table)
 }
 
 // The line behind a number and a blank, into so many bytes, or into all where they are fewer.
-fn read_sized(input: Input, machine: &[u8], asked: &[u8], table: &mut [u8]) -> Answer
+fn read_sized(
+    input: Input,
+    machine: &[u8],
+    asked: &[u8],
+    table: &mut [u8],
+) -> Result<usize, Refusal>
     ensures { ReadInto input machine.now asked.now true table.old table.new result }
 {
     let line = behind_size(asked);
@@ -121,7 +109,7 @@ fn read_sized(input: Input, machine: &[u8], asked: &[u8], table: &mut [u8]) -> A
 }
 
 // A line of annotations, or a row.
-fn read_as(input: Input, machine: &[u8], line: &[u8], out: &mut [u8]) -> Answer
+fn read_as(input: Input, machine: &[u8], line: &[u8], out: &mut [u8]) -> Result<usize, Refusal>
     ensures { answered result out.new ≡ read_as input machine.now line.now (length out.old) }
 {
     match input {

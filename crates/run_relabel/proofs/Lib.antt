@@ -3,3 +3,4 @@ pub mod Spelling
 pub mod Short
 pub mod Answering
 pub mod One
+pub mod Put

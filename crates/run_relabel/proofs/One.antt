@@ -4,12 +4,12 @@ use mathlib.Core.List.{List}
 use Prim.Native.Nat.{ℕ}
 use native.Mathlib.Decide.{ℕ_discrete}
 use Rattle.put_bytes.proofs.One.{put_one}
-use Rattle.answers.specs.declared.Answer.{Answer}
+use Rattle.answers.specs.Delivered.{Answer, number_in}
 use Rattle.run_relabel.specs.AnswerPut.{AnswerPut}
 
 pub answer_put_one : {d e f : List ℕ} {at r q : ℕ} {a : Answer} → AnswerPut d at a e r → AnswerPut d at a f q → (e ≡ f) × (r ≡ q)
-answer_put_one {e = e} {f = f} {r = r} {q = q} {a = a} x y = by (ℕ_discrete a.number 0)
+answer_put_one {e = e} {f = f} {r = r} {q = q} {a = a} x y = by (ℕ_discrete (number_in a) 0)
   where
-    by : Dec (a.number ≡ 0) → (e ≡ f) × (r ≡ q)
+    by : Dec (number_in a ≡ 0) → (e ≡ f) × (r ≡ q)
     by (yes z) = (x.spelled z ∙ sym (y.spelled z), x.behind z ∙ sym (y.behind z))
     by (no z) = put_one (x.refused z) (y.refused z)

@@ -8,19 +8,44 @@ use lib.Dec.{ltb, leb}
 use lib.ListN.{length, length-append}
 use borrow.Author.Tests.{ltb-true, leb-true}
 use Rattle.rules.specs.Numbers.{digits}
-use Rattle.answers.specs.declared.Answer.{Answer}
+use Rattle.std.specs.Prelude.{Ok, Err}
+use Rattle.faults.specs.declared.Why.{Why}
+use Rattle.faults.specs.declared.Why.TheVariants.{LineTooLong, StrayByte, Unfinished, PastBound, TooMany, RuleBroken, ConfidencesExceedOne, OutputTooShort, NoTable, FirstEditionTable, SequenceForm, BadMz, BadIntensity, Letters}
+use Rattle.faults.specs.Refusals.{number_of}
+use Rattle.answers.specs.Delivered.{Answer, number_in}
 use Rattle.io_lines.specs.Streams.{room_of}
 use Rattle.numbers.proofs.Bounds.{digits_below}
-use Rattle.io_answers.specs.Tells.{refusal_text}
+use Rattle.io_answers.specs.Tells.{refused_text}
 
 -- ---- the text of a refusal
 
 -- of numbers of 64 bits
-pub refusal_short : (a : Answer) → a.number < 2 ^ 64 → a.place < 2 ^ 64 → length (refusal_text a) ≤ 42
-refusal_short a h g =
-    let n = digits a.number in
-    let p = digits a.place in
-    omega (arith, length-append (n ++ (32 ∷ [])) p, length-append n (32 ∷ []), digits_below 19 a.number (omega arith), digits_below 19 a.place (omega arith))
+pub refusal_short : (number place : ℕ) → number < 2 ^ 64 → place < 2 ^ 64 → length (refused_text number place) ≤ 42
+refusal_short number place h g =
+    let n = digits number in
+    let p = digits place in
+    omega (arith, length-append (n ++ (32 ∷ [])) p, length-append n (32 ∷ []), digits_below 19 number (omega arith), digits_below 19 place (omega arith))
+
+-- the number of an answer
+pub number_short : (a : Answer) → number_in a < 2 ^ 64
+number_short (Ok n) = omega arith
+number_short (Err r) = by r.why
+  where
+    by : (w : Why) → number_of w < 2 ^ 64
+    by LineTooLong = omega arith
+    by StrayByte = omega arith
+    by Unfinished = omega arith
+    by PastBound = omega arith
+    by TooMany = omega arith
+    by RuleBroken = omega arith
+    by ConfidencesExceedOne = omega arith
+    by OutputTooShort = omega arith
+    by NoTable = omega arith
+    by FirstEditionTable = omega arith
+    by SequenceForm = omega arith
+    by BadMz = omega arith
+    by BadIntensity = omega arith
+    by Letters = omega arith
 
 -- ---- the place of an answer
 

@@ -10,8 +10,7 @@ use Rattle.rules.specs.RowAnswers.{max_row}
 use Rattle.rules.specs.Editions.{LineEdition}
 use Rattle.rules.specs.Answers as rules
 use Rattle.scan_line.specs.Steps.{machine_bytes, scanned_by}
-use Rattle.answers.specs.declared.Answer.{Answer}
-use Rattle.answers.specs.Delivered.{answered}
+use Rattle.answers.specs.Delivered.{Answer, size_in, answered}
 use Rattle.lines.specs.Relabels.{relabelled_of}
 use Rattle.lines.proofs.Right.{relabel_made}
 use Rattle.respell_row.specs.Relabelled.{relabelled_row_of}
@@ -40,7 +39,7 @@ relabels_made l Lines line room m made bytes short small e = a_line_lem (relabel
 relabels_made l Rows line room m made bytes short small e = a_row (relabel_row_made l line room m made (omega arith) bytes short e)
 
 -- n bytes of output d are lent from a place on, and are p then; r is the answer
-module _ (l : LineEdition) (input : Input) (m line d : List ℕ) {e p : List ℕ} (at n : ℕ) {r : Answer} (made : m ≡ machine_bytes l) (bytes : (i : ℕ) → i < length line → get_or line i 0 < 256)
+module _ (l : LineEdition) (input : Input) (m line d : List ℕ) {e p : List ℕ} (at n : ℕ) (r : Answer) (made : m ≡ machine_bytes l) (bytes : (i : ℕ) → i < length line → get_or line i 0 < 256)
     (short : length line < 2 ^ 64) (fits : at + max_row ≤ length d) (lent : n ≡ min (length line + max_annotations) max_row)
     (by : answered r p ≡ relabel_as input m line (length (take (at + n - at) (drop at d))))
     (is : e ≡ take at d ++ (p ++ drop (at + n - at) (drop at d))) where
@@ -66,7 +65,7 @@ module _ (l : LineEdition) (input : Input) (m line d : List ℕ) {e p : List ℕ
         place = s.place;
         len = s.size;
         stands =
-            ap (λ (w : List ℕ). take r.len (drop at w)) is ∙ ap (take r.len) (drop_at (take at d) (p ++ rest) at head_length)
-            ∙ take-append-le r.len p rest (omega (arith, y.all, y.result)) ∙ s.result;
+            ap (λ (w : List ℕ). take (size_in r) (drop at w)) is ∙ ap (take (size_in r)) (drop_at (take at d) (p ++ rest) at head_length)
+            ∙ take-append-le (size_in r) p rest (omega (arith, y.all, y.result)) ∙ s.result;
         before = ap (take at) is ∙ take_at (take at d) (p ++ rest) at head_length;
       }

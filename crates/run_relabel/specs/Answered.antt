@@ -3,16 +3,15 @@ use Rattle.std.specs.Prelude.{ℕ, ◌+◌, ◌≡◌, cond, List, [], ◌∷◌
 use Rattle.rules.specs.RowAnswers.{max_row}
 use Rattle.rules.specs.Answers.{Answer}
 use Rattle.rules.specs.Editions.{LineEdition}
-use Rattle.answers.specs.Delivered.{refused_of}
 use Rattle.io_lines.specs.declared.Stream.{Stream}
 use Rattle.io_lines.specs.Streams.{waiting_of, room_of, Roomed}
-use Rattle.io_answers.specs.Tells.{refusal_text}
+use Rattle.io_answers.specs.Tells.{refused_text}
 use Rattle.run_program.specs.declared.Input.{Input}
 use Rattle.run_relabel.specs.Spelled.{Answers}
 
 -- the result, or the refusal
 abbrev pub answer_text : Answer → List ℕ
-answer_text a = cond (eqb a.number 0) (take a.size a.out) (refusal_text (refused_of a.number a.place))
+answer_text a = cond (eqb a.number 0) (take a.size a.out) (refused_text a.number a.place)
 
 -- and a line feed
 abbrev pub answer_line : Answer → List ℕ

@@ -4,7 +4,7 @@ use Rattle.rules.specs.RowAnswers.{max_row}
 use Rattle.rules.specs.Editions.{LineEdition}
 use Rattle.rules.specs.Answers as rules
 use Rattle.scan_line.specs.Steps.{scanned_by}
-use Rattle.answers.specs.declared.Answer.{Answer}
+use Rattle.answers.specs.Delivered.{Answer, number_in, place_in, size_in}
 use Rattle.lines.specs.Relabels.{Relabels, relabelled_of}
 use Rattle.respell_row.specs.Relabelled.{relabelled_row_of}
 use Rattle.rows.specs.Relabels.{RelabelsRow}
@@ -30,8 +30,8 @@ pub record Answers (l : LineEdition) (input : Input) (line : List ℕ) (a : rule
 pub record Spelled (l : LineEdition) (input : Input) (line d : List ℕ) (at : ℕ) (e : List ℕ) (r : Answer) : Type 0 where
   pub answer : rules.Answer
   pub answers : Answers l input line answer
-  pub number : r.number ≡ answer.number
-  pub place : r.place ≡ answer.place
-  pub len : r.len ≡ answer.size
-  pub stands : take r.len (drop at e) ≡ take answer.size answer.out
+  pub number : number_in r ≡ answer.number
+  pub place : place_in r ≡ answer.place
+  pub len : size_in r ≡ answer.size
+  pub stands : take (size_in r) (drop at e) ≡ take answer.size answer.out
   pub before : take at e ≡ take at d

@@ -6,7 +6,8 @@ use mathlib.Core.List.{List, [], ◌∷◌, ◌++◌}
 use native.Mathlib.Omega.{arith}
 use lib.Dec.{eqb}
 use lib.ListN.{length, take, drop, replicate}
-use lib.Seq.{length-take-le, take_all, take-take, take_at, drop_at, drop-length}
+use lib.Seq.{length-take-le, take_all, take-take, take_at, drop_at, drop-length, take-append-le, drop-append-le}
+use Rattle.std.proofs.lemmas.List.{take-append-drop}
 use Rattle.rules.specs.Answers as rules
 use Rattle.rules.specs.Answers.{refuses}
 use Rattle.rules.specs.Largest.{max_any_table}
@@ -14,15 +15,15 @@ use Rattle.lang.specs.Parts.{flat}
 use Rattle.put_bytes.specs.Puts.{Put}
 use Rattle.put_bytes.proofs.Putting.{put_as}
 use Rattle.io_hex.specs.Hexes.{spelled, unhexed}
-use Rattle.answers.specs.declared.Answer.{Answer}
-use Rattle.answers.specs.Delivered.{answered, refused_of}
+use Rattle.faults.specs.declared.Why.TheVariants.{NoTable}
+use Rattle.answers.specs.Delivered.{Answer, number_in, place_in, size_in, answered, refused_of}
 use Rattle.write_table.specs.Writings.{written_of, converted_of}
 use Rattle.write_row.specs.Writings.{write_row_of}
 use Rattle.io_lines.specs.declared.Stream.{Stream}
 use Rattle.io_lines.specs.Streams.{waiting_of, Roomed}
 use Rattle.run_program.proofs.Waiting.{waits_by}
 use Rattle.io_answers.specs.Asked.{behind_size, asked_in, room_in}
-use Rattle.io_answers.specs.Tells.{hex_byte, field, shown, refusal_text, longest_answer}
+use Rattle.io_answers.specs.Tells.{hex_byte, field, shown, refused_text, longest_answer}
 use Rattle.run_writes.specs.declared.Task.{Task}
 use Rattle.run_writes.specs.declared.Task.TheVariants.{WriteTable, WriteRow, ConvertTable}
 use Rattle.run_writes.specs.declared.Form.{Form}
@@ -36,13 +37,13 @@ module _ (task : Task) (machine digits : List ℕ) (tableRoom room : ℕ) where
   abbrev answer_by : Bool → rules.Answer
   answer_by b = cond b (answer_as task machine (take tableRoom (unhexed digits)) room) (refuses room 9 0)
 
-  pub hex_refused : {out : List ℕ} {r : Answer} → spelled digits ≡ false → out ≡ replicate room 0 → r ≡ refused_of 9 0
+  pub hex_refused : {out : List ℕ} {r : Answer} → spelled digits ≡ false → out ≡ replicate room 0 → r ≡ refused_of NoTable 0
       → answered r out ≡ hex_of task machine digits tableRoom room
   unfolding hex_of
-  hex_refused {out} {r} h z e = ap (λ (x : Answer). answered x out) e ∙ ap (answered (refused_of 9 0)) z ∙ ap answer_by (sym h)
+  hex_refused {out} {r} h z e = ap (λ (x : Answer). answered x out) e ∙ ap (answered (refused_of NoTable 0)) z ∙ ap answer_by (sym h)
 
-  pub hex_written : {p out : List ℕ} {r : Answer} → spelled digits ≡ true → p ≡ take tableRoom (unhexed digits)
-      → answered r out ≡ answer_as task machine p room → answered r out ≡ hex_of task machine digits tableRoom room
+  pub hex_written : {p : List ℕ} {a : rules.Answer} → spelled digits ≡ true → p ≡ take tableRoom (unhexed digits) → a ≡ answer_as task machine p room
+      → a ≡ hex_of task machine digits tableRoom room
   unfolding hex_of
   hex_written h e q = q ∙ ap (λ (l : List ℕ). answer_as task machine l room) e ∙ ap answer_by (sym h)
 
@@ -101,6 +102,32 @@ module _ (task : Task) (machine : List ℕ) (sized : Bool) (asked : List ℕ) (t
       → WrittenBy sized d e r
   one_plain {d} {e} {r} h same q = subst (λ (b : Bool). WrittenBy b d e r) (sym h) (written_whole task machine asked tableRoom same q)
 
+-- as much of the line is lent as is answered at most
+room_small : (b : Bool) (asked : List ℕ) (all : ℕ) → room_in b asked all ≤ all
+room_small true asked all = omega arith
+room_small false asked all = omega arith
+
+written_front : {room n : ℕ} {a : rules.Answer} {d p : List ℕ} {r : Answer} → room ≤ n → n ≤ length d → length p ≡ n → Written room a (take n d) p r
+    → Written room a d (p ++ drop n d) r
+written_front {room} {n} {a} {d} {p} {r} small h same w =
+    record {
+      is = ap (answered r) (take-append-le room p (drop n d) (omega (arith, same))) ∙ w.is;
+      rest =
+          drop-append-le room p (drop n d) (omega (arith, same))
+          ∙ ap (λ (l : List ℕ). l ++ drop n d) w.rest
+          ∙ sym (drop-append-le room (take n d) (drop n d) (omega (arith, length-take-le n d h)))
+          ∙ ap (drop room) (take-append-drop n d);
+    }
+
+pub written_most : (task : Task) (machine : List ℕ) (sized : Bool) (asked : List ℕ) (tableRoom most : ℕ) {n : ℕ} {d p : List ℕ} {r : Answer} → n ≡ most → most ≤ length d
+    → length p ≡ length (take n d)
+    → Written (room_in sized asked (length (take n d))) (answer_to task machine sized asked tableRoom (length (take n d))) (take n d) p r
+    → Written (room_in sized asked most) (answer_to task machine sized asked tableRoom most) d (p ++ drop n d) r
+written_most task machine sized asked tableRoom most {n} {d} {p} {r} q h same w =
+    let k : length (take n d) ≡ most = length-take-le n d (omega (arith, q)) ∙ q in
+    written_front (omega (arith, room_small sized asked most, q)) (omega (arith, q)) (same ∙ k ∙ sym q)
+    (subst (λ (m : ℕ). Written (room_in sized asked m) (answer_to task machine sized asked tableRoom m) (take n d) p r) k w)
+
 -- ---- as text
 
 -- the form was tested
@@ -112,15 +139,15 @@ pub in_digits : {form : Form} (a : Answer) (line : List ℕ) {d e : List ℕ} {a
 in_digits a line {d} {e} {at} {end} h p = subst (λ (f : Form). Put d at (told_as f a line) e end) (sym h) p
 
 -- of the line its beginning alone is told
-told_start : (form : Form) (r : Answer) (l m : List ℕ) → take r.len l ≡ take r.len m → told_as form r l ≡ told_as form r m
-told_start Fields r l m h = ap (λ (k : List ℕ). field r.number ++ (field r.place ++ (field r.len ++ (shown k ++ (10 ∷ []))))) h
-told_start Digits r l m h = ap (λ (k : List ℕ). cond (eqb r.number 0) (flat hex_byte k) (refusal_text r) ++ (10 ∷ [])) h
+told_start : (form : Form) (r : Answer) (l m : List ℕ) → take (size_in r) l ≡ take (size_in r) m → told_as form r l ≡ told_as form r m
+told_start Fields r l m h = ap (λ (k : List ℕ). field (number_in r) ++ (field (place_in r) ++ (field (size_in r) ++ (shown k ++ (10 ∷ []))))) h
+told_start Digits r l m h = ap (λ (k : List ℕ). cond (eqb (number_in r) 0) (flat hex_byte k) (refused_text (number_in r) (place_in r)) ++ (10 ∷ [])) h
 
 -- what is told of the line is told of its part
 told_by : (form : Form) {room : ℕ} {a : rules.Answer} {d e : List ℕ} {r : Answer} → Written room a d e r → Fits room a → told_as form r e ≡ told_of form a
 told_by form {room} {a} {d} {e} {r} w h =
-    let k : r.len ≤ room = omega (arith, h.is, ap (λ (x : rules.Answer). x.size) w.is) in
-    told_start form r e (take room e) (sym (take-take r.len room e k)) ∙ ap (told_of form) w.is
+    let k : size_in r ≤ room = omega (arith, h.is, ap (λ (x : rules.Answer). x.size) w.is) in
+    told_start form r e (take room e) (sym (take-take (size_in r) room e k)) ∙ ap (told_of form) w.is
 
 pub answered_by : (task : Task) (form : Form) (machine : List ℕ) (sized : Bool) (asked : List ℕ) (tableRoom all : ℕ) {w l m d e : List ℕ} {end : ℕ} {a : Answer} {s v r : Stream}
     → Roomed (length d) (longest_answer max_any_table) s v → w ≡ asked → Written (room_in sized w all) (answer_to task machine sized w tableRoom all) l m a

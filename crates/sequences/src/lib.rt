@@ -2,20 +2,38 @@
 #![tactic(auto)]
 
 ghost use Rattle.std.specs.Prelude.{◌<◌, ◌≡◌};
-ghost use Rattle.lang.specs.Re.{in_c};
+ghost use Rattle.lang.specs.Re.{in_c, none_open};
 ghost use Rattle.rules.specs.Bytes.{capital, name_byte};
 ghost use Rattle.rules.specs.Sequences.{leads, depth_behind, outside_names, behind_closing, inside_name, phase_behind, count_behind};
 ghost use Rattle.sequences.specs.Reads.{phase_of, sequence_of};
 
 // Whether a text is a sequence, and how many capitals it has outside names: those are the residues of a sequence.
-#[derive(Drop)]
+// Not an `Option`: the definition `sequence_of` tells of each text how many it has, also of one that is no sequence.
+#[derive(Clone, Copy)]
 pub struct SequenceRead {
     pub formed: bool,
     pub residues: usize,
 }
 
+// ---- bytes
+
+fn is_capital(b: u8) -> bool
+    ensures { result ≡ in_c capital b }
+{
+    b.is_ascii_uppercase()
+}
+
+// Whether a byte stands for itself in a name.
+fn is_name_byte(b: u8) -> bool
+    ensures { result ≡ in_c name_byte b }
+{
+    matches!(b, b' '..=b'~') && b != b'[' && b != b']'
+}
+
+// ---- phases
+
 // What a text stands behind, where no name is open. Behind `Broken` nothing makes it a sequence.
-#[derive(Drop)]
+#[derive(Clone, Copy)]
 enum Phase {
     Nothing,
     FrontName,
@@ -26,203 +44,165 @@ enum Phase {
     Broken,
 }
 
-// ---- bytes
+impl Phase {
+    fn behind_letter(self) -> Phase
+        ensures { phase_of result ≡ (leads (phase_of self)).letter }
+    {
+        match self {
+            Phase::Nothing | Phase::FrontDash | Phase::Residue => Phase::Residue,
+            _ => Phase::Broken,
+        }
+    }
 
-fn is_capital(b: u8) -> bool
-    ensures { result ≡ in_c capital b }
-{
-    if b < b'A' {
-        return false;
+    fn behind_dash(self) -> Phase
+        ensures { phase_of result ≡ (leads (phase_of self)).dash }
+    {
+        match self {
+            Phase::FrontName => Phase::FrontDash,
+            Phase::Residue => Phase::BackDash,
+            _ => Phase::Broken,
+        }
     }
-    b <= b'Z'
-}
 
-// Whether a byte stands for itself in a name.
-fn is_name_byte(b: u8) -> bool
-    ensures { result ≡ in_c name_byte b }
-{
-    if b == b'[' {
-        return false;
+    // Behind a name in its brackets.
+    fn behind_name(self) -> Phase
+        ensures { phase_of result ≡ (leads (phase_of self)).name }
+    {
+        match self {
+            Phase::Nothing => Phase::FrontName,
+            Phase::Residue => Phase::Residue,
+            Phase::BackDash => Phase::BackName,
+            _ => Phase::Broken,
+        }
     }
-    if b == b']' {
-        return false;
-    }
-    if b < b' ' {
-        return false;
-    }
-    b <= b'~'
-}
 
-// How many brackets are open behind a byte.
-fn depth_behind(depth: usize, b: u8) -> usize
-    requires { depth < 18446744073709551615 }
-    ensures { result ≡ depth_behind depth b }
-{
-    if b == b'[' {
-        return depth + 1;
+    // Behind a byte outside names, other than `[`.
+    fn behind_outside(self, b: u8) -> Phase
+        ensures { phase_of result ≡ outside_names (phase_of self) b }
+    {
+        if is_capital(b) {
+            self.behind_letter()
+        } else if b == b'-' {
+            self.behind_dash()
+        } else {
+            Phase::Broken
+        }
     }
-    if b != b']' {
-        return depth;
-    }
-    if depth == 0 {
-        return 0;
-    }
-    depth - 1
-}
 
-// How many residues there are behind a byte: a capital in a name is none.
-fn count_behind(residues: usize, depth: usize, b: u8) -> usize
-    requires { residues < 18446744073709551615 }
-    ensures { result ≡ count_behind residues depth b }
-{
-    if depth != 0 {
-        return residues;
+    // Whether a sequence may end so.
+    fn may_end(self) -> bool
+        ensures { result ≡ (leads (phase_of self)).ends }
+    {
+        matches!(self, Phase::Residue | Phase::BackName)
     }
-    if !is_capital(b) {
-        return residues;
-    }
-    residues + 1
-}
-
-// ---- phases
-
-fn behind_letter(phase: Phase) -> Phase
-    ensures { phase_of result ≡ (leads (phase_of phase)).letter }
-{
-    match phase {
-        Phase::Nothing => Phase::Residue,
-        Phase::FrontName => Phase::Broken,
-        Phase::FrontDash => Phase::Residue,
-        Phase::Residue => Phase::Residue,
-        Phase::BackDash => Phase::Broken,
-        Phase::BackName => Phase::Broken,
-        Phase::Broken => Phase::Broken,
-    }
-}
-
-fn behind_dash(phase: Phase) -> Phase
-    ensures { phase_of result ≡ (leads (phase_of phase)).dash }
-{
-    match phase {
-        Phase::Nothing => Phase::Broken,
-        Phase::FrontName => Phase::FrontDash,
-        Phase::FrontDash => Phase::Broken,
-        Phase::Residue => Phase::BackDash,
-        Phase::BackDash => Phase::Broken,
-        Phase::BackName => Phase::Broken,
-        Phase::Broken => Phase::Broken,
-    }
-}
-
-// Behind a name in its brackets.
-fn behind_name(phase: Phase) -> Phase
-    ensures { phase_of result ≡ (leads (phase_of phase)).name }
-{
-    match phase {
-        Phase::Nothing => Phase::FrontName,
-        Phase::FrontName => Phase::Broken,
-        Phase::FrontDash => Phase::Broken,
-        Phase::Residue => Phase::Residue,
-        Phase::BackDash => Phase::BackName,
-        Phase::BackName => Phase::Broken,
-        Phase::Broken => Phase::Broken,
-    }
-}
-
-// Whether a sequence may end so.
-fn may_end(phase: Phase) -> bool
-    ensures { result ≡ (leads (phase_of phase)).ends }
-{
-    match phase {
-        Phase::Nothing => false,
-        Phase::FrontName => false,
-        Phase::FrontDash => false,
-        Phase::Residue => true,
-        Phase::BackDash => false,
-        Phase::BackName => true,
-        Phase::Broken => false,
-    }
-}
-
-// Behind a byte outside names, other than `[`.
-fn behind_outside(phase: Phase, b: u8) -> Phase
-    ensures { phase_of result ≡ outside_names (phase_of phase) b }
-{
-    if is_capital(b) {
-        return behind_letter(phase);
-    }
-    if b == b'-' {
-        return behind_dash(phase);
-    }
-    Phase::Broken
-}
-
-// Behind a `]` in a name: one bracket is left open, or the name is closed, which must not be empty.
-fn behind_closing(phase: Phase, depth: usize, empty: bool) -> Phase
-    ensures { phase_of result ≡ behind_closing (phase_of phase) depth empty }
-{
-    if depth != 1 {
-        return phase;
-    }
-    if empty {
-        return Phase::Broken;
-    }
-    behind_name(phase)
-}
-
-// Behind a byte of a name, other than `[`.
-fn behind_inside(phase: Phase, depth: usize, empty: bool, b: u8) -> Phase
-    ensures { phase_of result ≡ inside_name (phase_of phase) depth empty b }
-{
-    if b == b']' {
-        return behind_closing(phase, depth, empty);
-    }
-    if is_name_byte(b) {
-        return phase;
-    }
-    Phase::Broken
-}
-
-// Behind a byte: `[` opens a name, or a bracket in one.
-fn phase_behind(phase: Phase, depth: usize, empty: bool, b: u8) -> Phase
-    ensures { phase_of result ≡ phase_behind (phase_of phase) depth empty b }
-{
-    if b == b'[' {
-        return phase;
-    }
-    if depth == 0 {
-        return behind_outside(phase, b);
-    }
-    behind_inside(phase, depth, empty, b)
 }
 
 // ---- a text
 
-// Reads a text byte by byte: what it has come to, how many brackets are open, whether a name that is open is empty so far, how many residues.
+// What a text has come to: the phase, how many brackets are open, whether a name that is open is empty so far, how many residues.
+#[derive(Clone, Copy)]
+struct Progress {
+    phase: Phase,
+    depth: usize,
+    empty: bool,
+    residues: usize,
+}
+
+impl Progress {
+    // Behind a `]` in a name: one bracket is left open, or the name is closed, which must not be empty.
+    fn phase_closing(self) -> Phase
+        ensures { phase_of result ≡ behind_closing (phase_of self.phase) self.depth self.empty }
+    {
+        if self.depth != 1 {
+            self.phase
+        } else if self.empty {
+            Phase::Broken
+        } else {
+            self.phase.behind_name()
+        }
+    }
+
+    // Behind a byte of a name, other than `[`.
+    fn phase_inside(self, b: u8) -> Phase
+        ensures { phase_of result ≡ inside_name (phase_of self.phase) self.depth self.empty b }
+    {
+        if b == b']' {
+            self.phase_closing()
+        } else if is_name_byte(b) {
+            self.phase
+        } else {
+            Phase::Broken
+        }
+    }
+
+    // Behind a byte: `[` opens a name, or a bracket in one.
+    fn phase_behind(self, b: u8) -> Phase
+        ensures { phase_of result ≡ phase_behind (phase_of self.phase) self.depth self.empty b }
+    {
+        if b == b'[' {
+            self.phase
+        } else if self.depth == 0 {
+            self.phase.behind_outside(b)
+        } else {
+            self.phase_inside(b)
+        }
+    }
+
+    // How many brackets are open behind a byte.
+    fn depth_behind(self, b: u8) -> usize
+        requires { self.depth < 18446744073709551615 }
+        ensures { result ≡ depth_behind self.depth b }
+    {
+        match b {
+            b'[' => self.depth + 1,
+            b']' => self.depth.saturating_sub(1),
+            _ => self.depth,
+        }
+    }
+
+    // How many residues there are behind a byte: a capital in a name is none.
+    fn residues_behind(self, b: u8) -> usize
+        requires { self.residues < 18446744073709551615 }
+        ensures { result ≡ count_behind self.residues self.depth b }
+    {
+        if self.depth == 0 && is_capital(b) {
+            self.residues + 1
+        } else {
+            self.residues
+        }
+    }
+
+    fn behind(self, b: u8) -> Progress
+        requires { (self.depth < 18446744073709551615) × (self.residues < 18446744073709551615) }
+        ensures phase { phase_of result.phase ≡ phase_behind (phase_of self.phase) self.depth self.empty b }
+        ensures depth { result.depth ≡ depth_behind self.depth b }
+        ensures empty { result.empty ≡ none_open self.depth }
+        ensures residues { result.residues ≡ count_behind self.residues self.depth b }
+    {
+        Progress {
+            phase: self.phase_behind(b),
+            depth: self.depth_behind(b),
+            empty: self.depth == 0,
+            residues: self.residues_behind(b),
+        }
+    }
+}
+
+// Reads a text byte by byte.
 pub fn read_sequence(s: &[u8]) -> SequenceRead
     ensures { result ≡ sequence_of s.now }
 {
-    let mut phase = Phase::Nothing;
-    let mut depth: usize = 0;
-    let mut empty = true;
-    let mut residues: usize = 0;
-    let mut at: usize = 0;
-    while at < s.len() {
-        let b = s[at];
-        phase = phase_behind(phase, depth, empty, b);
-        residues = count_behind(residues, depth, b);
-        empty = depth == 0;
-        depth = depth_behind(depth, b);
-        at += 1;
-    }
-    if depth != 0 {
-        return SequenceRead {
-            formed: false,
-            residues,
-        };
+    let mut progress = Progress {
+        phase: Phase::Nothing,
+        depth: 0,
+        empty: true,
+        residues: 0,
+    };
+    for &b in s {
+        progress = progress.behind(b);
     }
     SequenceRead {
-        formed: may_end(phase),
-        residues,
+        formed: progress.depth == 0 && progress.phase.may_end(),
+        residues: progress.residues,
     }
 }

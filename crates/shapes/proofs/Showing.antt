@@ -3,9 +3,7 @@ use Prim.Native.Nat.{ℕ}
 use mathlib.Core.Path.{◌≡◌, refl, sym, ap, ◌∙◌, subst}
 use mathlib.Core.Bool.{true, false, true≢false}
 use mathlib.Core.List.{List}
-use lib.Dec.{ltb}
 use lib.ListN.{length}
-use borrow.Author.Tests.{ne_eqb, eq-eqb}
 use Rattle.put_bytes.specs.Puts.{Put}
 use Rattle.put_bytes.proofs.Putting.{put_as}
 use Rattle.scan_line.specs.declared.Progress.{Progress}
@@ -13,16 +11,9 @@ use Rattle.scan_line.specs.declared.Verdict.{Verdict}
 use Rattle.scan_line.specs.declared.Verdict.TheVariants.{Short}
 use Rattle.scan_line.specs.Steps.{standing, taken_by, verdict_by}
 use Rattle.io_lines.specs.declared.Stream.{Stream}
-use Rattle.io_lines.specs.Streams.{waiting_of, Roomed}
+use Rattle.io_lines.specs.Streams.{waiting_of, is_fed, Roomed}
 use Rattle.run_program.proofs.Waiting.{waits_by}
 use Rattle.shapes.specs.Shown.{place_text, verdict_text, is_begun, Shown, Parted, Last}
-
-module _ (p : Progress) where
-  pub begun_state : (p.state ≡ 0 → ⊥) → true ≡ is_begun p
-  begun_state h = simp (ne_eqb p.state 0 h)
-
-  pub begun_at : p.state ≡ 0 → ltb 0 p.at ≡ is_begun p
-  begun_at h = simp (eq-eqb p.state 0 h)
 
 -- the verdict that is meant, by what is put of it for a line
 pub verdict_as : {d e : List ℕ} {at n r : ℕ} {v w : Verdict} → v ≡ w → ((line : List ℕ) → length line ≡ n → Put d at (verdict_text line v) e r)
@@ -37,8 +28,8 @@ pub shown_by : (m : List ℕ) (p : Progress) {d e : List ℕ} {v : Verdict} {s t
     → ((line : List ℕ) → length line ≡ p.at → Put d t.waiting (verdict_text line v) e end) → r ≡ waiting_of t end → Shown m p s d e r
 shown_by m p roomed q x y = record { waits = λ line h. waits_by roomed (verdict_as q x line h) y }
 
-pub part_ends : {m part w d e : List ℕ} {s r : Stream} {p q fresh : Progress} → s.fed ≡ true → w ≡ part → q ≡ taken_by m p w
-    → Shown m q s d e r → fresh ≡ standing 0 0 0 → Parted m part s p d e (record { scan = fresh; stream = r })
+pub part_ends : {m part w d e : List ℕ} {s r : Stream} {p q fresh : Progress} → is_fed s ≡ true → w ≡ part → q ≡ taken_by m p w
+    → Shown m q s d e r → fresh ≡ standing 0 0 0 → Parted m part s p d e fresh r
 part_ends {m} {d = d} {e} {s} {r} {p} t i j x f =
     let k = j ∙ ap (taken_by m p) i in
     record {
@@ -49,8 +40,8 @@ part_ends {m} {d = d} {e} {s} {r} {p} t i j x f =
       kept = λ q. absurd (true≢false (sym t ∙ q));
     }
 
-pub part_goes_on : {m part w d : List ℕ} {s : Stream} {p q : Progress} → s.fed ≡ false → w ≡ part → q ≡ taken_by m p w
-    → Parted m part s p d d (record { scan = q; stream = s })
+pub part_goes_on : {m part w d : List ℕ} {s : Stream} {p q : Progress} → is_fed s ≡ false → w ≡ part → q ≡ taken_by m p w
+    → Parted m part s p d d q s
 part_goes_on {m} {p = p} t i j =
     record {
       fresh = λ q. absurd (true≢false (sym q ∙ t));

@@ -8,7 +8,7 @@ use Rattle.scan_line.specs.Steps.{standing, taken_by, verdict_by}
 use Rattle.scan_line.specs.Verdicts.{number_of, place_of}
 use Rattle.io_lines.specs.declared.Stream.{Stream}
 use Rattle.run_program.specs.Waits.{Waits}
-use Rattle.shapes.specs.declared.Work.{Work}
+use Rattle.io_lines.specs.Streams.{is_fed}
 
 -- a number, a blank, a place and a line feed
 abbrev pub place_text : ℕ → ℕ → List ℕ
@@ -22,13 +22,13 @@ verdict_text line v = cond (eqb (number_of v) 0) (bytes "fine" ++ (10 ∷ [])) (
 pub record Shown (machine : List ℕ) (p : Progress) (s : Stream) (d e : List ℕ) (r : Stream) : Type 0 where
   pub waits : (line : List ℕ) → length line ≡ p.at → Waits 23 (verdict_text line (verdict_by machine p)) s d e r
 
--- a part is scanned on from p: where a line feed ends it the answer to its line waits and the next scan begins, and else nothing is put
-pub record Parted (machine part : List ℕ) (s : Stream) (p : Progress) (d e : List ℕ) (r : Work) : Type 0 where
-  pub fresh : s.fed ≡ true → r.scan ≡ standing 0 0 0
-  pub shown : s.fed ≡ true → Shown machine (taken_by machine p part) s d e r.stream
-  pub scanned : s.fed ≡ false → r.scan ≡ taken_by machine p part
-  pub same : s.fed ≡ false → r.stream ≡ s
-  pub kept : s.fed ≡ false → e ≡ d
+-- a part is scanned on from p to q: where a line feed ends it the answer to its line waits and the next scan begins, and else nothing is put
+pub record Parted (machine part : List ℕ) (s : Stream) (p : Progress) (d e : List ℕ) (q : Progress) (r : Stream) : Type 0 where
+  pub fresh : is_fed s ≡ true → q ≡ standing 0 0 0
+  pub shown : is_fed s ≡ true → Shown machine (taken_by machine p part) s d e r
+  pub scanned : is_fed s ≡ false → q ≡ taken_by machine p part
+  pub same : is_fed s ≡ false → r ≡ s
+  pub kept : is_fed s ≡ false → e ≡ d
 
 -- whether anything was scanned
 abbrev pub is_begun : Progress → Bool

@@ -1,18 +1,18 @@
 // The shape of each line of standard input: `fine`, `3 LENGTH` or `2 PLACE`. Lines end at line feeds, and the last may lack its own;
 // they have any bytes and any length, since a line is scanned part by part as it comes. Which parts are found is stated by `next_part`, and
-// `one_part` and `last` state what is answered to a line; what is written cannot be stated, so `all` is proved safe and ending.
+// `answer` and `end` state what is answered to a line; what is written cannot be stated.
 #![tactic(auto)]
 
-ghost use Rattle.std.specs.Prelude.{◌≡◌, List, ℕ, length, take, drop};
+ghost use Rattle.std.specs.Prelude.{◌≡◌, List, ℕ, length};
 ghost use Rattle.put_bytes.specs.Puts.{Put};
+ghost use Rattle.io_lines.specs.Streams.{line_in};
 ghost use Rattle.shapes.specs.Shown.{place_text, verdict_text, is_begun, Shown, Parted, Last};
 
 use io_lines::{Stream, System, next_part, room};
 use numbers::put_number;
 use put_bytes::{put_run, put8};
-use run_program::{asked_lines, finish, was_asked};
+use run_program::{Answers, answer_all, asked_lines, was_asked};
 use scan_line::{Progress, Verdict};
-use slices::part;
 use std::process::ExitCode;
 
 // The bytes of input that are held, and those of answers that wait.
@@ -41,87 +41,62 @@ With --second, lines are those of the second edition, in which an internal ion m
     ) {
         return status;
     }
-    let machine = scan_line::machine(asked_lines(&rt));
     let mut buf = [0u8; BUFFER];
     let mut out = [0u8; BUFFER];
+    let mut shapes = Shapes {
+        machine: &scan_line::machine(asked_lines(&rt)),
+        scan: Progress::begin(),
+    };
     let mut system = System::begin(rt);
-    all(&mut system, b"shapes", &machine, &mut buf, &mut out)
+    answer_all(&mut system, b"shapes", &mut buf, &mut out, &mut shapes)
 }
 
-// Part after part, until none comes. A proved loop has to end, so it counts down from a number that no run uses up.
-fn all(
-    system: &mut System,
-    name: &[u8],
-    machine: &[u8],
-    buf: &mut [u8],
-    out: &mut [u8],
-) -> ExitCode {
-    let mut p = Progress::begin();
-    let mut s = next_part(system, buf, out, Stream::begin());
-    let mut turns = u64::MAX;
-    while turns > 0 {
-        if !s.found {
-            let end = last(system, machine, out, s, p);
-            return finish(system, name, out, end);
-        }
-        let w = one_part(system, machine, buf, out, s, p);
-        p = w.scan;
-        let said = w.stream;
-        s = next_part(system, buf, out, said);
-        turns -= 1;
-    }
-    ExitCode::SUCCESS
-}
-
-// The scan of the line that goes on, and the stream, in which answers wait.
-#[derive(Clone, Copy)]
-struct Work {
+// The machine, and the scan of the line that goes on.
+#[derive(Drop)]
+struct Shapes<'a> {
+    machine: &'a [u8],
     scan: Progress,
-    stream: Stream,
 }
 
-// The part that was found, which may be the last of its line.
-fn one_part(
-    system: &mut System,
-    machine: &[u8],
-    buf: &[u8],
-    out: &mut [u8],
-    s: Stream,
-    p: Progress,
-) -> Work
-    ensures { Parted machine.now (take s.len (drop s.from buf.now)) s p out.old out.new result }
-{
-    let bytes = part(buf, s.from, s.len);
-    let scan = p.over(machine, bytes);
-    if s.fed {
-        let stream = answer(system, machine, out, s, scan);
-        let fresh = Progress::begin();
-        return Work {
-            scan: fresh,
-            stream,
-        };
-    }
-    Work { scan, stream: s }
-}
+impl Answers for Shapes<'_> {
+    ghost least = { 0 };
 
-// A last line without line feed.
-fn last(system: &mut System, machine: &[u8], out: &mut [u8], s: Stream, p: Progress) -> Stream
-    ensures { Last machine.now s p out.old out.new result }
-{
-    if is_begun(p) {
-        return answer(system, machine, out, s, p);
+    // Lines are taken part by part.
+    #[inline(always)]
+    fn next(&mut self, system: &mut System, buf: &mut [u8], out: &[u8], s: Stream) -> Stream {
+        next_part(system, buf, out, s)
     }
-    s
+
+    // The part that was found, which may be the last of its line.
+    fn answer(&mut self, system: &mut System, buf: &[u8], out: &mut [u8], s: Stream) -> Stream
+        ensures { Parted self.old.machine.now (line_in buf.now s) s self.old.scan out.old out.new self.new.scan result }
+    {
+        let scan = self.scan.over(self.machine, s.line(buf));
+        if !s.is_fed() {
+            self.scan = scan;
+            return s;
+        }
+        self.scan = Progress::begin();
+        answer(system, self.machine, out, s, scan)
+    }
+
+    // A last line without line feed.
+    fn end(&mut self, system: &mut System, out: &mut [u8], s: Stream) -> Stream
+        ensures { Last self.old.machine.now s self.old.scan out.old out.new result }
+    {
+        if is_begun(self.scan) {
+            answer(system, self.machine, out, s, self.scan)
+        } else {
+            s
+        }
+    }
 }
 
 // Whether anything was scanned.
 fn is_begun(p: Progress) -> bool
     ensures { result ≡ is_begun p }
 {
-    if p.state != 0 {
-        return true;
-    }
-    0 < p.at
+    p.state != 0 || 0 < p.at
 }
 
 // The answer for a line, behind those that wait.

@@ -2,7 +2,7 @@
 // looked at no further than it goes, so that nothing is asked of a caller.
 #![tactic(auto)]
 
-ghost use Rattle.std.specs.Prelude.{◌≡◌, ◌∷◌, [], ◌+◌, ◌-◌, min, get_or, take, drop};
+ghost use Rattle.std.specs.Prelude.{ℕ, ◌≡◌, ◌<◌, ◌∷◌, [], ◌+◌, ◌-◌, min, get_or, take, drop};
 ghost use Rattle.lang.specs.Re.{rng};
 ghost use Rattle.rules.specs.Texts.{first_in, starts_with};
 ghost use Rattle.slices.specs.Numbers.{u16_at, u32_at, u64_at};
@@ -13,32 +13,25 @@ ghost use Rattle.slices.specs.Numbers.{u16_at, u32_at, u64_at};
 pub fn within(n: usize, all: usize) -> usize
     ensures { result ≡ min n all }
 {
-    if n < all {
-        return n;
-    }
-    all
+    n.min(all)
 }
 
 // A part without its first n bytes; empty where it has no more.
-pub fn rest<'a>(s: &'a [u8], n: usize) -> &'a [u8]
+pub fn rest(s: &[u8], n: usize) -> &[u8]
     ensures { result.now ≡ drop n s.now }
 {
-    let from = within(n, s.len());
-    &s[from..]
+    s.get(n..).unwrap_or(&[])
 }
 
 // The first n bytes of a part, as far as it goes.
-pub fn first_of<'a>(s: &'a [u8], n: usize) -> &'a [u8]
+pub fn first_of(s: &[u8], n: usize) -> &[u8]
     ensures { result.now ≡ take n s.now }
 {
-    if n < s.len() {
-        return &s[..n];
-    }
-    s
+    s.get(..n).unwrap_or(s)
 }
 
 // The n bytes of a part that begin at a place, as far as they are there.
-pub fn part<'a>(s: &'a [u8], at: usize, n: usize) -> &'a [u8]
+pub fn part(s: &[u8], at: usize, n: usize) -> &[u8]
     ensures { result.now ≡ take n (drop at s.now) }
 {
     first_of(rest(s, at), n)
@@ -50,24 +43,14 @@ pub fn part<'a>(s: &'a [u8], at: usize, n: usize) -> &'a [u8]
 pub fn begins_with(s: &[u8], b: u8) -> bool
     ensures { result ≡ starts_with (b ∷ []) s.now }
 {
-    if s.len() < 1 {
-        return false;
-    }
-    b == s[0]
+    s.first() == Some(&b)
 }
 
 // Whether a part begins with a byte from one to another.
 pub fn begins_in(s: &[u8], from: u8, to: u8) -> bool
     ensures { result ≡ first_in (rng from to ∷ []) s.now }
 {
-    if s.len() < 1 {
-        return false;
-    }
-    let b = s[0];
-    if b < from {
-        return false;
-    }
-    b <= to
+    matches!(s.first(), Some(&b) if from <= b && b <= to)
 }
 
 // ---- places
@@ -76,23 +59,14 @@ pub fn begins_in(s: &[u8], from: u8, to: u8) -> bool
 pub fn minus_or_zero(a: usize, b: usize) -> usize
     ensures { result ≡ a - b }
 {
-    if a < b {
-        return 0;
-    }
-    a - b
+    a.saturating_sub(b)
 }
 
 // n bytes further in a part of `all` bytes, as far as it goes.
 pub fn advance(at: usize, n: usize, all: usize) -> usize
     ensures { result ≡ min (at + n) all }
 {
-    if all <= at {
-        return all;
-    }
-    if all - at < n {
-        return all;
-    }
-    at + n
+    at.saturating_add(n).min(all)
 }
 
 // ---- bytes and numbers
@@ -101,41 +75,38 @@ pub fn advance(at: usize, n: usize, all: usize) -> usize
 pub fn byte_of(s: &[u8], i: usize) -> u8
     ensures { result ≡ get_or s.now i 0 }
 {
-    if i < s.len() {
-        return s[i];
+    s.get(i).copied().unwrap_or(0)
+}
+
+// The N bytes that a part begins with; 0 past its end.
+fn first_bytes<const N: usize>(s: &[u8]) -> [u8; N]
+    ensures { (i : ℕ) → i < N → get_or result i 0 ≡ get_or s.now i 0 }
+{
+    if let Some(bytes) = s.first_chunk() {
+        return *bytes;
     }
-    0
+    let mut bytes = [0; N];
+    bytes[..s.len()].copy_from_slice(s);
+    bytes
 }
 
 // The two bytes that a part begins with, the lower first; 0 past its end.
 pub fn u16_at(s: &[u8]) -> u16
     ensures { result ≡ u16_at s.now }
 {
-    if s.len() < 1 {
-        return 0;
-    }
-    let low = s[0];
-    if s.len() < 2 {
-        return low as u16;
-    }
-    let high = s[1];
-    low as u16 + 256 * (high as u16)
+    u16::from_le_bytes(first_bytes(s))
 }
 
 // The four bytes that a part begins with, the lowest first; 0 past its end.
 pub fn u32_at(s: &[u8]) -> u32
     ensures { result ≡ u32_at s.now }
 {
-    let low = u16_at(s);
-    let high = u16_at(rest(s, 2));
-    low as u32 + 65536 * (high as u32)
+    u32::from_le_bytes(first_bytes(s))
 }
 
 // The eight bytes that a part begins with.
 pub fn u64_at(s: &[u8]) -> u64
     ensures { result ≡ u64_at s.now }
 {
-    let low = u32_at(s);
-    let high = u32_at(rest(s, 4));
-    low as u64 + 4294967296 * (high as u64)
+    u64::from_le_bytes(first_bytes(s))
 }

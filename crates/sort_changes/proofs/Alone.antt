@@ -11,16 +11,18 @@ use Rattle.read_changes.specs.declared.ChangeRead.{ChangeRead}
 use Rattle.read_changes.specs.Rows.{change_size}
 use Rattle.read_changes.proofs.ChangeLoop.{size_moves}
 use Rattle.sort_slots.specs.declared.Slot.{Slot}
+use Rattle.sort_slots.specs.Slots.{with_slot}
 use Rattle.store_sections.specs.declared.Cursors.{Cursors}
 use Rattle.store_sections.specs.Pages.{Ran}
 use Rattle.store_sections.proofs.Events.{ran_as}
 use Rattle.sort_changes.specs.Gathered.{Got, change_here, gather_one, got_none, gathered}
+use Rattle.sort_changes.specs.Ways.{BeginsOne}
 use Rattle.sort_changes.specs.Events.{slot_events, no_keys, change_events, StoresChanges}
 use Rattle.sort_changes.proofs.Gathers.{gathered_one, here_long, one_at}
 
 -- a slot without a key
 abbrev pub keyless : ChangeRead → ℕ → Slot
-keyless x start = record { sign = x.sign; kind = x.kind; count = x.count; size = x.size; start = start; key = 0; len = 0 }
+keyless x start = record { sign = x.sign; count = x.count; content = x.content; start = start; key = 0; len = 0 }
 
 module _ (keys s : List ℕ) where
   -- what is got of the first
@@ -31,11 +33,11 @@ module _ (keys s : List ℕ) where
   first_slot = keyless (change_here s) (min (0 + (change_here s).start) (length s))
 
   first_length : length first.slots ≡ 1
-  unfolding gather_one
+  unfolding gather_one with_slot
   first_length = refl
 
   first_events : (j : ℕ) → flat (slot_events j s) first.slots ≡ slot_events j s first_slot
-  unfolding gather_one slot_events
+  unfolding gather_one with_slot slot_events
   first_events j = append-nil (slot_events j s first_slot)
 
 -- what stands behind the first, as the code finds it
@@ -55,16 +57,15 @@ alone_at s b px last =
       one_at (length s) (got_none no_keys) s,
     )
 
-pub stores_one : {s r d e : List ℕ} {j start : ℕ} {c k : Cursors} {x : ChangeRead} → begins_change s ≡ true → x ≡ change_here s
-    → r ≡ drop x.len s → begins_change r ≡ false → start ≡ min (0 + x.start) (length s) → Ran d c (slot_events j s (keyless x start)) e k
+pub stores_one : {s d e : List ℕ} {j start : ℕ} {c k : Cursors} {x : ChangeRead} → BeginsOne s x → start ≡ min (0 + x.start) (length s) → Ran d c (slot_events j s (keyless x start)) e k
     → StoresChanges s j d c e (record { n = 1; len = x.len; cursors = k })
 unfolding change_events
-stores_one {s} {r} {j = j} {start} {x = x} b px pr z ps ran =
-    let last = behind s px pr z in
-    let all = gathered_one no_keys s b last in
+stores_one {s} {j = j} {start} {x = x} b ps ran =
+    let px = b.is in
+    let all = gathered_one no_keys s b.here b.last in
     let slot : keyless x start ≡ first_slot no_keys s = ap (keyless x) ps ∙ ap (λ (y : ChangeRead). keyless y (min (0 + y.start) (length s))) px in
     record {
       n = sym (ap (λ (a : Got). length a.slots) all ∙ first_length no_keys s);
-      len = alone_at s b px last;
+      len = alone_at s b.here px b.last;
       ran = ran_as ran (ap (slot_events j s) slot ∙ sym (ap (λ (a : Got). flat (slot_events j s) a.slots) all ∙ first_events no_keys s j));
     }

@@ -6,24 +6,24 @@ use mathlib.Core.List.{List}
 use native.Mathlib.Omega.{arith}
 use lib.ListN.{length, drop, length-drop}
 use lib.Seq.{drop-drop, length-sets}
+use Rattle.std.specs.Prelude.{None}
 use Rattle.lang.specs.Walk.{Walked, walk}
 use Rattle.lang.specs.Parts.{flat}
 use Rattle.lang.proofs.Walks.{walk_on, walk_ends}
 use Rattle.put_bytes.specs.Puts.{max_place}
-use Rattle.faults.specs.Faults.{fault}
 use Rattle.read_opening.specs.Heads.{begins_change}
 use Rattle.read_changes.specs.Rows.{change_size}
 use Rattle.read_changes.proofs.Measures.{change_long}
 use Rattle.read_changes.proofs.ChangeLoop.{size_moves}
-use Rattle.sort_slots.specs.declared.Slots.{Slots}
-use Rattle.sort_slots.specs.Slots.{slots_of, no_slots}
+use Rattle.sort_slots.specs.declared.Slot.{Slot}
+use Rattle.sort_slots.specs.Slots.{no_slots}
 use Rattle.store_sections.specs.declared.Cursors.{Cursors}
 use Rattle.store_sections.specs.Pages.{Ran}
 use Rattle.store_sections.proofs.Events.{ran_none, ran_as}
 use Rattle.sort_changes.specs.declared.Gathered.{Gathered}
 use Rattle.sort_changes.specs.Keys.{key_text}
 use Rattle.sort_changes.specs.Gathered.{Got, change_here, gather_one, got_none, gathered, Is, GathersOne, Gathers}
-use Rattle.sort_changes.proofs.Grown.{held_slots, grows_is}
+use Rattle.sort_changes.proofs.Grown.{grows_is}
 use Rattle.sort_changes.specs.Events.{slot_events, slots_events, no_keys, change_events, StoresChanges}
 
 -- ---- the model
@@ -48,7 +48,7 @@ gathered_one keys s e z =
     (gather_on (length s) s (got_none keys) e ∙ walk_ends begins_change change_size (gather_one (length s)) size_moves (drop (change_size s) s) a z)
 
 pub here_long : (s : List ℕ) → (change_here s).len ≡ change_size s
-here_long s = change_long 0 0 (length s) 0 0 0 s (fault 0 0) (fault 0 0)
+here_long s = change_long 0 0 (length s) 0 0 0 s None None
 
 pub one_at : (all : ℕ) (a : Got) (s : List ℕ) → (gather_one all a s).at ≡ min (a.at + change_size s) all
 unfolding gather_one
@@ -68,7 +68,7 @@ pub record Gathering (s keys₀ keys : List ℕ) (g : Gathered) : Type 0 where
   pub same : length got.keys ≡ length keys₀
   pub left : gather_from (length s) s (got_none keys₀) ≡ gather_from (length s) (drop g.at s) got
 
-pub begin : {s keys : List ℕ} {slots : Slots} → slots ≡ no_slots → Gathering s keys keys (record { slots = slots; used = 0; at = 0 })
+pub begin : {s keys : List ℕ} {slots : List Slot} → slots ≡ no_slots → Gathering s keys keys (record { slots = slots; used = 0; at = 0 })
 begin {s} {keys} {slots} z =
     record {
       inside = omega arith;
@@ -126,10 +126,6 @@ module _ {s keys₀ keys : List ℕ} {g : Gathered} (p : Gathering s keys₀ key
 
 -- ---- what is stored
 
--- the slots that are held are those that were got
-pub is_slots : {a : Got} {keys : List ℕ} {g : Gathered} → Is a keys g → slots_of g.slots ≡ a.slots
-is_slots {a} i = ap slots_of i.slots ∙ held_slots a.slots
-
 pub stores_none : {s d : List ℕ} {j : ℕ} {c : Cursors} → length d ≤ max_place → begins_change s ≡ false → StoresChanges s j d c d (record { n = 0; len = 0; cursors = c })
 unfolding change_events
 stores_none {s} {d} {j} {c} h e =
@@ -140,8 +136,10 @@ stores_none {s} {d} {j} {c} h e =
       ran = ran_as (ran_none h) (ap (λ (a : Got). flat (slot_events j s) a.slots) (sym q));
     }
 
-pub stores_all : {s d e keys : List ℕ} {j : ℕ} {c k : Cursors} {g : Gathered} → Gathers s no_keys keys g → Ran d c (slots_events j s g.slots) e k
-    → StoresChanges s j d c e (record { n = g.slots.n; len = g.at; cursors = k })
+-- where l are the slots that are held
+pub stores_all : {s d e keys : List ℕ} {j : ℕ} {c k : Cursors} {g : Gathered} {l : List Slot} → Gathers s no_keys keys g → l ≡ g.slots → Ran d c (slots_events j s l) e k
+    → StoresChanges s j d c e (record { n = length l; len = g.at; cursors = k })
 unfolding change_events
-stores_all {s} {j = j} g r =
-    record { n = ap (λ (t : Slots). t.n) g.slots; len = g.at; ran = ran_as r (ap (flat (slot_events j s)) (is_slots g)) }
+stores_all {s} {j = j} g h r =
+    let all = h ∙ g.slots in
+    record { n = ap length all; len = g.at; ran = ran_as r (ap (flat (slot_events j s)) all) }

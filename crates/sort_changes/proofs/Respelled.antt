@@ -12,8 +12,9 @@ use Rattle.rules.specs.Numbers.{Number}
 use Rattle.rules.specs.Formulas.{Written}
 use Rattle.rules.specs.Losses.{sign_text, Loss, loss_text, loss_map}
 use Rattle.rules.specs.Adducts.{Item, item_text, item_map}
-use Rattle.rules.specs.Preferred.{sign_rank, shortened, loss_key, item_key, loss_le, item_le}
+use Rattle.rules.specs.Preferred.{shortened, loss_key, item_key, loss_le, item_le}
 use Rattle.rules.specs.Fields.{filled}
+use Rattle.changes.proofs.Signs.{sign_read}
 use Rattle.print_count.specs.Heads.{count_text, head_text}
 use Rattle.print_count.proofs.SpelledCount.{count_text_lem, number_text_lem, head_text_lem}
 use Rattle.read_formula.proofs.Ends.{EndsFormula}
@@ -63,7 +64,7 @@ module _ {m : ℕ} (x : Spelled m) (k : List ℕ) (e : EndsFormula k) where
       let h = here_told x k e in
       let c = count_told_lem x.count f.count in
       let t = key_told x k e h.0 f.units in
-      ap (λ (p : ChangeRead). head_text p.sign p.count ++ key_text s p) h.1 ∙ (λ i. head_text (sign_rank x.sign) (c i) ++ t i)
+      ap (λ (p : ChangeRead). head_text p.sign p.count ++ key_text s p) h.1 ∙ (λ i. head_text (sign_read x.sign) (c i) ++ t i)
 
 -- ---- the row
 

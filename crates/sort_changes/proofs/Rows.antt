@@ -14,6 +14,8 @@ use Rattle.rules.specs.Preferred.{rank}
 use Rattle.rules.specs.Stored.{Field, stores, unit_record}
 use Rattle.rules.specs.Layout.{unit_section, text_section}
 use Rattle.rules.proofs.Bounds.{each_length}
+use Rattle.changes.specs.Signs.{sign_number}
+use Rattle.changes.proofs.Signs.{sign_ranked}
 use Rattle.put_formula.proofs.Chains.{flat_map}
 use Rattle.sort_slots.specs.declared.Slot.{Slot}
 use Rattle.sort_slots.specs.Slots.{slot_key}
@@ -93,7 +95,9 @@ module _ {A B : Type 0} {m : ℕ} (of : A → Spelled m) (fill : A → B) (key :
   StandsAs all keys y a = Stands j all keys y (of a)
 
   same_key : (all keys : List ℕ) (y : Slot) (a : A) → StandsAs all keys y a → slot_key keys y ≡ key (fill a)
-  same_key all keys y a t = (λ i. map rank (t.text i) ++ (0 ∷ t.sign i ∷ t.count i ∷ [])) ∙ key_of a
+  same_key all keys y a t =
+      let g = ap sign_number t.sign ∙ sign_ranked (of a).sign in
+      (λ i. map rank (t.text i) ++ (0 ∷ g i ∷ t.count i ∷ [])) ∙ key_of a
 
   slot_spelled_lem : (all keys : List ℕ) (y : Slot) (a : A) → StandsAs all keys y a → slot_spelled keys y ≡ change_spelled (of a)
   unfolding slot_spelled

@@ -1,12 +1,11 @@
 -- What the slot of a spelled loss or adduct item holds: the text by which it is put in order, and what it stores. Assumes nothing.
 use Prim.Native.Nat.{ℕ, ◌+◌, ◌-◌, ◌≤◌}
 use mathlib.Core.Path.{◌≡◌, refl, sym, ap, ◌∙◌}
-use mathlib.Core.Bool.{cond}
 use mathlib.Core.List.{List, [], ◌∷◌, ◌++◌, map, map-map, append_assoc}
 use native.Mathlib.Omega.{arith}
-use lib.Dec.{eqb}
 use lib.ListN.{length, take, drop, length-append}
 use lib.Seq.{take-append_seam}
+use Rattle.std.specs.Prelude.{Option, None}
 use Rattle.lang.specs.Parts.{Opt, silent, written, opt_text, items, flat}
 use Rattle.rules.specs.Bytes.{bytes}
 use Rattle.rules.specs.Numbers.{From, number_text}
@@ -18,24 +17,24 @@ use Rattle.rules.specs.Fields.{filled}
 use Rattle.rules.specs.Stored.{Field, u8, u16, stores, unit_record}
 use Rattle.rules.specs.Limits.{max_text}
 use Rattle.rules.specs.Layout.{unit_section, text_section}
+use Rattle.changes.specs.Signs.{sign_number}
+use Rattle.changes.specs.Contents.{content_number, content_size}
+use Rattle.changes.proofs.Signs.{sign_read, sign_ranked}
 use Rattle.print_count.specs.Heads.{head_text}
-use Rattle.faults.specs.declared.Fault.{Fault}
-use Rattle.faults.specs.Faults.{fault}
+use Rattle.faults.specs.declared.Refusal.{Refusal}
 use Rattle.read_formula.proofs.Ends.{EndsFormula}
-use Rattle.put_formula.specs.Records.{records_of}
-use Rattle.put_formula.specs.Preferred.{preferred_units}
 use Rattle.put_formula.proofs.Chains.{AllOf}
 use Rattle.put_formula.proofs.PutUnits.{EndsUnits, UnitTold, preferred_read, records_read}
 use Rattle.read_opening.proofs.SpelledOpenings.{count_told, drop_read}
-use Rattle.read_changes.proofs.Spelled.{What, a_formula, a_name, an_electron, content_text, what_kind, what_size, Spelled, change_text}
+use Rattle.read_changes.proofs.Spelled.{What, a_formula, a_name, an_electron, content_text, what_content, Spelled, change_text}
 use Rattle.read_changes.proofs.Begins.{change_text_lem}
 use Rattle.read_opening.proofs.SpelledOpenings.{sign_long}
 use Rattle.read_changes.proofs.OneChange.{change_read, change_read_lem}
 use Rattle.sort_slots.specs.declared.Slot.{Slot}
 use Rattle.store_sections.specs.Pages.{Event}
-use Rattle.sort_changes.specs.Keys.{key_text}
+use Rattle.sort_changes.specs.Keys.{content_key, key_text}
 use Rattle.sort_changes.specs.Gathered.{change_here}
-use Rattle.sort_changes.specs.Events.{slot_events}
+use Rattle.sort_changes.specs.Events.{content_events, slot_events}
 
 -- ---- as it is spelled
 
@@ -59,11 +58,11 @@ change_key x = key (what_key x.what) x.sign (count_value x.count)
 
 -- as it is spelled anew
 abbrev pub change_spelled : {m : ℕ} → Spelled m → List ℕ
-change_spelled x = head_text (sign_rank x.sign) (count_value x.count) ++ what_key x.what
+change_spelled x = head_text (sign_read x.sign) (count_value x.count) ++ what_key x.what
 
 -- what is stored of it in section j, and of its units or its name
 abbrev pub change_record : {m : ℕ} → Spelled m → List Field
-change_record x = u8 (sign_rank x.sign) ∷ u8 (what_kind x.what) ∷ u16 (count_value x.count) ∷ u16 (what_size x.what) ∷ []
+change_record x = u8 (sign_rank x.sign) ∷ u8 (content_number (what_content x.what)) ∷ u16 (count_value x.count) ∷ u16 (content_size (what_content x.what)) ∷ []
 
 abbrev pub what_events : What → List Event
 what_events (a_formula x) = (unit_section, flat (λ u. stores (unit_record u)) (map (unit_map filled) (items x))) ∷ []
@@ -89,7 +88,7 @@ ends_units k e = record { no_digit = e.no_digit; no_small = e.no_small }
 
 module _ (k : List ℕ) (e : EndsFormula k) where
   what_key_lem : (w : What) (n : ℕ) → AllOf UnitTold (what_units w) → n ≡ length (content_text w)
-      → cond (eqb (what_kind w) 0) (preferred_units (what_size w) (content_text w ++ k)) (take n (content_text w ++ k)) ≡ what_key w
+      → content_key n (content_text w ++ k) (what_content w) ≡ what_key w
   what_key_lem (a_formula x) n a h =
       preferred_read (items x) k a (ends_units k e)
       ∙ ap (λ (l : List (FormulaUnit Written)). unit_text (unit_map shortened (unit_map filled x.first)) ++ flat unit_text l)
@@ -98,8 +97,7 @@ module _ (k : List ℕ) (e : EndsFormula k) where
   what_key_lem an_electron n a h = ap (λ (i : ℕ). take i (bytes "e" ++ k)) h
 
   what_events_lem : (w : What) → AllOf UnitTold (what_units w)
-      → cond (eqb (what_kind w) 0) ((unit_section, records_of (what_size w) (content_text w ++ k)) ∷ [])
-      (cond (eqb (what_kind w) 1) ((text_section, take (what_size w) (drop 1 (content_text w ++ k))) ∷ []) []) ≡ what_events w
+      → content_events (content_text w ++ k) (what_content w) ≡ what_events w
   what_events_lem (a_formula x) a = ap (only unit_section) (records_read (items x) k a (ends_units k e))
   what_events_lem (a_name n) a =
       ap (only text_section)
@@ -126,22 +124,22 @@ module _ {m : ℕ} (x : Spelled m) (k : List ℕ) (e : EndsFormula k) where
       let b = length-append (opt_text number_text x.count) (content_text x.what) in
       omega (arith, a, b, sign_long x.sign)
 
-  pub here_told : (g : Fault) × (change_here (change_text x ++ k) ≡ change_read x g)
-  here_told = (_, change_read_lem x k 0 0 (length (change_text x ++ k)) (fault 0 0) e (omega arith))
+  pub here_told : (g : Option Refusal) × (change_here (change_text x ++ k) ≡ change_read x g)
+  here_told = (_, change_read_lem x k 0 0 (length (change_text x ++ k)) None e (omega arith))
 
-  pub key_told : (g : Fault) → AllOf UnitTold (what_units x.what) → key_text (change_text x ++ k) (change_read x g) ≡ what_key x.what
+  pub key_told : (g : Option Refusal) → AllOf UnitTold (what_units x.what) → key_text (change_text x ++ k) (change_read x g) ≡ what_key x.what
   unfolding key_text
   key_told g a =
       let n = length (change_text x) - start_of in
       let l = start_within in
-      ap (λ (t : List ℕ). cond (eqb (what_kind x.what) 0) (preferred_units (what_size x.what) t) (take n t)) behind_head_lem
+      ap (λ (t : List ℕ). content_key n t (what_content x.what)) behind_head_lem
       ∙ what_key_lem k e x.what n a (omega arith)
 
-  pub events_told : (j : ℕ) (all : List ℕ) (y : Slot) → y.sign ≡ sign_rank x.sign → y.kind ≡ what_kind x.what → y.count ≡ count_value x.count
-      → y.size ≡ what_size x.what → drop y.start all ≡ content_text x.what ++ k → AllOf UnitTold (what_units x.what)
+  pub events_told : (j : ℕ) (all : List ℕ) (y : Slot) → y.sign ≡ sign_read x.sign → y.count ≡ count_value x.count → y.content ≡ what_content x.what
+      → drop y.start all ≡ content_text x.what ++ k → AllOf UnitTold (what_units x.what)
       → slot_events j all y ≡ spelled_events j x
   unfolding slot_events
-  events_told j all y es ek ec ez er a =
-      (λ i. (j, stores (u8 (es i) ∷ u8 (ek i) ∷ u16 (ec i) ∷ u16 (ez i) ∷ []))
-      ∷ cond (eqb (ek i) 0) ((unit_section, records_of (ez i) (er i)) ∷ []) (cond (eqb (ek i) 1) ((text_section, take (ez i) (drop 1 (er i))) ∷ []) []))
+  events_told j all y es ec ek er a =
+      let g : sign_number y.sign ≡ sign_rank x.sign = ap sign_number es ∙ sign_ranked x.sign in
+      (λ i. (j, stores (u8 (g i) ∷ u8 (content_number (ek i)) ∷ u16 (ec i) ∷ u16 (content_size (ek i)) ∷ [])) ∷ content_events (er i) (ek i))
       ∙ ap (λ (l : List Event). (j, stores (change_record x)) ∷ l) (what_events_lem k e x.what a)

@@ -2,23 +2,21 @@
 -- Assumes nothing.
 use Prim.Native.Nat.{ℕ, ◌+◌, ◌-◌, ◌*◌, ◌≤◌, ◌<◌, min}
 use mathlib.Core.Path.{◌≡◌, refl, sym, ap, ◌∙◌, subst}
-use mathlib.Core.Bool.{Bool, cond}
 use mathlib.Core.List.{List, [], ◌∷◌, ◌++◌, append_assoc, append-nil}
 use native.Mathlib.Omega.{arith}
 use lib.ListN.{length, take, drop, length-take, length-append, length-replicate}
 use lib.Seq.{sets, sets-eq, length-sets, take-append_seam, drop-append_seam, drop_at, drop-drop}
-use borrow.Author.Tests.{lt-ltb}
+use Rattle.std.specs.Prelude.{Option, None}
 use Rattle.lang.specs.Parts.{opt_text, flat}
 use Rattle.lang.specs.Order.{Each, none, next, insert}
 use Rattle.lang.specs.Walk.{Walked}
 use Rattle.lang.proofs.Walks.{walk_ends}
 use Rattle.rules.specs.Numbers.{number_text}
-use Rattle.rules.specs.Preferred.{sign_rank}
 use Rattle.rules.specs.Limits.{max_losses, max_text}
 use Rattle.rules.proofs.Totals.{perm_length}
+use Rattle.changes.proofs.Signs.{sign_read}
 use Rattle.put_bytes.specs.Puts.{max_place}
-use Rattle.faults.specs.declared.Fault.{Fault}
-use Rattle.faults.specs.Faults.{fault}
+use Rattle.faults.specs.declared.Refusal.{Refusal}
 use Rattle.read_formula.proofs.Ends.{EndsFormula}
 use Rattle.put_formula.proofs.Chains.{AllOf, all_more}
 use Rattle.read_opening.specs.Heads.{begins_change}
@@ -31,19 +29,20 @@ use Rattle.read_changes.proofs.Measures.{change_long}
 use Rattle.read_changes.proofs.ChangeLoop.{size_moves}
 use Rattle.read_changes.proofs.Sums.{EndsChanges}
 use Rattle.sort_slots.specs.declared.Slot.{Slot}
-use Rattle.sort_slots.specs.Slots.{slot_text, slot_le, feed, EndsBy, AllEndBy, none_ends}
+use Rattle.sort_slots.specs.Slots.{slot_text, slot_le, with_slot, feed, EndsBy, AllEndBy, none_ends}
 use Rattle.sort_slots.proofs.Feeds.{fed_last}
+use Rattle.sort_slots.proofs.Inserted.{with_room}
 use Rattle.sort_slots.proofs.AllInserted.{feed_perm}
 use Rattle.sort_slots.proofs.Kept.{Common, common_sets, text_kept, all_end_by, ends_last, feed_kept, each_kept}
 use Rattle.sort_changes.specs.Keys.{key_text}
-use Rattle.sort_changes.specs.Gathered.{Got, kept, slot_of, got_with, change_here, gather_one, got_none, gathered}
+use Rattle.sort_changes.specs.Gathered.{Got, slot_of, got_with, change_here, gather_one, got_none, gathered}
 use Rattle.sort_changes.specs.Events.{slot_events, keys_size, no_keys}
 use Rattle.sort_changes.proofs.Gathers.{gather_from, gather_on}
 use Rattle.sort_changes.proofs.SlotHolds.{what_key, count_value, spelled_events, ChangeFits, count_told_lem, behind_head_lem, start_within, here_told, key_told, events_told}
 
 -- a slot of the bytes `all` stands for a spelled loss or adduct item, and stores what this stores in section j
 pub record Stands {m : ℕ} (j : ℕ) (all keys : List ℕ) (y : Slot) (x : Spelled m) : Type 0 where
-  pub sign : y.sign ≡ sign_rank x.sign
+  pub sign : y.sign ≡ sign_read x.sign
   pub count : y.count ≡ count_value x.count
   pub text : slot_text keys y ≡ what_key x.what
   pub events : slot_events j all y ≡ spelled_events j x
@@ -52,7 +51,7 @@ pub record Stands {m : ℕ} (j : ℕ) (all keys : List ℕ) (y : Slot) (x : Spel
 
 -- what was got, and b with one more: its slot is y
 record Next {m : ℕ} (j : ℕ) (all : List ℕ) (a b : Got) (y : Slot) (x : Spelled m) : Type 0 where
-  slots : b.slots ≡ kept b.keys y a.slots
+  slots : b.slots ≡ with_slot b.keys a.slots y
   common : Common a.used a.keys b.keys
   ends : EndsBy b.used y
   stands : Stands j all b.keys y x
@@ -71,7 +70,7 @@ text_there l i t h =
 module _ {m : ℕ} (j : ℕ) (all : List ℕ) (a : Got) (x : Spelled m) (k : List ℕ) (e : EndsFormula k) (f : ChangeFits x)
     (here : drop a.at all ≡ change_text x ++ k) (long : a.at + length (change_text x ++ k) ≡ length all)
     (room : a.used + (max_text + 2) ≤ length a.keys) (small : length a.keys ≤ max_place) where
-  one_is : (g : Fault) → change_here (change_text x ++ k) ≡ change_read x g → gather_one (length all) a (change_text x ++ k) ≡ got_with (length all) a (change_read x g) (what_key x.what)
+  one_is : (g : Option Refusal) → change_here (change_text x ++ k) ≡ change_read x g → gather_one (length all) a (change_text x ++ k) ≡ got_with (length all) a (change_read x g) (what_key x.what)
   unfolding gather_one
   one_is g p =
       let t : key_text (change_text x ++ k) (change_here (change_text x ++ k)) ≡ what_key x.what = ap (key_text (change_text x ++ k)) p ∙ key_told x k e g f.units in
@@ -80,7 +79,7 @@ module _ {m : ℕ} (j : ℕ) (all : List ℕ) (a : Got) (x : Spelled m) (k : Lis
   abbrev next_used : ℕ
   next_used = min (a.used + length (what_key x.what)) max_place
 
-  next_got : (g : Fault) → Next j all a (got_with (length all) a (change_read x g) (what_key x.what)) (slot_of (length all) a (change_read x g) next_used) x
+  next_got : (g : Option Refusal) → Next j all a (got_with (length all) a (change_read x g) (what_key x.what)) (slot_of (length all) a (change_read x g) next_used) x
   next_got g =
       let t = what_key x.what in
       let s = f.short in
@@ -102,7 +101,7 @@ module _ {m : ℕ} (j : ℕ) (all : List ℕ) (a : Got) (x : Spelled m) (k : Lis
               sign = refl;
               count = count_told_lem x.count f.count;
               text = ap (λ (n : ℕ). take n (drop a.used keys)) l ∙ text_there a.keys a.used t (omega arith);
-              events = events_told x k e j all y refl refl (count_told_lem x.count f.count) refl r f.units;
+              events = events_told x k e j all y refl (count_told_lem x.count f.count) refl r f.units;
             };
         room = length-sets a.keys a.used t;
         later = omega arith;
@@ -143,7 +142,7 @@ module _ {m : ℕ} {j : ℕ} {all : List ℕ} where
       let z : length a.slots < max_losses = omega (arith, fed_count f) in
       record {
         slots =
-            n.slots ∙ ap (λ (t : Bool). cond t (insert (slot_le b.keys) y a.slots) a.slots) (lt-ltb (length a.slots) max_losses z)
+            n.slots ∙ with_room b.keys a.slots y z
             ∙ ap (insert (slot_le b.keys) y) (f.slots ∙ feed_kept n.common f.ends) ∙ sym (fed_last (slot_le b.keys) ys y);
         ends = ends_last (all_end_by n.later f.ends) n.ends;
         each =
@@ -156,7 +155,7 @@ module _ {m : ℕ} {j : ℕ} {all : List ℕ} where
 pub change_size_lem : {m : ℕ} (x : Spelled m) (k : List ℕ) → EndsFormula k → change_size (change_text x ++ k) ≡ length (change_text x)
 change_size_lem x k e =
     let s = change_text x ++ k in
-    change_long 0 0 0 0 0 (length s) s (fault 0 0) (fault 0 0) ∙ ap (λ (p : ChangeRead). p.len) (here_told x k e).1
+    change_long 0 0 0 0 0 (length s) s None None ∙ ap (λ (p : ChangeRead). p.len) (here_told x k e).1
 
 -- what follows one of a row
 pub row_ends : {m : ℕ} (xs : List (Spelled m)) (k : List ℕ) → EndsFormula k → EndsFormula (flat change_text xs ++ k)

@@ -13,8 +13,9 @@ use Rattle.rules.specs.Preferred.{sign_rank, key, count_or1, shortened, loss_key
 use Rattle.rules.specs.Fields.{filled}
 use Rattle.rules.specs.Stored.{u8, u16, stores, lost_kind, lost_units, lost_name, loss_record, added_kind, added_units, item_record}
 use Rattle.rules.specs.Layout.{loss_section, item_section, text_section}
+use Rattle.changes.specs.Contents.{content_number, content_size}
 use Rattle.store_sections.specs.Pages.{bytes_of}
-use Rattle.read_changes.proofs.Spelled.{what_kind, what_size, of_lost, of_loss, loss_text_lem, of_added, of_item, item_text_lem}
+use Rattle.read_changes.proofs.Spelled.{what_content, of_lost, of_loss, loss_text_lem, of_added, of_item, item_text_lem}
 use Rattle.read_changes.proofs.Sums.{EndsChanges}
 use Rattle.sort_changes.specs.Events.{change_events}
 use Rattle.sort_changes.proofs.SlotHolds.{what_units, what_key, count_value, change_key, change_record}
@@ -34,11 +35,11 @@ pub lost_key : (w : Lost Written) → what_key (of_lost w) ≡ lost_text (lost_m
 lost_key (lost_formula x) = refl
 lost_key (lost_name_lem n) = refl
 
-lost_kind_lem : (w : Lost Written) → what_kind (of_lost w) ≡ lost_kind (lost_map filled w)
+lost_kind_lem : (w : Lost Written) → content_number (what_content (of_lost w)) ≡ lost_kind (lost_map filled w)
 lost_kind_lem (lost_formula x) = refl
 lost_kind_lem (lost_name_lem n) = refl
 
-lost_size : (w : Lost Written) → what_size (of_lost w) ≡ length (lost_units (lost_map filled w)) + length (lost_name (lost_map filled w))
+lost_size : (w : Lost Written) → content_size (what_content (of_lost w)) ≡ length (lost_units (lost_map filled w)) + length (lost_name (lost_map filled w))
 lost_size (lost_formula x) = omega (arith, same_units x)
 lost_size (lost_name_lem n) = omega arith
 
@@ -84,11 +85,11 @@ pub added_key : (w : Added Written) → what_key (of_added w) ≡ added_text (ad
 added_key (added_formula x) = refl
 added_key electron = refl
 
-added_kind_lem : (w : Added Written) → what_kind (of_added w) ≡ added_kind (added_map filled w)
+added_kind_lem : (w : Added Written) → content_number (what_content (of_added w)) ≡ added_kind (added_map filled w)
 added_kind_lem (added_formula x) = refl
 added_kind_lem electron = refl
 
-added_size : (w : Added Written) → what_size (of_added w) ≡ length (added_units (added_map filled w))
+added_size : (w : Added Written) → content_size (what_content (of_added w)) ≡ length (added_units (added_map filled w))
 added_size (added_formula x) = same_units x
 added_size electron = refl
 

@@ -1,18 +1,14 @@
 -- Losses, or adduct items, gathered in preferred order from the bytes that begin with them. Assumes nothing.
-use Rattle.std.specs.Prelude.{ℕ, ◌+◌, ◌-◌, min, ◌≡◌, cond, List, [], ◌++◌, ltb, length, drop, replicate}
+use Rattle.std.specs.Prelude.{ℕ, ◌+◌, ◌-◌, min, ◌≡◌, List, [], length, drop, None}
 use Rattle.std.proofs.lemmas.List.Edits.{sets}
-use Rattle.rules.specs.Limits.{max_losses}
 use Rattle.lang.specs.Walk.{walk}
-use Rattle.lang.specs.Order.{insert}
 use Rattle.put_bytes.specs.Puts.{max_place, Put}
-use Rattle.faults.specs.Faults.{fault}
 use Rattle.read_opening.specs.Heads.{begins_change}
 use Rattle.read_changes.specs.declared.ChangeRead.{ChangeRead}
 use Rattle.read_changes.specs.Changes.{change_of}
 use Rattle.read_changes.specs.Rows.{change_size}
 use Rattle.sort_slots.specs.declared.Slot.{Slot}
-use Rattle.sort_slots.specs.declared.Slots.{Slots}
-use Rattle.sort_slots.specs.Slots.{slot_le, blank, with_slot}
+use Rattle.sort_slots.specs.Slots.{with_slot}
 use Rattle.sort_changes.specs.declared.Gathered.{Gathered}
 use Rattle.sort_changes.specs.Keys.{key_text}
 
@@ -23,14 +19,10 @@ pub record Got : Type 0 where
   pub used : ℕ
   pub at : ℕ
 
--- a slot is inserted where there is room
-abbrev pub kept : List ℕ → Slot → List Slot → List Slot
-kept keys y l = cond (ltb (length l) max_losses) (insert (slot_le keys) y l) l
-
 -- the slot of a change read at the place `at` of `all` bytes; its text stands among the keys from `used` up to `next`
 abbrev pub slot_from : ℕ → ℕ → ℕ → ChangeRead → ℕ → Slot
 slot_from all at used x next =
-    record { sign = x.sign; kind = x.kind; count = x.count; size = x.size; start = min (at + x.start) all; key = used; len = next - used }
+    record { sign = x.sign; count = x.count; content = x.content; start = min (at + x.start) all; key = used; len = next - used }
 
 abbrev pub slot_of : ℕ → Got → ChangeRead → ℕ → Slot
 slot_of all a x next = slot_from all a.at a.used x next
@@ -39,11 +31,11 @@ abbrev pub got_with : ℕ → Got → ChangeRead → List ℕ → Got
 got_with all a x t =
     let next = min (a.used + length t) max_place in
     let keys = sets a.keys a.used t in
-    record { slots = kept keys (slot_of all a x next) a.slots; keys = keys; used = next; at = min (a.at + x.len) all }
+    record { slots = with_slot keys a.slots (slot_of all a x next); keys = keys; used = next; at = min (a.at + x.len) all }
 
 -- the first of the bytes s; its limits are not asked for
 abbrev pub change_here : List ℕ → ChangeRead
-change_here s = change_of 0 0 (length s) s (fault 0 0)
+change_here s = change_of 0 0 (length s) s None
 
 -- one more, where the bytes s begin with it
 unfoldable pub gather_one : ℕ → Got → List ℕ → Got
@@ -56,13 +48,9 @@ got_none keys = record { slots = []; keys = keys; used = 0; at = 0 }
 unfoldable pub gathered : List ℕ → List ℕ → Got
 gathered keys s = (walk begins_change change_size (gather_one (length s)) s (got_none keys)).known
 
--- the slots l among those of the code: behind them stand blank ones
-abbrev pub held_in : List Slot → Slots
-held_in l = record { n = length l; at = l ++ replicate (max_losses - length l) blank }
-
 -- the code's answer and its buffer are what was got
 pub record Is (a : Got) (keys : List ℕ) (g : Gathered) : Type 0 where
-  pub slots : g.slots ≡ held_in a.slots
+  pub slots : g.slots ≡ a.slots
   pub buffer : keys ≡ a.keys
   pub used : g.used ≡ a.used
   pub at : g.at ≡ a.at

@@ -2,3 +2,4 @@ pub mod Keys
 pub mod Gathered
 pub mod Events
 pub mod Spelled
+pub mod Ways

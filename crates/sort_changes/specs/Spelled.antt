@@ -7,8 +7,7 @@ use Rattle.print_count.specs.Heads.{head_text}
 use Rattle.read_opening.specs.Heads.{begins_change}
 use Rattle.read_changes.specs.Rows.{change_size}
 use Rattle.sort_slots.specs.declared.Slot.{Slot}
-use Rattle.sort_slots.specs.declared.Slots.{Slots}
-use Rattle.sort_slots.specs.Slots.{slot_text, slots_of}
+use Rattle.sort_slots.specs.Slots.{slot_text}
 use Rattle.sort_changes.specs.Keys.{key_text}
 use Rattle.sort_changes.specs.Gathered.{change_here, gathered}
 use Rattle.sort_changes.specs.Events.{no_keys}
@@ -17,8 +16,8 @@ use Rattle.sort_changes.specs.Events.{no_keys}
 unfoldable pub slot_spelled : List ℕ → Slot → List ℕ
 slot_spelled keys x = head_text x.sign x.count ++ slot_text keys x
 
-abbrev pub slots_spelled : List ℕ → Slots → List ℕ
-slots_spelled keys slots = flat (slot_spelled keys) (slots_of slots)
+abbrev pub slots_spelled : List ℕ → List Slot → List ℕ
+slots_spelled keys slots = flat (slot_spelled keys) slots
 
 -- all that the bytes s begin with, in preferred order
 unfoldable pub many_spelled : List ℕ → List ℕ

@@ -11,9 +11,9 @@ use Rattle.rules.specs.Numbers.{Number}
 use Rattle.rules.specs.Losses.{Sign, Loss, lost_text, lost_map}
 use Rattle.rules.specs.Adducts.{Item, added_text, added_map}
 use Rattle.rules.specs.Preferred.{rank, sign_rank, key, count_or1, shortened, loss_key, item_key, loss_le, item_le}
+use Rattle.changes.specs.Signs.{sign_number}
 use Rattle.sort_slots.specs.declared.Slot.{Slot}
-use Rattle.sort_slots.specs.declared.Slots.{Slots}
-use Rattle.sort_slots.specs.Slots.{slot_text, slot_key, slot_le, slots_of, fed_into, feed, Holds}
+use Rattle.sort_slots.specs.Slots.{slot_text, slot_key, slot_le, fed_into, feed, Holds}
 use Rattle.sort_slots.specs.Stands.{StandsLoss, StandsItem, Arranged}
 use Rattle.sort_slots.proofs.Feeds.{fed_perm, fed_rises, fed_both}
 
@@ -36,7 +36,7 @@ module _ {A : Type 0} (k : A → List ℕ) (keys : List ℕ) (R : Slot → A →
         rise = fed_rises (by_key_lem k) l;
       }
 
-  pub holds_arranged : {xs : List Slot} {s : Slots} {l : List A} → Holds keys xs s → Each R xs l → Arranged R (by_key k) (slots_of s) l
+  pub holds_arranged : {xs : List Slot} {s : List Slot} {l : List A} → Holds keys xs s → Each R xs l → Arranged R (by_key k) s l
   holds_arranged {l = l} h e = subst (λ (t : List Slot). Arranged R (by_key k) t l) (sym h.slots) (fed_arranged e)
 
 -- where only equals come each before the other there is one arrangement, the sorted one
@@ -49,7 +49,7 @@ arranged_sorted {R = R} {before = before} {slots = slots} {l = l} o anti r =
 -- ---- losses and adduct items
 
 -- a slot with this text, sign and count has the key that the rules give these
-slot_key_lem : (keys : List ℕ) (x : Slot) (t : List ℕ) (g : Sign) (n : ℕ) → slot_text keys x ≡ t → x.sign ≡ sign_rank g → x.count ≡ n → slot_key keys x ≡ key t g n
+slot_key_lem : (keys : List ℕ) (x : Slot) (t : List ℕ) (g : Sign) (n : ℕ) → slot_text keys x ≡ t → sign_number x.sign ≡ sign_rank g → x.count ≡ n → slot_key keys x ≡ key t g n
 slot_key_lem keys x t g n e f h = λ i. map rank (e i) ++ (0 ∷ f i ∷ h i ∷ [])
 
 pub loss_key_lem : (keys : List ℕ) (x : Slot) (l : Loss Number) → StandsLoss keys x l → slot_key keys x ≡ loss_key l
@@ -58,10 +58,10 @@ loss_key_lem keys x l t = slot_key_lem keys x (lost_text (lost_map shortened l.w
 pub item_key_lem : (keys : List ℕ) (x : Slot) (a : Item Number) → StandsItem keys x a → slot_key keys x ≡ item_key a
 item_key_lem keys x a t = slot_key_lem keys x (added_text (added_map shortened a.what)) a.sign a.count.value t.text t.sign t.count
 
-pub losses_arranged : {keys : List ℕ} {xs : List Slot} {s : Slots} {l : List (Loss Number)} → Holds keys xs s → Each (StandsLoss keys) xs l
-    → Arranged (StandsLoss keys) loss_le (slots_of s) l
+pub losses_arranged : {keys : List ℕ} {xs : List Slot} {s : List Slot} {l : List (Loss Number)} → Holds keys xs s → Each (StandsLoss keys) xs l
+    → Arranged (StandsLoss keys) loss_le s l
 losses_arranged {keys} h e = holds_arranged loss_key keys (StandsLoss keys) (loss_key_lem keys) h e
 
-pub items_arranged : {keys : List ℕ} {xs : List Slot} {s : Slots} {l : List (Item Number)} → Holds keys xs s → Each (StandsItem keys) xs l
-    → Arranged (StandsItem keys) item_le (slots_of s) l
+pub items_arranged : {keys : List ℕ} {xs : List Slot} {s : List Slot} {l : List (Item Number)} → Holds keys xs s → Each (StandsItem keys) xs l
+    → Arranged (StandsItem keys) item_le s l
 items_arranged {keys} h e = holds_arranged item_key keys (StandsItem keys) (item_key_lem keys) h e

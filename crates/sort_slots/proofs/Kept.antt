@@ -11,8 +11,8 @@ use Rattle.rules.specs.Numbers.{Number}
 use Rattle.rules.specs.Losses.{Loss}
 use Rattle.rules.specs.Adducts.{Item}
 use Rattle.rules.specs.Preferred.{rank}
+use Rattle.changes.specs.Signs.{sign_number}
 use Rattle.sort_slots.specs.declared.Slot.{Slot}
-use Rattle.sort_slots.specs.declared.Slots.{Slots}
 use Rattle.sort_slots.specs.Slots.{text_at, slot_text, slot_key, slot_le, fed_into, feed, Holds, EndsBy, AllEndBy, none_ends, next_ends}
 use Rattle.sort_slots.specs.Stands.{StandsLoss, StandsItem}
 
@@ -48,7 +48,7 @@ module _ {used : ℕ} {keys more : List ℕ} (c : Common used keys more) where
       ∙ text_of_front more x.key x.len used h.inside
 
   pub key_kept : (x : Slot) → EndsBy used x → slot_key keys x ≡ slot_key more x
-  key_kept x h = ap (λ (l : List ℕ). map rank l ++ (0 ∷ x.sign ∷ x.count ∷ [])) (text_kept x h)
+  key_kept x h = ap (λ (l : List ℕ). map rank l ++ (0 ∷ sign_number x.sign ∷ x.count ∷ [])) (text_kept x h)
 
   pub le_kept : (x y : Slot) → EndsBy used x → EndsBy used y → slot_le keys x y ≡ slot_le more x y
   unfolding slot_le
@@ -96,7 +96,7 @@ module _ {used : ℕ} {keys more : List ℕ} (c : Common used keys more) where
   pub feed_kept : {xs : List Slot} → AllEndBy used xs → feed keys xs ≡ feed more xs
   feed_kept e = fed_kept none_ends e
 
-  pub holds_kept : {xs : List Slot} {s : Slots} → AllEndBy used xs → Holds keys xs s → Holds more xs s
+  pub holds_kept : {xs s : List Slot} → AllEndBy used xs → Holds keys xs s → Holds more xs s
   holds_kept e h = record { count = h.count; slots = h.slots ∙ feed_kept e }
 
   -- what slots stand for

@@ -1,6 +1,4 @@
-pub mod Texts
 pub mod Compare
-pub mod OneWalk
 pub mod Inserted
 pub mod Feeds
 pub mod AllInserted

@@ -5,16 +5,17 @@ use Rattle.rules.specs.Numbers.{Number}
 use Rattle.rules.specs.Losses.{Loss, lost_text, lost_map}
 use Rattle.rules.specs.Adducts.{Item, added_text, added_map}
 use Rattle.rules.specs.Preferred.{shortened, sign_rank, count_or1}
+use Rattle.changes.specs.Signs.{sign_number}
 use Rattle.sort_slots.specs.declared.Slot.{Slot}
 use Rattle.sort_slots.specs.Slots.{slot_text}
 
 pub record StandsLoss (keys : List ℕ) (x : Slot) (l : Loss Number) : Type 0 where
-  pub sign : x.sign ≡ sign_rank l.sign
+  pub sign : sign_number x.sign ≡ sign_rank l.sign
   pub count : x.count ≡ count_or1 l.count
   pub text : slot_text keys x ≡ lost_text (lost_map shortened l.what)
 
 pub record StandsItem (keys : List ℕ) (x : Slot) (a : Item Number) : Type 0 where
-  pub sign : x.sign ≡ sign_rank a.sign
+  pub sign : sign_number x.sign ≡ sign_rank a.sign
   pub count : x.count ≡ a.count.value
   pub text : slot_text keys x ≡ added_text (added_map shortened a.what)
 

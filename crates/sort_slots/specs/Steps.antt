@@ -1,11 +1,7 @@
--- What the private functions that compare promise. Assumes nothing.
-use Rattle.std.specs.Prelude.{ℕ, ◌≡◌, Bool, List, ◌∷◌, ◌++◌, map, get_or}
+-- What it is to tell which of two texts comes first. Assumes nothing.
+use Rattle.std.specs.Prelude.{ℕ, ◌≡◌, Bool, List, ◌∷◌, ◌++◌, map}
 use Rattle.lang.specs.Order.{lex_le}
 use Rattle.rules.specs.Preferred.{rank}
-
--- the rank of the byte at a place, 0 behind the last
-abbrev pub rank_at : List ℕ → ℕ → ℕ
-rank_at l i = get_or (map rank l) i 0
 
 -- what is compared of a text, and then u
 abbrev pub ranks_of : List ℕ → List ℕ → List ℕ

@@ -3,6 +3,7 @@ use Prim.Native.Nat.{ℕ}
 use mathlib.Core.Path.{◌≡◌, refl, sym, ap, ap₂, ◌∙◌}
 use mathlib.Core.List.{List, [], ◌∷◌, ◌++◌}
 use lib.ListN.{length}
+use Rattle.std.specs.Prelude.{Option}
 use Rattle.lang.specs.Mark.{Kept, here, later, marks_of}
 use Rattle.rules.specs.Numbers.{Number}
 use Rattle.rules.specs.Ions.{ion_text, ion_map, series, internal, immonium, precursor, reference, named, composed, smiles, unknown, SpelledIon}
@@ -13,17 +14,17 @@ use Rattle.rules.specs.Annotations.{SpelledAnnotation}
 use Rattle.rules.specs.Fields.{filled, filled_cut}
 use Rattle.rules.specs.Limits.{part, opt_part, ion_parts, analyte_part, charge_part, deviation_part, confidence_part, annotation_parts, annotation_marks}
 use Rattle.rules.specs.Editions.{Edition, ed1, ed2}
-use Rattle.rules.specs.Stored.{little, u8, u16, u32, stores, isotope_records, residue_count, common_fields, added_fields, annotation_record}
+use Rattle.rules.specs.Stored.{little, flag, u8, u16, u32, stores, isotope_records, residue_count, common_fields, added_fields, annotation_record}
 use Rattle.rules.proofs.Keeps.{kept_tail, kept_part}
 use Rattle.counts.specs.declared.Counts.{Counts}
-use Rattle.faults.specs.declared.Fault.{Fault}
+use Rattle.faults.specs.declared.Refusal.{Refusal}
 use Rattle.read_annotation.specs.declared.Parts.{Parts}
 use Rattle.read_annotation.proofs.SaysWhat.{table_of}
 use Rattle.read_annotation.proofs.Ions.{ion_told}
 use Rattle.read_annotation.proofs.SpelledAnnotation.{deviation_fault, confidence_fault, fault0, fault1, fault2, parts_read}
 use Rattle.store_sections.proofs.Events.{flat_append}
 use Rattle.store_annotation.specs.Records.{front_bytes, tail_bytes, count_bytes, record_bytes, added_bytes, record_in}
-use Rattle.store_annotation.proofs.Numbers.{analyte_told, charge_told, deviation_told, confidence_told}
+use Rattle.store_annotation.proofs.Numbers.{analyte_told, present_told, charge_told, deviation_told, confidence_told}
 use Rattle.store_annotation.proofs.Ions.{ion_stored}
 
 -- a table has the residues that the spelling has
@@ -39,15 +40,15 @@ count_filled (smiles t) = refl
 count_filled (unknown n) = refl
 
 -- of the annotation a, followed by k, read as number `nth` of a line of `end` bytes, from f on
-module _ (a : SpelledAnnotation) (k : List ℕ) (nth end : ℕ) (f : Fault) where
+module _ (a : SpelledAnnotation) (k : List ℕ) (nth end : ℕ) (f : Option Refusal) where
   abbrev pub seen : Parts
   seen = parts_read a k nth end f
 
   -- the first broken limit behind the ion, and behind the adduct
-  abbrev pub ion_seen : Fault
+  abbrev pub ion_seen : Option Refusal
   ion_seen = fault1 a k end (fault0 a k nth end f)
 
-  abbrev adduct_seen : Fault
+  abbrev adduct_seen : Option Refusal
   adduct_seen = fault2 a k end (fault0 a k nth end f)
 
   common_stored : (i at : ℕ) → Kept (annotation_marks i a at) → (n : Counts) (ls : List (Loss Number)) (xs : List (Item Number)) → n.losses ≡ length ls
@@ -71,7 +72,7 @@ module _ (a : SpelledAnnotation) (k : List ℕ) (nth end : ℕ) (f : Fault) wher
       let units = nu ∙ it.units in
       let text = nt ∙ it.text in
       λ j. stores (
-      u8 (io.kind j) ∷ u8 seen.front.marked ∷ u8 seen.front.present ∷ u8 (io.letter j) ∷ u16 (an j) ∷ u16 (io.position j) ∷ u16 (io.end j)
+      u8 (io.kind j) ∷ u8 (flag a.marked) ∷ u8 (present_told a.analyte j) ∷ u8 (io.letter j) ∷ u16 (an j) ∷ u16 (io.position j) ∷ u16 (io.end j)
       ∷ u8 (ch j) ∷ u8 (de.kind j) ∷ u8 (de.places j) ∷ u8 (co.kind j) ∷ u8 (co.places j) ∷ u8 0 ∷ [])
       ++ (de.value j
       ++ stores (u32 (co.value j) ∷ u16 (text j) ∷ u16 (units j) ∷ u8 (nl j) ∷ u8 (ni j) ∷ u8 (nx j) ∷ u8 0 ∷ []))

@@ -2,11 +2,12 @@
 use Prim.Native.Nat.{ℕ}
 use mathlib.Core.Path.{◌≡◌, ap, ◌∙◌}
 use mathlib.Core.List.{List, [], ◌∷◌, ◌++◌}
+use Rattle.std.specs.Prelude.{Option}
 use Rattle.lang.specs.Mark.{Kept}
 use Rattle.rules.specs.Annotations.{SpelledAnnotation}
 use Rattle.rules.specs.Limits.{annotation_marks}
 use Rattle.rules.specs.Layout.{annotation_section, isotope_section}
-use Rattle.faults.specs.declared.Fault.{Fault}
+use Rattle.faults.specs.declared.Refusal.{Refusal}
 use Rattle.store_sections.specs.Pages.{Event, bytes_for, bytes_of}
 use Rattle.store_sections.proofs.Events.{bytes_append}
 use Rattle.sort_changes.specs.Events.{behind_changes}
@@ -28,7 +29,7 @@ share_all j is ls b xs r =
 
 -- ---- what is read, all at once
 
-module _ (edition : Edition) (a : SpelledAnnotation) (k : List ℕ) (nth end : ℕ) (f : Fault) (e : EndsAnnotation k) (i at : ℕ) (kept : Kept (annotation_marks i a at)) where
+module _ (edition : Edition) (a : SpelledAnnotation) (k : List ℕ) (nth end : ℕ) (f : Option Refusal) (e : EndsAnnotation k) (i at : ℕ) (kept : Kept (annotation_marks i a at)) where
   pub events_are : annotation_events edition (first a k) (seen a k nth end f)
       ≡ events_with edition (first a k) (second a k) (isotopes_on a k) (adduct_on a k) (seen a k nth end f).front (seen a k nth end f).tail
   unfolding annotation_events

@@ -3,6 +3,7 @@ use Prim.Native.Nat.{ℕ, ◌≤◌}
 use mathlib.Core.Path.{◌≡◌, refl, sym, ap, ◌∙◌, subst}
 use mathlib.Core.List.{List, [], ◌∷◌, ◌++◌, append-nil}
 use lib.ListN.{length, drop}
+use Rattle.std.specs.Prelude.{Option}
 use Rattle.lang.specs.Parts.{flat}
 use Rattle.lang.specs.Mark.{Kept, here, later, marks_of}
 use Rattle.lang.specs.Walk.{Walked}
@@ -20,7 +21,7 @@ use Rattle.rules.specs.Layout.{annotation_section, loss_section, isotope_section
 use Rattle.rules.proofs.Keeps.{kept_tail, kept_part}
 use Rattle.rules.proofs.Totals.{perm_length}
 use Rattle.counts.specs.declared.Counts.{Counts}
-use Rattle.faults.specs.declared.Fault.{Fault}
+use Rattle.faults.specs.declared.Refusal.{Refusal}
 use Rattle.store_sections.specs.Pages.{Event, bytes_for, bytes_of}
 use Rattle.store_sections.specs.Fills.{Fills}
 use Rattle.store_sections.proofs.Events.{flat_append}
@@ -45,7 +46,7 @@ pub record StoresRead (edition : Edition) (a : SpelledAnnotation) (es : List Eve
   pub says : Says a table
   pub fills : Fills edition (table ∷ []) es
 
-module _ (edition : Edition) (a : SpelledAnnotation) (k : List ℕ) (nth end : ℕ) (f : Fault) (e : EndsAnnotation k) (i at : ℕ) (kept : Kept (annotation_marks i a at)) where
+module _ (edition : Edition) (a : SpelledAnnotation) (k : List ℕ) (nth end : ℕ) (f : Option Refusal) (e : EndsAnnotation k) (i at : ℕ) (kept : Kept (annotation_marks i a at)) where
   abbrev read : Parts
   read = seen a k nth end f
 
@@ -155,7 +156,7 @@ module _ (edition : Edition) (a : SpelledAnnotation) (k : List ℕ) (nth end : �
       }
 
 -- whichever of a line it was read as, from whichever fault on: a fault is not stored
-pub store_read : (edition : Edition) (a : SpelledAnnotation) (k : List ℕ) (nth end : ℕ) (f : Fault) (i at : ℕ) → EndsAnnotation k → Kept (annotation_marks i a at) → length (annotation_text a ++ k) ≤ end
+pub store_read : (edition : Edition) (a : SpelledAnnotation) (k : List ℕ) (nth end : ℕ) (f : Option Refusal) (i at : ℕ) → EndsAnnotation k → Kept (annotation_marks i a at) → length (annotation_text a ++ k) ≤ end
     → StoresRead edition a (annotation_events edition (annotation_text a ++ k) (parts_of nth end (annotation_text a ++ k) f))
 store_read edition a k nth end f i at e kept h =
     let t = text_is a k in

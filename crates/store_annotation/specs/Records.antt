@@ -1,9 +1,12 @@
 -- The record of an annotation, from what was read. Document 01, "The stored table". Assumes nothing.
 use Rattle.std.specs.Prelude.{ℕ, ◌-◌, ◌^◌, Bool, cond, ◌&&◌, not, List, [], ◌∷◌, ◌++◌, eqb}
+use Rattle.std.specs.Option.{is_some, unwrap_or}
 use Rattle.rules.specs.Editions.{Edition, ed1, ed2}
-use Rattle.rules.specs.Stored.{Field, u8, u16, u32, u64, stores}
+use Rattle.rules.specs.Stored.{Field, flag, u8, u16, u32, u64, stores}
 use Rattle.counts.specs.declared.Counts.{Counts}
+use Rattle.read_ion.specs.Stored.{kind_number}
 use Rattle.read_tail.specs.declared.DecimalPart.{DecimalPart}
+use Rattle.read_tail.specs.Kinds.{part_number}
 use Rattle.read_annotation.specs.declared.Front.{Front}
 use Rattle.read_annotation.specs.declared.Tail.{Tail}
 
@@ -14,14 +17,14 @@ signed_of minus n = cond (minus && not (eqb n 0)) (2 ^ 64 - n) n
 -- bytes 0 to 9: kind, `&`, analyte present, series or letter, analyte, position, end
 abbrev pub front_fields : Front → List Field
 front_fields a =
-    u8 a.ion.kind ∷ u8 a.marked ∷ u8 a.present ∷ u8 a.ion.letter ∷ u16 a.analyte ∷ u16 a.ion.position ∷ u16 a.ion.last ∷ []
+    u8 (kind_number a.ion.kind) ∷ u8 (flag a.marked) ∷ u8 (flag (is_some a.analyte)) ∷ u8 a.ion.letter ∷ u16 (unwrap_or a.analyte 0) ∷ u16 a.ion.position ∷ u16 a.ion.last ∷ []
 
 unfoldable pub front_bytes : Front → List ℕ
 front_bytes a = stores (front_fields a)
 
 -- a deviation's kind or a confidence's presence, and its decimals
 abbrev pub kind_fields : DecimalPart → List Field
-kind_fields p = u8 p.kind ∷ u8 p.size.places ∷ []
+kind_fields p = u8 (part_number p.kind) ∷ u8 p.size.places ∷ []
 
 abbrev pub kind_bytes : DecimalPart → List ℕ
 kind_bytes p = stores (kind_fields p)

@@ -56,11 +56,11 @@ fn put_front(out: &mut [u8], to: usize, a: Front) -> usize
     ensures { Put out.old to (front_bytes a) out.new result }
 {
     let x = a.ion;
-    let p = put_le(out, to, x.kind as u64, 1);
-    let q = put_le(out, p, a.marked as u64, 1);
-    let r = put_le(out, q, a.present as u64, 1);
+    let p = put_le(out, to, u8::from(x.kind) as u64, 1);
+    let q = put_le(out, p, u64::from(a.marked), 1);
+    let r = put_le(out, q, u64::from(a.analyte.is_some()), 1);
     let s = put_le(out, r, x.letter as u64, 1);
-    let t = put_le(out, s, a.analyte as u64, 2);
+    let t = put_le(out, s, a.analyte.unwrap_or(0) as u64, 2);
     let u = put_le(out, t, x.position as u64, 2);
     put_le(out, u, x.last as u64, 2)
 }
@@ -70,7 +70,7 @@ fn put_kind(out: &mut [u8], to: usize, p: DecimalPart) -> usize
     ensures { Put out.old to (kind_bytes p) out.new result }
 {
     let size = p.size;
-    let q = put_le(out, to, p.kind as u64, 1);
+    let q = put_le(out, to, u8::from(p.kind) as u64, 1);
     put_le(out, q, size.places() as u64, 1)
 }
 

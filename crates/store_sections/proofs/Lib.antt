@@ -3,7 +3,6 @@ pub mod Events
 pub mod StoreLoop
 pub mod Sheets
 pub mod Page
-pub mod Places
 pub mod Headers
 pub mod Fills
 pub mod Tables

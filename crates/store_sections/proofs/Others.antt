@@ -1,11 +1,11 @@
--- A section that there is not: its cursor stands behind every output, and no cursor is moved. Assumes nothing.
+-- A section that there is not: its cursor stands behind every output. Assumes nothing.
 use Prim.Native.Nat.{ℕ, zero, suc, ◌<◌}
 use mathlib.Core.Path.{◌≡◌, refl}
 use native.Mathlib.Omega.{arith}
 use Rattle.rules.specs.Layout.{text_section}
 use Rattle.put_bytes.specs.Puts.{max_place}
 use Rattle.store_sections.specs.declared.Cursors.{Cursors}
-use Rattle.store_sections.specs.Pages.{at, moved}
+use Rattle.store_sections.specs.Pages.{at}
 
 pub at_none : (j : ℕ) (c : Cursors) → text_section < j → max_place ≡ at j c
 at_none zero c h = absurd (omega arith)
@@ -15,12 +15,3 @@ at_none (suc (suc (suc zero))) c h = absurd (omega arith)
 at_none (suc (suc (suc (suc zero)))) c h = absurd (omega arith)
 at_none (suc (suc (suc (suc (suc zero))))) c h = absurd (omega arith)
 at_none (suc (suc (suc (suc (suc (suc j)))))) c h = refl
-
-pub moved_none : (j r : ℕ) (c : Cursors) → text_section < j → c ≡ moved j r c
-moved_none zero r c h = absurd (omega arith)
-moved_none (suc zero) r c h = absurd (omega arith)
-moved_none (suc (suc zero)) r c h = absurd (omega arith)
-moved_none (suc (suc (suc zero))) r c h = absurd (omega arith)
-moved_none (suc (suc (suc (suc zero)))) r c h = absurd (omega arith)
-moved_none (suc (suc (suc (suc (suc zero))))) r c h = absurd (omega arith)
-moved_none (suc (suc (suc (suc (suc (suc j)))))) r c h = refl

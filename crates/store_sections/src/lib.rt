@@ -14,7 +14,8 @@ use layout::{
     edition_number,
 };
 
-// Where the next byte of each section goes.
+// Where the next byte of each section goes. Its fields are those of Counts, and it is a type of its own, so that no count is taken for
+// a place.
 #[derive(Clone, Copy)]
 pub struct Cursors {
     pub annotations: usize,
@@ -44,30 +45,25 @@ pub fn cursor(c: Cursors, j: usize) -> usize
 pub fn with_cursor(c: Cursors, j: usize, r: usize) -> Cursors
     ensures { result ≡ moved j r c }
 {
-    let mut k = c;
     match j {
-        ANNOTATION_SECTION => k.annotations = r,
-        LOSS_SECTION => k.losses = r,
-        ISOTOPE_SECTION => k.isotopes = r,
-        ITEM_SECTION => k.items = r,
-        UNIT_SECTION => k.units = r,
-        TEXT_SECTION => k.text = r,
-        _ => {}
+        ANNOTATION_SECTION => Cursors {
+            annotations: r,
+            ..c
+        },
+        LOSS_SECTION => Cursors { losses: r, ..c },
+        ISOTOPE_SECTION => Cursors { isotopes: r, ..c },
+        ITEM_SECTION => Cursors { items: r, ..c },
+        UNIT_SECTION => Cursors { units: r, ..c },
+        TEXT_SECTION => Cursors { text: r, ..c },
+        _ => c,
     }
-    k
 }
 
 // The place behind `n` things of a size, or the largest place where that would not fit.
 pub fn place_behind(at: usize, n: usize, size: usize) -> usize
     ensures { result ≡ behind at n size }
 {
-    if size < 1 {
-        return at;
-    }
-    if (usize::MAX - at) / size < n {
-        return usize::MAX;
-    }
-    at + n * size
+    at.saturating_add(n.saturating_mul(size))
 }
 
 // Where each section of a table of an edition begins.
@@ -81,11 +77,11 @@ pub fn starts(edition: Edition, n: Counts) -> Cursors
     let text = place_behind(units, n.units, UNIT_SIZE);
     Cursors {
         annotations: HEADER_SIZE,
-        losses: losses,
-        isotopes: isotopes,
-        items: items,
-        units: units,
-        text: text,
+        losses,
+        isotopes,
+        items,
+        units,
+        text,
     }
 }
 

@@ -100,13 +100,13 @@ closed_paired (b ∷ w) at d =
     by e h true = ap (closed_at e) (omega arith) ∙ h
     by e h false = rw (ne_eqb at (at + suc (length w)) (λ q. omega arith))
 
-pub no_name : (s : List ℕ) → length s < 1 → false ≡ is_name s
+pub no_name : (s : List ℕ) → length s < 1 → is_name s ≡ false
 no_name [] h = refl
 no_name (b ∷ s) h = absurd (omega arith)
 
-pub name_closed : (s : List ℕ) → 1 ≤ length s → (eqb (name_end_of s).len (length s) && eqb (name_end_of s).depth 0) ≡ is_name s
+pub name_closed : (s : List ℕ) → 1 ≤ length s → is_name s ≡ (eqb (name_end_of s).len (length s) && eqb (name_end_of s).depth 0)
 name_closed [] h = absurd (omega arith)
-name_closed (b ∷ w) h = ap (closed_at (name_end_of (b ∷ w))) (omega arith) ∙ closed_paired (b ∷ w) 0 0
+name_closed (b ∷ w) h = sym (ap (closed_at (name_end_of (b ∷ w))) (omega arith) ∙ closed_paired (b ∷ w) 0 0)
 
 -- the name of a loss is a name
 pub loss_is_name : (w : List ℕ) → T (is_loss_name w) → T (is_name w)

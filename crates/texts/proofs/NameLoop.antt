@@ -45,6 +45,8 @@ module _ {s : List ℕ} where
             is = p.is ∙ rw (drop-cons s at 0 h, ← e, y, ← o, add-one at);
           }
 
-    pub ends : length s ≤ at → record { len = at; depth = d } ≡ name_end_of s
+    pub ends : length s ≤ at → record { len = length s; depth = d } ≡ name_end_of s
     unfolding name_from
-    ends h = sym (p.is ∙ ap (λ (w : List ℕ). name_from w at d) (drop_of_length-le s h))
+    ends h =
+        let e : at ≡ length s = omega (arith, p.inside) in
+        sym (p.is ∙ ap (λ (w : List ℕ). name_from w at d) (drop_of_length-le s h) ∙ ap (λ (n : ℕ). record { len = n; depth = d }) e)

@@ -7,8 +7,7 @@ use borrow.Author.Tests.{ne_eqb, lt-ltb, le-ltb}
 use Rattle.rules.specs.Bytes.{bytes}
 use Rattle.rules.specs.Decimals.{decimal_text}
 use Rattle.numbers.specs.declared.Decimal.{Decimal}
-use Rattle.numbers.specs.declared.MadeDecimal.{MadeDecimal}
-use Rattle.numbers.specs.declared.MadeDecimal.TheVariants.{Fits, Past}
+use Rattle.std.specs.Prelude.{Option, Some, None}
 use Rattle.numbers.specs.declared.DecimalRead.{DecimalRead}
 use Rattle.numbers.specs.Making.{ruled}
 use Rattle.numbers.specs.declared.FirstByte.TheVariants.{DigitOrPoint}
@@ -18,15 +17,15 @@ use Rattle.try_terms.specs.Lines.{made_text, read_text, number_said, decimal_sai
 
 -- ---- a decimal
 
-made_as : (d : DecimalRead) (text : List ℕ) {m : MadeDecimal} → d ≡ decimal_of DigitOrPoint text → d.made ≡ m → field d.len ++ made_text m ≡ decimal_said text
-made_as d text h e = ap (λ (m : MadeDecimal). field d.len ++ made_text m) (sym e) ∙ ap read_text h
+made_as : (d : DecimalRead) (text : List ℕ) {m : Option Decimal} → d ≡ decimal_of DigitOrPoint text → d.made ≡ m → field d.len ++ made_text m ≡ decimal_said text
+made_as d text h e = ap (λ (m : Option Decimal). field d.len ++ made_text m) (sym e) ∙ ap read_text h
 
-pub decimal_fits : (d : DecimalRead) (text : List ℕ) {x : Decimal} → d ≡ decimal_of DigitOrPoint text → d.made ≡ Fits x
+pub decimal_fits : (d : DecimalRead) (text : List ℕ) {x : Decimal} → d ≡ decimal_of DigitOrPoint text → d.made ≡ Some x
     → field d.len ++ (field x.value ++ (field x.places ++ decimal_text (ruled x))) ≡ decimal_said text
 unfolding made_text
 decimal_fits d text h e = made_as d text h e
 
-pub decimal_past : (d : DecimalRead) (text : List ℕ) → d ≡ decimal_of DigitOrPoint text → d.made ≡ Past → field d.len ++ bytes "past" ≡ decimal_said text
+pub decimal_past : (d : DecimalRead) (text : List ℕ) → d ≡ decimal_of DigitOrPoint text → d.made ≡ None → field d.len ++ bytes "past" ≡ decimal_said text
 unfolding made_text
 decimal_past d text h e = made_as d text h e
 

@@ -4,24 +4,24 @@
 //   s TEXT   the element symbol: atomic number, bytes, symbol
 //   f TEXT   the formula: units, bytes, number and place of the first broken limit, preferred spelling
 // Any other line is answered by `?`. Of a line longer than half of the buffer the bytes that are kept are answered. Which lines are found is
-// stated by `next_line`, and `one_line` states what is said to the line that was found; what is written cannot be stated.
+// stated by `next_line`, and `Terms::answer` states what is said to the line that was found; what is written cannot be stated.
 #![tactic(auto)]
 
-ghost use Rattle.std.specs.Prelude.{take, drop};
 ghost use Rattle.put_bytes.specs.Puts.{Put};
+ghost use Rattle.io_lines.specs.Streams.{line_in};
 ghost use Rattle.try_terms.specs.Answered.{Answered};
-ghost use Rattle.try_terms.specs.Lines.{number_said, decimal_said, symbol_said, formula_said, answer_to};
+ghost use Rattle.try_terms.specs.Lines.{number_said, decimal_said, symbol_said, refusal_text, formula_said, answer_to};
 
 use elements::read_element;
-use faults::Fault;
+use faults::Refusal;
 use io_answers::put_field;
-use io_lines::{Stream, System, next_line, room};
-use numbers::{FirstByte, MadeDecimal, put_decimal, put_number, read_decimal, read_number};
+use io_lines::{Stream, System, room};
+use numbers::{FirstByte, put_decimal, put_number, read_decimal, read_number};
 use put_bytes::{put_run, put8};
 use put_formula::{put_preferred, put_symbol};
 use read_formula::formula;
-use run_program::{finish, was_asked};
-use slices::{part, rest};
+use run_program::{Answers, answer_all, was_asked};
+use slices::rest;
 use std::process::ExitCode;
 
 // The bytes of input that are held.
@@ -57,32 +57,24 @@ the text were read; a limit's number is 4 (a number past its bound), 5 (too many
     let mut buf = [0u8; BUFFER];
     let mut out = [0u8; ANSWERS];
     let mut system = System::begin(rt);
-    all(&mut system, b"try_terms", &mut buf, &mut out)
+    answer_all(&mut system, b"try_terms", &mut buf, &mut out, &mut Terms)
 }
 
-// Line after line, until none comes. A proved loop has to end, so it counts down from a number that no run uses up.
-fn all(system: &mut System, name: &[u8], buf: &mut [u8], out: &mut [u8]) -> ExitCode {
-    let mut s = next_line(system, buf, out, Stream::begin());
-    let mut turns = u64::MAX;
-    while turns > 0 {
-        if !s.found {
-            return finish(system, name, out, s);
-        }
-        let said = one_line(system, buf, out, s);
-        s = next_line(system, buf, out, said);
-        turns -= 1;
+// What answers lines of this program: it keeps nothing from one to the next.
+#[derive(Drop)]
+struct Terms;
+
+impl Answers for Terms {
+    ghost least = { 0 };
+
+    // The line that was found is answered, behind the answers that wait; a line feed ends its own.
+    fn answer(&mut self, system: &mut System, buf: &[u8], out: &mut [u8], s: Stream) -> Stream
+        ensures { Answered (line_in buf.now s) s out.old out.new result }
+    {
+        let t = room(system, out, s, ANSWER);
+        let end = answer(s.line(buf), out, t.waiting);
+        t.answered(put8(out, end, b'\n'))
     }
-    ExitCode::SUCCESS
-}
-
-// The line that was found is answered, behind the answers that wait; a line feed ends its own.
-fn one_line(system: &mut System, buf: &[u8], out: &mut [u8], s: Stream) -> Stream
-    ensures { Answered (take s.len (drop s.from buf.now)) s out.old out.new result }
-{
-    let t = room(system, out, s, ANSWER);
-    let line = part(buf, s.from, s.len);
-    let end = answer(line, out, t.waiting);
-    t.answered(put8(out, end, b'\n'))
 }
 
 // The answer to a line, put at a place; where it ends.
@@ -92,21 +84,14 @@ fn answer(line: &[u8], out: &mut [u8], at: usize) -> usize
     if line.len() < 2 {
         return put8(out, at, b'?');
     }
-    let kind = line[0];
     let text = rest(line, 2);
-    if kind == b'n' {
-        return say_number(text, out, at);
+    match line[0] {
+        b'n' => say_number(text, out, at),
+        b'd' => say_decimal(text, out, at),
+        b's' => say_symbol(text, out, at),
+        b'f' => say_formula(text, out, at),
+        _ => put8(out, at, b'?'),
     }
-    if kind == b'd' {
-        return say_decimal(text, out, at);
-    }
-    if kind == b's' {
-        return say_symbol(text, out, at);
-    }
-    if kind == b'f' {
-        return say_formula(text, out, at);
-    }
-    put8(out, at, b'?')
 }
 
 fn say_number(text: &[u8], out: &mut [u8], at: usize) -> usize
@@ -122,14 +107,13 @@ fn say_decimal(text: &[u8], out: &mut [u8], at: usize) -> usize
 {
     let d = read_decimal(text, FirstByte::DigitOrPoint);
     let p = put_field(out, at, d.len as u64);
-    let made = d.made;
-    match made {
-        MadeDecimal::Fits(x) => {
+    match d.made {
+        Some(x) => {
             let q = put_field(out, p, x.value());
             let r = put_field(out, q, x.places() as u64);
             put_decimal(out, r, x)
         }
-        MadeDecimal::Past => put_run(out, p, b"past"),
+        None => put_run(out, p, b"past"),
     }
 }
 
@@ -142,18 +126,28 @@ fn say_symbol(text: &[u8], out: &mut [u8], at: usize) -> usize
     put_symbol(out, q, e.number)
 }
 
+// Its number and place; 0 0 where nothing is refused.
+fn say_refusal(f: Option<Refusal>, out: &mut [u8], at: usize) -> usize
+    ensures { Put out.old at (refusal_text f) out.new result }
+{
+    match f {
+        Some(refusal) => {
+            let p = put_field(out, at, refusal.why.number() as u64);
+            put_field(out, p, refusal.place as u64)
+        }
+        None => {
+            let p = put_field(out, at, 0);
+            put_field(out, p, 0)
+        }
+    }
+}
+
 fn say_formula(text: &[u8], out: &mut [u8], at: usize) -> usize
     ensures { Put out.old at (formula_said text.now) out.new result }
 {
-    let none = Fault {
-        number: 0,
-        place: 0,
-    };
-    let f = formula(text, text.len(), none);
+    let f = formula(text, text.len(), None);
     let p = put_field(out, at, f.units as u64);
     let q = put_field(out, p, f.len as u64);
-    let fault = f.fault;
-    let r = put_field(out, q, fault.number as u64);
-    let t = put_field(out, r, fault.place as u64);
-    put_preferred(out, t, text, f.units)
+    let r = say_refusal(f.fault, out, q);
+    put_preferred(out, r, text, f.units)
 }

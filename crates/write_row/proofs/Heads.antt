@@ -16,12 +16,13 @@ use Rattle.rules.specs.Rows.{row_head_size, row_head}
 use Rattle.slices.specs.Numbers.{u16_at, u32_at, u64_at}
 use Rattle.slices.proofs.StoredNumbers.{oct_stored}
 use Rattle.numbers.specs.declared.Decimal.{Decimal}
-use Rattle.numbers.specs.declared.MadeDecimal.TheVariants.{Fits}
-use Rattle.numbers.specs.Making.{ruled, made_of, made_number}
+use Rattle.std.specs.Prelude.{Option, Some, None, is_some, unwrap_or}
+use Rattle.std.proofs.lemmas.Bool.{false≢true}
+use Rattle.numbers.specs.Making.{ruled, made_of}
 use Rattle.numbers.proofs.Bounds.{fits_within}
 use Rattle.write_row.specs.declared.Head.{Head}
-use Rattle.write_row.specs.Writings.{is_head, mz_in, intensity_in, head_of}
-use Rattle.read_row.proofs.Decimals.{kept, fits_made, both, made_zero}
+use Rattle.write_row.specs.Writings.{is_head, mz_in, intensity_in, good_head, head_in, head_of}
+use Rattle.read_row.proofs.Decimals.{kept, fits_made, both, made_some}
 
 -- ---- eight bytes, as a number and back
 
@@ -98,18 +99,18 @@ not_both : (a b : Bool) → cond a false b ≡ true → (a ≡ false) × (b ≡ 
 not_both true b e = absurd (subst T (sym e) tt)
 not_both false b e = (refl, e)
 
-pub head_good : (s : List ℕ) → Bytes s → (head_of s).good ≡ true → HeadRead s (head_of s)
-unfolding head_of is_head
+pub head_good : (s : List ℕ) → Bytes s → good_head s ≡ true → HeadRead s (head_in s)
+unfolding good_head head_in is_head
 head_good s y e =
     let mz = mz_in s in
     let intensity = intensity_in s in
     let last = eqb (u16_at (drop 18 s)) 0 in
-    let a = not_both (ltb (length s) row_head_size) (cond (eqb (made_number mz) 0) (cond (eqb (made_number intensity) 0) last false) false) e in
+    let a = not_both (ltb (length s) row_head_size) (cond (is_some mz) (cond (is_some intensity) last false) false) e in
     let n = ltb-false (length s) row_head_size a.0 in
-    let b = both (eqb (made_number mz) 0) (cond (eqb (made_number intensity) 0) last false) a.1 in
-    let c = both (eqb (made_number intensity) 0) last b.1 in
-    let p = made_zero (u64_at s) (get_or s 16 0) b.0 in
-    let q = made_zero (u64_at (drop 8 s)) (get_or s 17 0) c.0 in
+    let b = both (is_some mz) (cond (is_some intensity) last false) a.1 in
+    let c = both (is_some intensity) last b.1 in
+    let p = made_some (u64_at s) (get_or s 16 0) b.0 in
+    let q = made_some (u64_at (drop 8 s)) (get_or s 17 0) c.0 in
     let r = last_four s y n (eqb-true (u16_at (drop 18 s)) 0 c.1) in
     let k = drop 8 s in
     let t : little 8 (u64_at k) ++ drop 16 s ≡ k = ap (λ (l : List ℕ). little 8 (u64_at k) ++ l) (sym (drop-drop 8 8 s)) ∙ oct_back k (bytes_drop s 8 y) (omega (arith, length-drop 8 s)) in
@@ -122,18 +123,26 @@ head_good s y e =
           ∙ ap (λ (l : List ℕ). little 8 (u64_at s) ++ l) t ∙ oct_back s y (omega arith);
     }
 
+-- the head that was found
+pub head_is : (s : List ℕ) {h : Head} → head_of s ≡ Some h → (good_head s ≡ true) × (head_in s ≡ h)
+head_is s {h} e = by (good_head s) e
+  where
+    by : (t : Bool) → cond {A = Option Head} t (Some (head_in s)) None ≡ Some h → (t ≡ true) × (head_in s ≡ h)
+    by true q = (refl, ap (λ (o : Option Head). unwrap_or o h) q)
+    by false q = absurd (false≢true (ap is_some q))
+
 -- both numbers of a head that was found are within their bounds
-pub head_fits : (s : List ℕ) → (head_of s).good ≡ true → T (fits (ruled (head_of s).mz)) × T (fits (ruled (head_of s).intensity))
-unfolding head_of is_head
+pub head_fits : (s : List ℕ) → good_head s ≡ true → T (fits (ruled (head_in s).mz)) × T (fits (ruled (head_in s).intensity))
+unfolding good_head head_in is_head
 head_fits s e =
     let mz = mz_in s in
     let intensity = intensity_in s in
     let last = eqb (u16_at (drop 18 s)) 0 in
-    let a = not_both (ltb (length s) row_head_size) (cond (eqb (made_number mz) 0) (cond (eqb (made_number intensity) 0) last false) false) e in
-    let b = both (eqb (made_number mz) 0) (cond (eqb (made_number intensity) 0) last false) a.1 in
-    let c = both (eqb (made_number intensity) 0) last b.1 in
-    let p = made_zero (u64_at s) (get_or s 16 0) b.0 in
-    let q = made_zero (u64_at (drop 8 s)) (get_or s 17 0) c.0 in
+    let a = not_both (ltb (length s) row_head_size) (cond (is_some mz) (cond (is_some intensity) last false) false) e in
+    let b = both (is_some mz) (cond (is_some intensity) last false) a.1 in
+    let c = both (is_some intensity) last b.1 in
+    let p = made_some (u64_at s) (get_or s 16 0) b.0 in
+    let q = made_some (u64_at (drop 8 s)) (get_or s 17 0) c.0 in
     (subst (λ (d : Decimal). T (fits (ruled d))) (sym p.1) p.0, subst (λ (d : Decimal). T (fits (ruled d))) (sym q.1) q.0)
 
 -- ---- and a head that is there is found
@@ -145,11 +154,11 @@ module _ (mz intensity : rules.Decimal) (f : T (fits mz)) (g : T (fits intensity
   value_small : (d : rules.Decimal) → T (fits d) → (d.value < 2 ^ 64) × (d.places % 256 ≡ d.places)
   value_small d t = let x = fits_within d.value d.places (t_is (fits d) t) in (omega (arith, x.0), omega (arith, x.1))
 
-  made_head : (d : rules.Decimal) → T (fits d) → (v p : ℕ) → v ≡ d.value → p ≡ d.places → made_of v p ≡ Fits (kept d)
+  made_head : (d : rules.Decimal) → T (fits d) → (v p : ℕ) → v ≡ d.value → p ≡ d.places → made_of v p ≡ Some (kept d)
   made_head d t v p e q = ap₂ made_of e q ∙ fits_made d t
 
-  pub head_found : head_of held ≡ record { good = true; mz = kept mz; intensity = kept intensity }
-  unfolding head_of is_head u16_at
+  pub head_found : head_of held ≡ Some (record { mz = kept mz; intensity = kept intensity })
+  unfolding good_head head_in is_head u16_at
   head_found =
       let a = value_small mz f in
       let b = value_small intensity g in
@@ -168,4 +177,5 @@ pub head_one : (mz intensity : rules.Decimal) → T (fits mz) → T (fits intens
     → stores (row_head mz intensity) ++ k ≡ stores (row_head mz2 intensity2) ++ l → (mz ≡ mz2) × (intensity ≡ intensity2)
 head_one mz intensity f g k mz2 intensity2 x y l e =
     let q = sym (head_found mz intensity f g k) ∙ ap head_of e ∙ head_found mz2 intensity2 x y l in
-    (ap (λ (h : Head). ruled h.mz) q, ap (λ (h : Head). ruled h.intensity) q)
+    let none : Head = record { mz = kept mz; intensity = kept intensity } in
+    (ap (λ (o : Option Head). ruled (unwrap_or o none).mz) q, ap (λ (o : Option Head). ruled (unwrap_or o none).intensity) q)

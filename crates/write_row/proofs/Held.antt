@@ -12,8 +12,8 @@ use Rattle.rules.specs.RowAnswers.{HoldsRow}
 use Rattle.numbers.specs.declared.Decimal.{Decimal}
 use Rattle.numbers.specs.Making.{ruled}
 use Rattle.write_row.specs.declared.Head.{Head}
-use Rattle.write_row.specs.Writings.{head_of}
-use Rattle.write_row.proofs.Heads.{HeadRead, head_found}
+use Rattle.write_row.specs.Writings.{good_head, head_of}
+use Rattle.write_row.proofs.Heads.{HeadRead, head_is, head_found}
 
 -- the row of two numbers, as the code has them, and a table
 abbrev pub row_of : Decimal → Decimal → Table → Row
@@ -25,7 +25,5 @@ head_holds {s = s} x g = record { mz = x.mz; intensity = x.intensity; rest = dro
 pub rest_holds : {e : Edition} {s : List ℕ} {r : Row} → HoldsRow e s r → Holds e (drop row_head_size s) r.table
 rest_holds {e} {r = r} g = subst (λ (l : List ℕ). Holds e l r.table) (ap (drop row_head_size) g.is) g.table
 
-pub head_there : {e : Edition} {s : List ℕ} {r : Row} → HoldsRow e s r → (head_of s).good ≡ true
-head_there {r = r} g =
-    ap (λ (l : List ℕ). (head_of l).good) (sym g.is)
-    ∙ ap (λ (h : Head). h.good) (head_found r.mz r.intensity g.mz g.intensity g.rest)
+pub head_there : {e : Edition} {s : List ℕ} {r : Row} → HoldsRow e s r → good_head s ≡ true
+head_there {s = s} {r} g = (head_is s (ap head_of (sym g.is) ∙ head_found r.mz r.intensity g.mz g.intensity g.rest)).0

@@ -7,15 +7,18 @@ use native.Mathlib.Omega.{arith}
 use lib.Dec.{eqb, ltb}
 use lib.ListN.{length, take, drop, replicate}
 use lib.Seq.{sets, sets-eq, take-take, take-append_seam}
-use borrow.Author.Tests.{ltb-false}
+use borrow.Author.Tests.{ltb-false, ne_eqb}
+use Rattle.std.specs.Prelude.{Ok, Err}
 use Rattle.rules.specs.Answers as rules
 use Rattle.rules.specs.Answers.{refuses}
 use Rattle.rules.specs.Rows.{tab}
 use Rattle.put_bytes.specs.Puts.{Put}
 use Rattle.put_bytes.proofs.Putting.{put_length}
-use Rattle.answers.specs.declared.Answer.{Answer}
+use Rattle.faults.specs.Refusals.{number_of}
+use Rattle.answers.specs.Delivered.{Answer, answered}
 use Rattle.answers.specs.Behind.{capped, Behind}
 use Rattle.answers.proofs.Behind.{capped_is, capped_more, over_front}
+use Rattle.answers.proofs.One.{number_not_0}
 use Rattle.write_row.specs.Writings.{bare_over, labelled_over, finished_over, bare_of, labelled_of, behind_of}
 
 -- columns that stand in the first bytes of an output
@@ -71,11 +74,12 @@ module _ {c d d1 e : List ℕ} {to : ℕ} {b : rules.Answer} {r : Answer} (few :
           ap (λ (l : List ℕ). record { number = 0; place = 0; size = (capped (capped to 1) n); out = l })
           (sets-eq tab e to (omega (arith, to_is)) ∙ append_assoc (take to e) tab (drop (to + 1) e) ∙ ap₂ (λ (l : List ℕ) (m : ℕ). l ++ (tab ++ drop m e)) (columns_stand (omega arith)) j)
 
-  pub finished_is : finished_over e to r ≡ behind_of c to (length d) b
+  by_answer : (r : Answer) → finished_over e to r ≡ behind_of c to (length d) (answered r (drop (capped to 1) e))
   unfolding finished_over behind_of
-  finished_is =
-      ap (λ (n : ℕ). cond (eqb r.number 0) (cond (eqb r.len 0) (bare_over e to) (labelled_over e to r.len))
-      (cond (eqb r.number 8) (refuses n 8 (capped (capped to 1) r.place)) (refuses n r.number r.place))) size_is
-      ∙ ap₂ (λ (x y : rules.Answer). cond (eqb r.number 0) (cond (eqb r.len 0) x y)
-      (cond (eqb r.number 8) (refuses (length d) 8 (capped (capped to 1) r.place)) (refuses (length d) r.number r.place))) bare_is (labelled_is r.len)
-      ∙ ap (behind_of c to (length d)) w.is
+  by_answer (Ok n) = ap₂ (λ (x y : rules.Answer). cond (eqb n 0) x y) bare_is (labelled_is n)
+  by_answer (Err x) =
+      rw (ne_eqb (number_of x.why) 0 (number_not_0 x.why))
+      (ap (λ (n : ℕ). cond (eqb (number_of x.why) 8) (refuses n 8 (capped (capped to 1) x.place)) (refuses n (number_of x.why) x.place)) size_is)
+
+  pub finished_is : finished_over e to r ≡ behind_of c to (length d) b
+  finished_is = by_answer r ∙ ap (behind_of c to (length d)) w.is

@@ -19,13 +19,13 @@ use Rattle.rules.specs.Rows.{tab, Row, preferred_row, row_head_size}
 use Rattle.rules.specs.RowAnswers.{WritesRow, no_row}
 use Rattle.rules.proofs.RisesParts.{ion_some}
 use Rattle.put_bytes.specs.Puts.{max_place}
-use Rattle.write_table.specs.Writings.{written_of}
 use Rattle.write_table.proofs.Right.{Lent, write_right}
 use Rattle.numbers.specs.declared.Decimal.{Decimal}
 use Rattle.numbers.specs.Making.{ruled}
+use Rattle.std.specs.Prelude.{Option, Some, None}
 use Rattle.write_row.specs.declared.Head.{Head}
 use Rattle.answers.specs.Behind.{capped}
-use Rattle.write_row.specs.Writings.{head_of, columns_text, bare_of, labelled_of, behind_of, write_row_of}
+use Rattle.write_row.specs.Writings.{good_head, head_in, headed_of, columns_text, bare_of, labelled_of, behind_of, write_row_of}
 use Rattle.write_row.proofs.Heads.{Bytes, HeadRead, head_good}
 use Rattle.write_row.proofs.Held.{row_of, head_holds, rest_holds, head_there}
 use Rattle.answers.proofs.Behind.{capped_is}
@@ -142,15 +142,13 @@ module _ (s : List ℕ) (room : ℕ) (small : room ≤ max_place) (h : Head) (x 
 
 pub write_row_right : (l : LineEdition) (machine s : List ℕ) (room : ℕ) → room ≤ max_place → Bytes s → Lent l machine → WritesRow l s room (write_row_of machine s room)
 unfolding write_row_of
-write_row_right l machine s room small y lent = by (head_of s).good refl
+write_row_right l machine s room small y lent = by (good_head s) refl
   where
-    by : (t : Bool) → (head_of s).good ≡ t → WritesRow l s room (let columns = columns_text (head_of s).mz (head_of s).intensity in
-        let to = capped 0 (length columns) in
-        cond t (behind_of columns to room (written_of machine (drop row_head_size s) (room - capped to 1))) (refuses room 9 0))
+    by : (t : Bool) → good_head s ≡ t → WritesRow l s room (headed_of machine s room (cond {A = Option Head} t (Some (head_in s)) None))
     by true e =
         let x = head_good s y e in
-        let n = length (columns_text (head_of s).mz (head_of s).intensity) in
-        let z = short_text s room small (head_of s) x in
+        let n = length (columns_text (head_in s).mz (head_in s).intensity) in
+        let z = short_text s room small (head_in s) x in
         let p : capped 0 n ≡ n = capped_is 0 n (omega arith) ∙ omega arith in
-        rw (p, capped_is n 1 (omega arith)) (line_right s room small (head_of s) x (write_right l machine (drop row_head_size s) (room - (n + 1)) lent))
+        rw (p, capped_is n 1 (omega arith)) (line_right s room small (head_in s) x (write_right l machine (drop row_head_size s) (room - (n + 1)) lent))
     by false e = no_row (λ r g. subst T (sym (head_there g.holds) ∙ e) tt)

@@ -1,5 +1,5 @@
 -- The answer to bytes that may be a stored row. Assumes nothing.
-use Rattle.std.specs.Prelude.{ℕ, ◌-◌, Bool, false, cond, List, ◌++◌, eqb, ltb, length, get_or, drop, replicate}
+use Rattle.std.specs.Prelude.{ℕ, ◌-◌, Bool, false, cond, List, ◌++◌, eqb, ltb, length, get_or, drop, replicate, Option, is_some, Ok, Err, Some, None}
 use Rattle.std.proofs.lemmas.List.Edits.{sets}
 use Rattle.rules.specs.Decimals.{decimal_text}
 use Rattle.rules.specs.Answers as rules
@@ -7,28 +7,35 @@ use Rattle.rules.specs.Answers.{refuses}
 use Rattle.rules.specs.Rows.{tab, row_head_size}
 use Rattle.slices.specs.Numbers.{u16_at, u64_at}
 use Rattle.numbers.specs.declared.Decimal.{Decimal}
-use Rattle.numbers.specs.declared.MadeDecimal.{MadeDecimal}
-use Rattle.numbers.specs.Making.{ruled, made_of, made_number, made_decimal}
-use Rattle.answers.specs.declared.Answer.{Answer}
+use Rattle.numbers.specs.Making.{ruled, made_of, made_decimal}
+use Rattle.faults.specs.Refusals.{number_of}
+use Rattle.answers.specs.Delivered.{Answer}
 use Rattle.put_bytes.specs.Puts.{cleared}
 use Rattle.write_table.specs.Writings.{written_of}
 use Rattle.write_row.specs.declared.Head.{Head}
 use Rattle.write_row.specs.Heads.{intensity_at, mz_places_at, intensity_places_at, zero_at}
 use Rattle.answers.specs.Behind.{capped}
 
--- 20 bytes are there, no number is refused, and the last two bytes are zero
-unfoldable pub is_head : List ℕ → ℕ → ℕ → Bool
+-- 20 bytes are there, both numbers are within their bounds, and the last two bytes are zero
+unfoldable pub is_head : List ℕ → Option Decimal → Option Decimal → Bool
 is_head s mz intensity =
-    cond (ltb (length s) row_head_size) false (cond (eqb mz 0) (cond (eqb intensity 0) (eqb (u16_at (drop zero_at s)) 0) false) false)
+    cond (ltb (length s) row_head_size) false (cond (is_some mz) (cond (is_some intensity) (eqb (u16_at (drop zero_at s)) 0) false) false)
 
-abbrev pub mz_in : List ℕ → MadeDecimal
+abbrev pub mz_in : List ℕ → Option Decimal
 mz_in s = made_of (u64_at s) (get_or s mz_places_at 0)
 
-abbrev pub intensity_in : List ℕ → MadeDecimal
+abbrev pub intensity_in : List ℕ → Option Decimal
 intensity_in s = made_of (u64_at (drop intensity_at s)) (get_or s intensity_places_at 0)
 
-unfoldable pub head_of : List ℕ → Head
-head_of s = record { good = is_head s (made_number (mz_in s)) (made_number (intensity_in s)); mz = made_decimal (mz_in s); intensity = made_decimal (intensity_in s) }
+unfoldable pub good_head : List ℕ → Bool
+good_head s = is_head s (mz_in s) (intensity_in s)
+
+unfoldable pub head_in : List ℕ → Head
+head_in s = record { mz = made_decimal (mz_in s); intensity = made_decimal (intensity_in s) }
+
+-- the head that the bytes begin with
+abbrev pub head_of : List ℕ → Option Head
+head_of s = cond (good_head s) (Some (head_in s)) None
 
 -- the first two columns
 unfoldable pub columns_text : Decimal → Decimal → List ℕ
@@ -48,9 +55,9 @@ labelled_over d to n =
 
 -- the line was answered so
 unfoldable pub finished_over : List ℕ → ℕ → Answer → rules.Answer
-finished_over d to r =
-    cond (eqb r.number 0) (cond (eqb r.len 0) (bare_over d to) (labelled_over d to r.len))
-    (cond (eqb r.number 8) (refuses (length d) 8 (capped (capped to 1) r.place)) (refuses (length d) r.number r.place))
+finished_over d to (Ok n) = cond (eqb n 0) (bare_over d to) (labelled_over d to n)
+finished_over d to (Err r) =
+    cond (eqb (number_of r.why) 8) (refuses (length d) 8 (capped (capped to 1) r.place)) (refuses (length d) (number_of r.why) r.place)
 
 -- ---- the whole
 
@@ -72,11 +79,12 @@ behind_of columns to room b =
     (cond (eqb b.number 8) (refuses room 8 (capped (capped to 1) b.place)) (refuses room b.number b.place))
 
 -- of a row whose head was read
-abbrev pub headed_of : List ℕ → List ℕ → ℕ → Head → rules.Answer
-headed_of machine s room h =
+abbrev pub headed_of : List ℕ → List ℕ → ℕ → Option Head → rules.Answer
+headed_of machine s room (Some h) =
     let columns = columns_text h.mz h.intensity in
     let to = capped 0 (length columns) in
-    cond h.good (behind_of columns to room (written_of machine (drop row_head_size s) (room - capped to 1))) (refuses room 9 0)
+    behind_of columns to room (written_of machine (drop row_head_size s) (room - capped to 1))
+headed_of machine s room None = refuses room 9 0
 
 unfoldable pub write_row_of : List ℕ → List ℕ → ℕ → rules.Answer
 write_row_of machine s room = headed_of machine s room (head_of s)

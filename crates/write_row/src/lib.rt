@@ -8,7 +8,8 @@ ghost use Rattle.answers.specs.Behind.{Behind};
 ghost use Rattle.write_table.specs.Writings.{written_of};
 ghost use Rattle.write_row.specs.Writings.{is_head, head_of, columns_text, bare_over, labelled_over, finished_over, write_row_of};
 
-use answers::{Answer, plus, refuse};
+use answers::{plus, refuse};
+use faults::{Refusal, Why};
 use layout::ROW_HEAD_SIZE;
 use numbers::{Decimal, put_decimal};
 use put_bytes::{clear, clear_from, put8};
@@ -25,31 +26,26 @@ const INTENSITY_PLACES_AT: usize = 17;
 const ZERO_AT: usize = 18;
 
 // The bytes of a stored row before its table, as they were read.
-#[derive(Drop)]
+#[derive(Clone, Copy)]
 pub struct Head {
-    pub good: bool,
     pub mz: Decimal,
     pub intensity: Decimal,
 }
 
-// Whether a part begins with a head, of which both numbers were tested.
-fn is_head(stored: &[u8], mz: usize, intensity: usize) -> bool
+// Whether a part begins with a head, of which both numbers were tested: there is none where one is past its bounds.
+#[tactic(auto, unfolding(crate::specs::Writings::is_head))]
+fn is_head(stored: &[u8], mz: Option<Decimal>, intensity: Option<Decimal>) -> bool
     ensures { result ≡ is_head stored.now mz intensity }
 {
-    if stored.len() < ROW_HEAD_SIZE {
-        return false;
-    }
-    if mz != 0 {
-        return false;
-    }
-    if intensity != 0 {
-        return false;
-    }
-    u16_at(rest(stored, ZERO_AT)) == 0
+    stored.len() >= ROW_HEAD_SIZE
+        && mz.is_some()
+        && intensity.is_some()
+        && u16_at(rest(stored, ZERO_AT)) == 0
 }
 
-// The head of what may be a stored row.
-pub fn read_head(stored: &[u8]) -> Head
+// The head of what may be a stored row; none where that is no head.
+#[tactic(auto, unfolding(crate::specs::Writings::good_head, crate::specs::Writings::head_in))]
+pub fn read_head(stored: &[u8]) -> Option<Head>
     ensures { result ≡ head_of stored.now }
 {
     let mz = Decimal::new(u64_at(stored), byte_of(stored, MZ_PLACES_AT));
@@ -57,11 +53,13 @@ pub fn read_head(stored: &[u8]) -> Head
         u64_at(rest(stored, INTENSITY_AT)),
         byte_of(stored, INTENSITY_PLACES_AT),
     );
-    Head {
-        good: is_head(stored, mz.number(), intensity.number()),
-        mz: mz.decimal(),
-        intensity: intensity.decimal(),
+    if !is_head(stored, mz, intensity) {
+        return None;
     }
+    Some(Head {
+        mz: mz.unwrap_or(Decimal::zero()),
+        intensity: intensity.unwrap_or(Decimal::zero()),
+    })
 }
 
 // m/z, a tab, intensity; the place behind them.
@@ -74,7 +72,7 @@ pub fn put_columns(out: &mut [u8], mz: Decimal, intensity: Decimal) -> usize
 }
 
 // The line of a table, written into what stands behind a place: it is not moved.
-fn write_behind(machine: &[u8], table: &[u8], at: usize, out: &mut [u8]) -> Answer
+fn write_behind(machine: &[u8], table: &[u8], at: usize, out: &mut [u8]) -> Result<usize, Refusal>
     ensures { Behind at out.old out.new (written_of machine.now table.now (length out.old - at)) result }
 {
     let from = advance(0, at, out.len());
@@ -82,64 +80,55 @@ fn write_behind(machine: &[u8], table: &[u8], at: usize, out: &mut [u8]) -> Answ
 }
 
 // A row without a line: its columns end at a place.
-pub fn end_bare(to: usize, out: &mut [u8]) -> Answer
+pub fn end_bare(to: usize, out: &mut [u8]) -> Result<usize, Refusal>
     ensures { answered result out.new ≡ bare_over out.old to }
 {
     if out.len() < to {
         clear(out);
-        return refuse(8, to);
+        return refuse(Why::OutputTooShort, to);
     }
     clear_from(out, to);
-    Answer {
-        number: 0,
-        place: 0,
-        len: to,
-    }
+    Ok(to)
 }
 
 // A row with a line of n bytes, which stands behind the byte at a place: a tab.
-fn end_labelled(n: usize, to: usize, out: &mut [u8]) -> Answer
+fn end_labelled(n: usize, to: usize, out: &mut [u8]) -> Result<usize, Refusal>
     ensures { answered result out.new ≡ labelled_over out.old to n }
 {
     let size = plus(plus(to, 1), n);
     if out.len() < size {
         clear(out);
-        return refuse(8, size);
+        return refuse(Why::OutputTooShort, size);
     }
     put8(out, to, b'\t');
-    Answer {
-        number: 0,
-        place: 0,
-        len: size,
-    }
+    Ok(size)
 }
 
 // A row whose columns end at a place, by the answer to its table, whose line stands behind the byte there.
-fn finish_row(line: Answer, to: usize, out: &mut [u8]) -> Answer
+fn finish_row(line: Result<usize, Refusal>, to: usize, out: &mut [u8]) -> Result<usize, Refusal>
     ensures { answered result out.new ≡ finished_over out.old to line }
 {
-    if line.number == 0 {
-        if line.len == 0 {
-            return end_bare(to, out);
+    match line {
+        Ok(0) => end_bare(to, out),
+        Ok(len) => end_labelled(len, to, out),
+        Err(line) => {
+            clear(out);
+            match line.why {
+                Why::OutputTooShort => refuse(line.why, plus(plus(to, 1), line.place)),
+                _ => Err(line),
+            }
         }
-        return end_labelled(line.len, to, out);
     }
-    clear(out);
-    if line.number == 8 {
-        return refuse(8, plus(plus(to, 1), line.place));
-    }
-    refuse(line.number, line.place)
 }
 
 // A stored row by a lent machine.
-pub fn write_row_by(machine: &[u8], stored: &[u8], out: &mut [u8]) -> Answer
+pub fn write_row_by(machine: &[u8], stored: &[u8], out: &mut [u8]) -> Result<usize, Refusal>
     ensures { answered result out.new ≡ write_row_of machine.now stored.now (length out.old) }
 {
-    let head = read_head(stored);
-    if !head.good {
+    let Some(head) = read_head(stored) else {
         clear(out);
-        return refuse(9, 0);
-    }
+        return refuse(Why::NoTable, 0);
+    };
     let to = put_columns(out, head.mz, head.intensity);
     let line = write_behind(machine, rest(stored, ROW_HEAD_SIZE), plus(to, 1), out);
     finish_row(line, to, out)

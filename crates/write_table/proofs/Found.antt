@@ -20,8 +20,10 @@ use Rattle.layout.specs.declared.Edition.{Edition}
 use Rattle.layout.specs.declared.Edition.TheVariants.{First, Second}
 use Rattle.layout.specs.Editions.{edition_of}
 use Rattle.print_table.specs.Tables.{printed_table}
-use Rattle.answers.specs.declared.Answer.{Answer}
-use Rattle.answers.specs.Delivered.{answered, refused_of}
+use Rattle.faults.specs.declared.Why.{Why}
+use Rattle.faults.specs.declared.Why.TheVariants.{NoTable}
+use Rattle.faults.specs.Refusals.{number_of}
+use Rattle.answers.specs.Delivered.{Answer, answered, refused_of}
 use Rattle.read_line.specs.Readings.{keeps_all}
 use Rattle.read_line.specs.Back.{reads_to, few, zeros}
 use Rattle.answers.specs.Delivered.{line_over}
@@ -30,41 +32,13 @@ use Rattle.write_table.specs.declared.Wanted.{Wanted}
 
 -- ---- the line of a table, by its edition
 
-pub number_old : (w : List ℕ) {b : Bool} → b ≡ keeps_all current w → b ≡ true → 10 ≡ first_number w
-unfolding first_number
-number_old w e t = rw (sym e ∙ t)
-
-pub number_none : (w : List ℕ) {b : Bool} → b ≡ keeps_all current w → b ≡ false → 9 ≡ first_number w
-unfolding first_number
-number_none w e t = rw (sym e ∙ t)
-
-module _ (w : List ℕ) (room : ℕ) {e : Edition} {out : List ℕ} {r : Answer} where
-  pub line_first : e ≡ First → out ≡ replicate room 0 → {n : ℕ} → n ≡ first_number w → r ≡ refused_of n 0 → answered r out ≡ line_of (edition_of e) w room
+module _ (w : List ℕ) (room : ℕ) {e : Edition} where
+  pub line_first : {out : List ℕ} {r : Answer} → e ≡ First → out ≡ replicate room 0 → {y : Why} → number_of y ≡ first_number w → r ≡ refused_of y 0 → answered r out ≡ line_of (edition_of e) w room
   line_first p z q f =
       ap₂ (λ (r : Answer) (out : List ℕ). answered r out) f z ∙ ap (λ (n : ℕ). refuses room n 0) q ∙ ap (λ (e : Edition). line_of (edition_of e) w room) (sym p)
 
-  pub line_second : e ≡ Second → answered r out ≡ line_over w room → answered r out ≡ line_of (edition_of e) w room
+  pub line_second : {a : Rules.Answer} → e ≡ Second → a ≡ line_over w room → a ≡ line_of (edition_of e) w room
   line_second p q = q ∙ ap (λ (e : Edition). line_of (edition_of e) w room) (sym p)
-
--- ---- not found to be the line of a table
-
-module _ (machine w table : List ℕ) {d : Edition} where
-  pub unheld_first : d ≡ First → 9 ≡ unheld_number (edition_of d) machine w table
-  unheld_first q = ap (λ (d : Edition). unheld_number (edition_of d) machine w table) (sym q)
-
-  module _ (q : d ≡ Second) {b : Bool} (l : b ≡ takes_letters machine) where
-    second_is : {n : ℕ} → n ≡ unheld_number ed2 machine w table → n ≡ unheld_number (edition_of d) machine w table
-    second_is e = e ∙ ap (λ (d : Edition). unheld_number (edition_of d) machine w table) (sym q)
-
-    pub unheld_second : b ≡ true → 9 ≡ unheld_number (edition_of d) machine w table
-    unheld_second t = second_is (rw (sym l ∙ t))
-
-    module _ (f : b ≡ false) {h : Bool} (r : h ≡ reads_to current (scanned_by (machine_bytes second_lines) w) (zeros max_any_table) w table) where
-      pub unheld_letters : h ≡ true → 20 ≡ unheld_number (edition_of d) machine w table
-      unheld_letters t = second_is (rw (sym l ∙ f, sym r ∙ t))
-
-      pub unheld_none : h ≡ false → 9 ≡ unheld_number (edition_of d) machine w table
-      unheld_none t = second_is (rw (sym l ∙ f, sym r ∙ t))
 
 -- ---- the machine that judges
 
@@ -86,17 +60,17 @@ module _ (wanted : Wanted) (machine table : List ℕ) (room : ℕ) {d : Edition}
 
 -- ---- found to be the line of a table
 
-module _ (wanted : Wanted) (e : rules.Edition) (w : List ℕ) (room : ℕ) {out : List ℕ} {r : Answer} where
-  pub found_not : (held : Bool) {number n : ℕ} → held ≡ false → number ≡ n → out ≡ replicate room 0 → r ≡ refused_of number 0 → answered r out ≡ found_of wanted e held n w room
+module _ (wanted : Wanted) (e : rules.Edition) (w : List ℕ) (room : ℕ) where
+  pub found_not : {out : List ℕ} {r : Answer} (held : Bool) {y : Why} {n : ℕ} → held ≡ false → number_of y ≡ n → out ≡ replicate room 0 → r ≡ refused_of y 0 → answered r out ≡ found_of wanted e held n w room
   unfolding found_of
   found_not held h i z f = rw (h, f, z, i)
 
-  pub found_held : (held : Bool) (n : ℕ) → held ≡ true → answered r out ≡ handed_of wanted e w room → answered r out ≡ found_of wanted e held n w room
+  pub found_held : {a : Rules.Answer} (held : Bool) (n : ℕ) → held ≡ true → a ≡ handed_of wanted e w room → a ≡ found_of wanted e held n w room
   unfolding found_of
   found_held held n h q = q ∙ rw h
 
 module _ (wanted : Wanted) (machine : List ℕ) (most : ℕ) (scratch w table : List ℕ) (room : ℕ) where
-  pub found_long : {out : List ℕ} {r : Answer} → most < length w → out ≡ replicate room 0 → r ≡ refused_of 9 0
+  pub found_long : {out : List ℕ} {r : Answer} → most < length w → out ≡ replicate room 0 → r ≡ refused_of NoTable 0
       → answered r out ≡ found_in wanted machine most scratch w table room
   unfolding found_in
   found_long h z e = rw (lt-ltb most (length w) h, e, z)

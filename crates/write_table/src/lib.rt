@@ -8,6 +8,7 @@ ghost use Rattle.std.specs.Prelude.{◌≡◌, length};
 ghost use Rattle.layout.specs.Editions.{edition_of};
 ghost use Rattle.print_table.specs.Tables.{printed_table};
 ghost use Rattle.answers.specs.Delivered.{answered};
+ghost use Rattle.faults.specs.Refusals.{number_of};
 ghost use Rattle.rules.specs.Largest.{max_any_table};
 ghost use Rattle.read_line.specs.Back.{zeros};
 ghost use Rattle.scan_line.specs.Steps.{machine_bytes, scanned_by};
@@ -15,7 +16,8 @@ ghost use Rattle.rules.specs.Editions.{current, second_lines};
 ghost use Rattle.read_line.specs.Back.{reads_to};
 ghost use Rattle.write_table.specs.Writings.{edition_for, first_number, unheld_number, line_of, handed_of, found_of, found_in, longest_printed, answer_of, judged_first, answer_for, written_of, converted_of};
 
-use answers::{Answer, refuse, write_line};
+use answers::{refuse, write_line};
+use faults::{Refusal, Why};
 use layout::Edition;
 use print_table::{edition_at, print_table};
 use put_bytes::clear;
@@ -43,31 +45,33 @@ fn edition_for(wanted: Wanted, table: &[u8]) -> Edition
     }
 }
 
-// The number by which the line of an edition 1 table is refused: 10 where it can be read today, else 9.
-fn first_number(line: &[u8]) -> usize
-    ensures { result ≡ first_number line.now }
+// Why the line of an edition 1 table is refused: 10 where it can be read today, else 9.
+#[tactic(auto, unfolding(crate::specs::Writings::first_number))]
+fn why_first(line: &[u8]) -> Why
+    ensures { number_of result ≡ first_number line.now }
 {
     if keeps_all(Edition::Second, line) {
-        return 10;
+        Why::FirstEditionTable
+    } else {
+        Why::NoTable
     }
-    9
 }
 
 // The line of a table of an edition.
-fn put_line(edition: Edition, line: &[u8], out: &mut [u8]) -> Answer
+fn put_line(edition: Edition, line: &[u8], out: &mut [u8]) -> Result<usize, Refusal>
     ensures { answered result out.new ≡ line_of (edition_of edition) line.now (length out.old) }
 {
     match edition {
         Edition::First => {
             clear(out);
-            refuse(first_number(line), 0)
+            refuse(why_first(line), 0)
         }
         Edition::Second => write_line(line, out),
     }
 }
 
 // What is wanted, where the line is that of a table of an edition.
-fn hand_out(wanted: Wanted, edition: Edition, line: &[u8], out: &mut [u8]) -> Answer
+fn hand_out(wanted: Wanted, edition: Edition, line: &[u8], out: &mut [u8]) -> Result<usize, Refusal>
     ensures { answered result out.new ≡ handed_of wanted (edition_of edition) line.now (length out.old) }
 {
     match wanted {
@@ -84,21 +88,19 @@ fn reads_by_second(line: &[u8], table: &[u8]) -> bool
     reads_to(&second, Edition::Second, line, table)
 }
 
-// The number by which bytes are refused that the line printed for them does not read to by a machine: 20 where it does in the second edition, so that only its letters
+// Why bytes are refused that the line printed for them does not read to by a machine: 20 where it does in the second edition, so that only its letters
 // are in the way, else 9.
-fn unheld_number(edition: Edition, machine: &[u8], line: &[u8], table: &[u8]) -> usize
-    ensures { result ≡ unheld_number (edition_of edition) machine.now line.now table.now }
+fn why_unheld(edition: Edition, machine: &[u8], line: &[u8], table: &[u8]) -> Why
+    ensures { number_of result ≡ unheld_number (edition_of edition) machine.now line.now table.now }
 {
     match edition {
-        Edition::First => 9,
+        Edition::First => Why::NoTable,
         Edition::Second => {
-            if takes_letters(machine) {
-                return 9;
+            if !takes_letters(machine) && reads_by_second(line, table) {
+                Why::Letters
+            } else {
+                Why::NoTable
             }
-            if reads_by_second(line, table) {
-                return 20;
-            }
-            9
         }
     }
 }
@@ -112,26 +114,31 @@ fn finish(
     held: bool,
     table: &[u8],
     out: &mut [u8],
-) -> Answer
+) -> Result<usize, Refusal>
     ensures { answered result out.new ≡ found_of wanted (edition_of edition) held (unheld_number (edition_of edition) machine.now line.now table.now) line.now (length out.old) }
 {
     if !held {
-        let number = unheld_number(edition, machine, line, table);
+        let why = why_unheld(edition, machine, line, table);
         clear(out);
-        return refuse(number, 0);
+        return refuse(why, 0);
     }
     hand_out(wanted, edition, line, out)
 }
 
 // By buffers that hold the line and the bytes of every table.
-fn answer_many(wanted: Wanted, machine: &[u8], table: &[u8], out: &mut [u8]) -> Answer
+fn answer_many(
+    wanted: Wanted,
+    machine: &[u8],
+    table: &[u8],
+    out: &mut [u8],
+) -> Result<usize, Refusal>
     ensures { answered result out.new ≡ found_in wanted machine.now longest_printed (zeros max_any_table) (printed_table table.now) table.now (length out.old) }
 {
     let mut buffer = [0u8; LINE];
     let n = print_table(&mut buffer, 0, table);
     if LINE < n {
         clear(out);
-        return refuse(9, 0);
+        return refuse(Why::NoTable, 0);
     }
     let line = first_of(&buffer, n);
     let edition = edition_for(wanted, table);
@@ -140,7 +147,7 @@ fn answer_many(wanted: Wanted, machine: &[u8], table: &[u8], out: &mut [u8]) -> 
 }
 
 // By small buffers, where they suffice: clearing large ones costs more than writing most tables.
-fn answer_by(wanted: Wanted, machine: &[u8], table: &[u8], out: &mut [u8]) -> Answer
+fn answer_by(wanted: Wanted, machine: &[u8], table: &[u8], out: &mut [u8]) -> Result<usize, Refusal>
     ensures { answered result out.new ≡ answer_of wanted machine.now table.now (length out.old) }
 {
     let mut buffer = [0u8; FEW];
@@ -158,7 +165,12 @@ fn answer_by(wanted: Wanted, machine: &[u8], table: &[u8], out: &mut [u8]) -> An
 }
 
 // A table of edition 1: its line is one of the first edition, whichever is asked for.
-fn answer_first(wanted: Wanted, machine: &[u8], table: &[u8], out: &mut [u8]) -> Answer
+fn answer_first(
+    wanted: Wanted,
+    machine: &[u8],
+    table: &[u8],
+    out: &mut [u8],
+) -> Result<usize, Refusal>
     ensures { answered result out.new ≡ answer_of wanted (judged_first machine.now) table.now (length out.old) }
 {
     if !takes_letters(machine) {
@@ -169,7 +181,12 @@ fn answer_first(wanted: Wanted, machine: &[u8], table: &[u8], out: &mut [u8]) ->
 }
 
 // By the machine that bytes of their edition are held against.
-fn answer_for(wanted: Wanted, machine: &[u8], table: &[u8], out: &mut [u8]) -> Answer
+fn answer_for(
+    wanted: Wanted,
+    machine: &[u8],
+    table: &[u8],
+    out: &mut [u8],
+) -> Result<usize, Refusal>
     ensures { answered result out.new ≡ answer_for wanted machine.now table.now (length out.old) }
 {
     match edition_for(wanted, table) {
@@ -179,14 +196,14 @@ fn answer_for(wanted: Wanted, machine: &[u8], table: &[u8], out: &mut [u8]) -> A
 }
 
 // A stored table written, by a lent machine: whoever has many tables makes it once.
-pub fn write_by(machine: &[u8], table: &[u8], out: &mut [u8]) -> Answer
+pub fn write_by(machine: &[u8], table: &[u8], out: &mut [u8]) -> Result<usize, Refusal>
     ensures { answered result out.new ≡ written_of machine.now table.now (length out.old) }
 {
     answer_for(Wanted::Line, machine, table, out)
 }
 
 // A stored table of edition 1 converted to edition 2, by a lent machine.
-pub fn convert_by(machine: &[u8], table: &[u8], out: &mut [u8]) -> Answer
+pub fn convert_by(machine: &[u8], table: &[u8], out: &mut [u8]) -> Result<usize, Refusal>
     ensures { answered result out.new ≡ converted_of machine.now table.now (length out.old) }
 {
     answer_for(Wanted::Table, machine, table, out)

@@ -4,4 +4,4 @@ use Rattle.answers.proofs.plus.Goals as goal
 
 pub returns : goal.returns
 unfolding capped
-returns c = c.advance.ensures
+returns c = c.saturating_add.ensures

@@ -5,14 +5,11 @@ use mathlib.Core.Path.{refl}
 use native.Mathlib.Omega.{arith}
 use Rattle.io_answers.proofs.put_hex.Goals as goal
 
-pub loop-taken-init : goal.loop-taken-init
-loop-taken-init c = begin (omega arith) (omega arith) refl
+pub loop-b-init : goal.loop-b-init
+loop-b-init c = begin (omega arith) (omega arith) refl
 
-pub loop-taken-preserved : goal.loop-taken-preserved
-loop-taken-preserved c = more c.loop-taken.invariant c.put_byte-to.ensures (hex_more _ _ c.loop-taken-test.true)
-
-pub shape_of-out : goal.shape_of-out
-shape_of-out c = c.loop-taken.invariant.same
+pub loop-b-preserved : goal.loop-b-preserved
+loop-b-preserved c = more c.loop-b.invariant c.put_byte-to.ensures (hex_more _ _ c.loop-b-test.true)
 
 pub returns : goal.returns
-returns c = ends c.loop-taken.invariant (hex_none _ _ c.loop-taken-test.false)
+returns c = ends c.loop-b.invariant (hex_none _ _ c.loop-b-test.false)

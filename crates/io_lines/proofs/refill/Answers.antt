@@ -1,12 +1,12 @@
 -- `io_lines::refill` meets its contract. Assumes nothing.
 use Rattle.io_lines.proofs.Fills.{refilled}
-use Rattle.io_lines.specs.Refills.{writing, stops}
+use Rattle.io_lines.specs.Refills.{stops}
 use mathlib.Core.Path.{refl}
 use native.Mathlib.Omega.{arith}
 use Rattle.io_lines.proofs.refill.Goals as goal
 
-pub returns-then-not-flush : goal.returns-then-not-flush
-returns-then-not-flush c = stops refl _ writing c.stopped.ensures
+pub returns-then-is_err : goal.returns-then-is_err
+returns-then-is_err c = stops refl _ c.stopped.ensures
 
 pub returns : goal.returns
 returns c =

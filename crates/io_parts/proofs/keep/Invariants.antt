@@ -1,10 +1,6 @@
 -- `io_parts::keep` meets its contract. Assumes nothing.
 use Rattle.io_parts.proofs.Moves.{Moving}
-use Prim.Native.Nat.{◌-◌}
 use Rattle.io_parts.proofs.keep.Given as goal
 
 abbrev pub invariant-loop-done : goal.invariant-loop-done
 invariant-loop-done l = Moving l.initial.buf l.from l.kept l.done l.buf
-
-abbrev pub decreases-loop-done : goal.decreases-loop-done
-decreases-loop-done l = l.kept - l.done

@@ -1,15 +1,20 @@
--- `io_parts::line_end` meets its contract: in its loop no line feed is among the bytes passed. Assumes nothing.
-use Rattle.io_parts.proofs.ToLineFeed.{begin, found, turn, ends}
+-- `io_parts::line_end` meets its contract: the first line feed, or the end. Assumes nothing.
+use Prim.Native.Nat.{ℕ}
+use mathlib.Core.Path.{◌≡◌, refl, sym, ◌∙◌}
+use native.Mathlib.Omega.{arith}
+use borrow.Author.Rules.{rules}
+use borrow.Author.Tests.{tests}
+use Rattle.std.proofs.lemmas.Iterator.{YieldsList-from_slice, IsFirst-from_position, index_from_first}
+use Rattle.io_parts.specs.Feeds.{before_feed}
+use Rattle.io_parts.proofs.ToLineFeed.{found, goes, inside}
 use Rattle.io_parts.proofs.line_end.Goals as goal
 
-pub loop-at-init : goal.loop-at-init
-loop-at-init c = begin
-
-pub returns-then-bytes-at-eq10 : goal.returns-then-bytes-at-eq10
-returns-then-bytes-at-eq10 c = found c.loop-at.invariant c.loop-at-test.true c.if-bytes-at-eq10.true
-
-pub loop-at-preserved : goal.loop-at-preserved
-loop-at-preserved c = turn c.loop-at.invariant c.loop-at-test.true c.if-bytes-at-eq10.false
-
 pub returns : goal.returns
-returns c = ends c.loop-at.invariant c.loop-at-test.false
+unfolding before_feed
+returns c =
+    let No : ℕ → Type 0 = λ b. b ≡ 10 → ⊥ in
+    let Yes : ℕ → Type 0 = λ b. b ≡ 10 in
+    let s = c.args.bytes.now in
+    let first = IsFirst-from_position _ _ _ Yes No c.position.ensures.ran (YieldsList-from_slice s cc) (λ x q k. search (rules, tests)) (λ x q k. search (rules, tests)) in
+    let is = c.unwrap_or.ensures ∙ sym (index_from_first before_feed Yes No refl found goes s c.position.result first) in
+    record { is = is; inside = omega (arith, is, inside s) }

@@ -3,8 +3,8 @@ use Rattle.std.proofs.Common.{arith}
 use Rattle.numbers.proofs.Written.{put_no_place, put_place_more}
 use Rattle.numbers.proofs.+put_last.Goals as goal
 
-pub returns-then-n-lt1 : goal.returns-then-n-lt1
-returns-then-n-lt1 t c = put_no_place _ _ (omega arith) (omega arith) c.if-n-lt1.true
+pub returns-then-n-eq0 : goal.returns-then-n-eq0
+returns-then-n-eq0 t c = put_no_place _ _ (omega arith) (omega arith) (omega (arith, c.if-n-eq0.true))
 
-pub returns : goal.returns
-returns t c = put_place_more _ _ c.if-n-lt1.false c.put_last-to.ensures c.put8.ensures
+pub returns-else-n-eq0 : goal.returns-else-n-eq0
+returns-else-n-eq0 t c = put_place_more _ _ (omega (arith, c.if-n-eq0.false)) c.put_last-to.ensures c.put8.ensures

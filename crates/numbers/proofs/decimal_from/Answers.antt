@@ -18,17 +18,17 @@ returns-then-places-eq0 c =
     let w = walked c.digits_from-whole.ensures c.fraction_from-all.ensures in
     found_whole w c.places_of.ensures c.new-made.ensures c.if-places-eq0.true
 
-pub overflow_add-result : goal.overflow_add-result
-overflow_add-result c =
+pub overflow_add-len : goal.overflow_add-len
+overflow_add-len c =
     let w = walked c.digits_from-whole.ensures c.fraction_from-all.ensures in
     let r = room w c.if-places-eq0.false in search rules
 
-pub overflow_add-result-2 : goal.overflow_add-result-2
-overflow_add-result-2 c =
+pub overflow_add-len-else-places-eq0 : goal.overflow_add-len-else-places-eq0
+overflow_add-len-else-places-eq0 c =
     let w = walked c.digits_from-whole.ensures c.fraction_from-all.ensures in
     let r = room w c.if-places-eq0.false in search rules
 
-pub returns : goal.returns
-returns c =
+pub returns-else-places-eq0 : goal.returns-else-places-eq0
+returns-else-places-eq0 c =
     let w = walked c.digits_from-whole.ensures c.fraction_from-all.ensures in
     found_point w c.places_of.ensures c.new-made.ensures c.if-places-eq0.false

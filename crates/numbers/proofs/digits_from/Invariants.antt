@@ -1,11 +1,6 @@
 -- `numbers::digits_from` meets its contract: in its loop the digits passed, and those left, make the whole. Assumes nothing.
 use Rattle.numbers.proofs.Walks.{Passed}
-use lib.ListN.{length}
-use Prim.Native.Nat.{◌-◌}
 use Rattle.numbers.proofs.digits_from.Given as goal
 
 abbrev pub invariant-loop-len : goal.invariant-loop-len
 invariant-loop-len l = Passed l.s l.before l.most l.value l.len
-
-abbrev pub decreases-loop-len : goal.decreases-loop-len
-decreases-loop-len l = length l.s - l.len

@@ -7,5 +7,5 @@ use Rattle.print_count.proofs.put_count.Goals as goal
 pub returns-then-n-le1 : goal.returns-then-n-le1
 returns-then-n-le1 c = put_as (put_none (omega arith) (omega arith)) (count_one _ (omega (arith, c.if-n-le1.true)))
 
-pub returns : goal.returns
-returns c = put_as c.put_number.ensures (count_more _ (omega (arith, c.if-n-le1.false)))
+pub returns-else-n-le1 : goal.returns-else-n-le1
+returns-else-n-le1 c = put_as c.put_number.ensures (count_more _ (omega (arith, c.if-n-le1.false)))

@@ -7,5 +7,5 @@ use Rattle.print_ion.proofs.print_flag.Goals as goal
 pub returns-then-byte_of-eq0 : goal.returns-then-byte_of-eq0
 returns-then-byte_of-eq0 c = put_as (put_none (omega arith) (omega arith)) (flag_none _ c.byte_of.ensures c.if-byte_of-eq0.true)
 
-pub returns : goal.returns
-returns c = put_as c.put8.ensures (flag_some _ c.byte_of.ensures c.if-byte_of-eq0.false)
+pub returns-else-byte_of-eq0 : goal.returns-else-byte_of-eq0
+returns-else-byte_of-eq0 c = put_as c.put8.ensures (flag_some _ c.byte_of.ensures c.if-byte_of-eq0.false)

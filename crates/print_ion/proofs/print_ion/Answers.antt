@@ -1,5 +1,4 @@
 -- `print_ion::print_ion` meets its contract: each of the nine kinds by its arm, and nothing for any other. Assumes nothing.
-use Rattle.lang.proofs.Arms.{none_to}
 use Rattle.print_ion.proofs.TextParts.{kind_is, kind_none}
 use Rattle.print_ion.specs.Ions.{kind_printed}
 use lib.ListN.{take}
@@ -48,4 +47,4 @@ returns-in-9 c = put_as c.print_unknown.ensures (kind_is _ _ _ c.byte_of.ensures
 pub returns-in_default : goal.returns-in_default
 returns-in_default c =
     put_as (put_none (omega arith) (omega arith)) (kind_none _ _ _ c.byte_of.ensures
-    (c.first_of-w.ensures ∙ ap (λ (n : ℕ). take n c.args.t.now) c.ion_bytes.ensures) (none_to 9 _ c.in_default.in_default-own.rest))
+    (c.first_of-w.ensures ∙ ap (λ (n : ℕ). take n c.args.t.now) c.ion_bytes.ensures) (λ a b. omega (arith, a, b)))

@@ -1,9 +1,8 @@
--- `print_parts::name_of` meets its contract: bytes of a name, as the kind of the record says. Assumes nothing.
-use Rattle.print_parts.proofs.Tests.{name_some, name_none}
+-- `print_parts::name_of` meets its contract: bytes of the name that the record says. Assumes nothing.
+use mathlib.Core.Path.{ap, ◌∙◌}
+use Rattle.changes.specs.Contents.{content_bytes}
+use Rattle.print_parts.proofs.Tests.{name_told}
 use Rattle.print_parts.proofs.name_of.Goals as goal
 
-pub returns-then-byte_of-eq1 : goal.returns-then-byte_of-eq1
-returns-then-byte_of-eq1 c = name_some c.args.l.now c.byte_of.ensures c.if-byte_of-eq1.true c.number_at.ensures
-
 pub returns : goal.returns
-returns c = name_none c.args.l.now c.byte_of.ensures c.if-byte_of-eq1.false
+returns c = c.name_bytes.ensures ∙ ap content_bytes c.content_of.ensures ∙ name_told c.args.l.now

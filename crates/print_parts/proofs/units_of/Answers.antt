@@ -1,9 +1,8 @@
--- `print_parts::units_of` meets its contract: units, as the kind of the record says. Assumes nothing.
-use Rattle.print_parts.proofs.Tests.{units_some, units_none}
+-- `print_parts::units_of` meets its contract: units of what the record says. Assumes nothing.
+use mathlib.Core.Path.{ap, ◌∙◌}
+use Rattle.changes.specs.Contents.{content_units}
+use Rattle.print_parts.proofs.Tests.{units_told}
 use Rattle.print_parts.proofs.units_of.Goals as goal
 
-pub returns-then-byte_of-eq0 : goal.returns-then-byte_of-eq0
-returns-then-byte_of-eq0 c = units_some c.args.l.now c.byte_of.ensures c.if-byte_of-eq0.true c.number_at.ensures
-
 pub returns : goal.returns
-returns c = units_none c.args.l.now c.byte_of.ensures c.if-byte_of-eq0.false
+returns c = c.units.ensures ∙ ap content_units c.content_of.ensures ∙ units_told c.args.l.now

@@ -24,9 +24,6 @@ loop-i-preserved c =
     line_turn _ _ c.args.table.now c.loop-i.invariant c.loop-i-test.true c.put_comma-begin.ensures
     c.print_annotation-p.ensures
 
-pub shape_of-out : goal.shape_of-out
-shape_of-out c = c.loop-i.invariant.same
-
 -- the edition, the number and the cursors that were read are those of the model
 pub returns : goal.returns
 unfolding printed_table

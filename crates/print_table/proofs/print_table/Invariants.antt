@@ -9,6 +9,3 @@ use Rattle.print_table.proofs.print_table.Given as goal
 
 abbrev pub invariant-loop-i : goal.invariant-loop-i
 invariant-loop-i l = PutSoFar l.initial.out l.to (annotations_printed (edition_of l.edition) 0 l.n (stored_parts_at l.table l.initial.c)) l.out l.at (annotations_printed (edition_of l.edition) l.i (l.n - l.i) (stored_parts_at l.table l.c))
-
-abbrev pub decreases-loop-i : goal.decreases-loop-i
-decreases-loop-i l = l.n - l.i

@@ -7,5 +7,5 @@ use Rattle.print_table.proofs.put_comma.Goals as goal
 pub returns-then-i-eq0 : goal.returns-then-i-eq0
 returns-then-i-eq0 c = put_as (put_none (omega arith) (omega arith)) (comma_first _ c.if-i-eq0.true)
 
-pub returns : goal.returns
-returns c = put_as c.put8.ensures (comma_next _ c.if-i-eq0.false)
+pub returns-else-i-eq0 : goal.returns-else-i-eq0
+returns-else-i-eq0 c = put_as c.put8.ensures (comma_next _ c.if-i-eq0.false)

@@ -5,8 +5,5 @@ use lib.ListN.{length}
 use Prim.Native.Nat.{◌-◌}
 use Rattle.put_bytes.proofs.fill_le.Given as goal
 
-abbrev pub invariant-loop-filled : goal.invariant-loop-filled
-invariant-loop-filled l = PutSoFar l.initial.part 0 (little (length l.initial.part) l.v) l.part l.filled (little (length l.initial.part - l.filled) l.left)
-
-abbrev pub decreases-loop-filled : goal.decreases-loop-filled
-decreases-loop-filled l = length l.initial.part - l.filled
+abbrev pub invariant-loop-byte : goal.invariant-loop-byte
+invariant-loop-byte l = PutSoFar l.initial.byte-items 0 (little (length l.initial.byte-items) l.v) l.byte-items l.byte-index (little (length l.initial.byte-items - l.byte-index) l.left)

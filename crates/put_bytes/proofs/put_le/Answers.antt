@@ -11,12 +11,6 @@ use borrow.Rule.Slice.PartMut.{mid_len}
 use borrow.Author.Tests.{leb-true}
 use Rattle.put_bytes.proofs.put_le.Goals as goal
 
-pub overflow_add-end : goal.overflow_add-end
-overflow_add-end c = let a = c.args in let h = leb-true (a.at + a.n) (length a.out.now) (sym c.has_room.ensures ∙ c.if-has_room.true) in omega arith
-
-pub slice_bounds-fill_le-end : goal.slice_bounds-fill_le-end
-slice_bounds-fill_le-end c = let a = c.args in let h = leb-true (a.at + a.n) (length a.out.now) (sym c.has_room.ensures ∙ c.if-has_room.true) in omega arith
-
 pub returns-then-has_room : goal.returns-then-has_room
 returns-then-has_room c =
     let a = c.args in

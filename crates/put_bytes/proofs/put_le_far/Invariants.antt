@@ -4,8 +4,5 @@ use Rattle.rules.specs.Stored.{little}
 use Prim.Native.Nat.{◌-◌}
 use Rattle.put_bytes.proofs.put_le_far.Given as goal
 
-abbrev pub invariant-loop-done : goal.invariant-loop-done
-invariant-loop-done l = PutSoFar l.initial.out l.at (little l.n l.v) l.out l.to (little (l.n - l.done) l.rest)
-
-abbrev pub decreases-loop-done : goal.decreases-loop-done
-decreases-loop-done l = l.n - l.done
+abbrev pub invariant-loop : goal.invariant-loop
+invariant-loop l = PutSoFar l.initial.out l.at (little l.n l.v) l.out l.to (little (l.n - l.counter) l.rest)

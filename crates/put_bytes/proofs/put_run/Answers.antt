@@ -8,14 +8,8 @@ use native.Mathlib.Omega.{arith}
 use borrow.Author.Tests.{leb-true}
 use Rattle.put_bytes.proofs.put_run.Goals as goal
 
-pub overflow_add-end : goal.overflow_add-end
-overflow_add-end c = let a = c.args in let h = leb-true (a.at + length a.s.now) (length a.out.now) (sym c.has_room.ensures ∙ c.if-has_room.true) in omega arith
-
-pub slice_bounds-fill-end : goal.slice_bounds-fill-end
-slice_bounds-fill-end c = let a = c.args in let h = leb-true (a.at + length a.s.now) (length a.out.now) (sym c.has_room.ensures ∙ c.if-has_room.true) in omega arith
-
 pub returns-then-has_room : goal.returns-then-has_room
 returns-then-has_room c =
     let a = c.args in
     let h = leb-true (a.at + length a.s.now) (length a.out.now) (sym c.has_room.ensures ∙ c.if-has_room.true) in
-    put_part (omega arith) h (add-sub_cancel_left a.at (length a.s.now)) refl c.fill.ensures
+    put_part (omega arith) h (add-sub_cancel_left a.at (length a.s.now)) refl c.copy_from_slice.ensures.after

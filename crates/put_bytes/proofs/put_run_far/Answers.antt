@@ -1,18 +1,10 @@
 -- `put_bytes::put_run_far` meets its contract: the bytes that are left make the whole. Assumes nothing.
-use Rattle.put_bytes.proofs.PutLoop.{begin, more, ends, run_more}
+use Rattle.put_bytes.proofs.PutLoop.{more, ends, run_more}
 use lib.ListN.{drop_of_length-le}
-use mathlib.Core.Path.{refl}
-use native.Mathlib.Omega.{arith}
 use Rattle.put_bytes.proofs.put_run_far.Goals as goal
 
-pub loop-from-init : goal.loop-from-init
-loop-from-init c = begin (omega arith) (omega arith) refl
-
-pub loop-from-preserved : goal.loop-from-preserved
-loop-from-preserved c = more c.loop-from.invariant c.put8-to.ensures (run_more _ _ c.loop-from-test.true)
-
-pub shape_of-out : goal.shape_of-out
-shape_of-out c = c.loop-from.invariant.same
+pub loop-b-preserved : goal.loop-b-preserved
+loop-b-preserved c = more c.loop-b.invariant c.put8-to.ensures (run_more _ _ c.loop-b-test.true)
 
 pub returns : goal.returns
-returns c = ends c.loop-from.invariant (drop_of_length-le _ c.loop-from-test.false)
+returns c = ends c.loop-b.invariant (drop_of_length-le _ c.loop-b-test.false)

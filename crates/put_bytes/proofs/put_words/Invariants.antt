@@ -2,12 +2,8 @@
 use Rattle.put_bytes.proofs.PutLoop.{PutSoFar}
 use Rattle.rules.specs.Stored.{little}
 use Rattle.lang.specs.Parts.{flat}
-use lib.ListN.{length, drop}
-use Prim.Native.Nat.{◌-◌}
+use lib.ListN.{drop}
 use Rattle.put_bytes.proofs.put_words.Given as goal
 
-abbrev pub invariant-loop-taken : goal.invariant-loop-taken
-invariant-loop-taken l = PutSoFar l.initial.out l.at (flat (little 8) l.words) l.out l.to (flat (little 8) (drop l.taken l.words))
-
-abbrev pub decreases-loop-taken : goal.decreases-loop-taken
-decreases-loop-taken l = length l.words - l.taken
+abbrev pub invariant-loop-word : goal.invariant-loop-word
+invariant-loop-word l = PutSoFar l.initial.out l.at (flat (little 8) l.words) l.out l.to (flat (little 8) (drop l.word-index l.words))

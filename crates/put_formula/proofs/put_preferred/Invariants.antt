@@ -1,14 +1,8 @@
 -- `put_formula::put_preferred` meets its contract: in its loop the units left to copy make the whole. Assumes nothing.
-use Rattle.put_formula.specs.Preferred.{kept_unit}
-use Rattle.put_formula.specs.Chains.{chain}
-use Rattle.read_formula.specs.Formulas.{unit_size}
+use Rattle.put_formula.specs.Preferred.{preferred_units}
 use Rattle.put_bytes.proofs.PutLoop.{PutSoFar}
-use lib.ListN.{drop}
 use Prim.Native.Nat.{◌-◌}
 use Rattle.put_formula.proofs.put_preferred.Given as goal
 
-abbrev pub invariant-loop-i : goal.invariant-loop-i
-invariant-loop-i l = PutSoFar l.initial.out l.at (chain kept_unit unit_size l.n l.s) l.out l.to (chain kept_unit unit_size (l.n - l.i) (drop l.from l.s))
-
-abbrev pub decreases-loop-i : goal.decreases-loop-i
-decreases-loop-i l = l.n - l.i
+abbrev pub invariant-loop : goal.invariant-loop
+invariant-loop l = PutSoFar l.initial.out l.at (preferred_units l.n l.s) l.out l.to (preferred_units (l.n - l.counter) l.left)

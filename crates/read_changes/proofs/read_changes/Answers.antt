@@ -11,13 +11,13 @@ pub overflow_add-units : goal.overflow_add-units
 overflow_add-units c =
     let moved = moves c.loop-x.invariant c.rest.ensures (sym c.begins_change.ensures ∙ c.loop-x-test.true)
     c.rest-in-loop-x.ensures c.read_change-x.ensures in
-    omega (arith, moved.inside, moved.held, c.units_in-units.ensures)
+    omega (arith, moved.inside, moved.held, c.units-units.ensures)
 
 pub overflow_add-text : goal.overflow_add-text
 overflow_add-text c =
     let moved = moves c.loop-x.invariant c.rest.ensures (sym c.begins_change.ensures ∙ c.loop-x-test.true)
     c.rest-in-loop-x.ensures c.read_change-x.ensures in
-    omega (arith, c.well_formed.1.0, moved.inside, moved.held, c.text_in-text.ensures)
+    omega (arith, c.well_formed.1.0, moved.inside, moved.held, c.name_bytes-text.ensures)
 
 pub overflow_add-at : goal.overflow_add-at
 overflow_add-at c =
@@ -38,7 +38,7 @@ loop-x-smaller c =
     omega (arith, moved.some, moved.inside)
 
 pub loop-x-preserved : goal.loop-x-preserved
-loop-x-preserved c = turn c.loop-x.invariant c.rest.ensures (sym c.begins_change.ensures ∙ c.loop-x-test.true) c.rest-in-loop-x.ensures c.read_change-x.ensures c.units_in-units.ensures c.text_in-text.ensures refl
+loop-x-preserved c = turn c.loop-x.invariant c.rest.ensures (sym c.begins_change.ensures ∙ c.loop-x-test.true) c.rest-in-loop-x.ensures c.read_change-x.ensures c.units-units.ensures c.name_bytes-text.ensures refl
 
 pub returns : goal.returns
 returns c = ends c.loop-x.invariant c.rest.ensures (sym c.begins_change.ensures ∙ c.loop-x-test.false)

@@ -1,12 +1,12 @@
--- `read_ion::series_name` meets its contract: two letters, else one, else none. Assumes nothing.
+-- `read_ion::series_name` meets its contract: by two letters, by one, or none. Assumes nothing.
 use Rattle.read_ion.proofs.Found.{letters_two, letters_one, letters_none}
 use Rattle.read_ion.proofs.series_name.Goals as goal
 
-pub returns-then-two-ne0 : goal.returns-then-two-ne0
-returns-then-two-ne0 c = letters_two c.args.s.now c.byte_of-a.ensures c.byte_of-b.ensures c.two_letters-two.ensures c.if-two-ne0.true
+pub returns-in-Some : goal.returns-in-Some
+returns-in-Some c = letters_two c.args.s.now c.byte_of-a.ensures c.byte_of.ensures c.two_letters.ensures c.in-Some.is
 
-pub returns-then-one-ne0 : goal.returns-then-one-ne0
-returns-then-one-ne0 c = letters_one c.args.s.now c.byte_of-a.ensures c.byte_of-b.ensures c.two_letters-two.ensures c.if-two-ne0.false c.one_letter-one.ensures c.if-one-ne0.true
+pub returns-in-Some-one_letter : goal.returns-in-Some-one_letter
+returns-in-Some-one_letter c = letters_one c.args.s.now c.byte_of-a.ensures c.byte_of.ensures c.two_letters.ensures c.in-None.is c.one_letter.ensures c.in-Some-one_letter.is
 
-pub returns : goal.returns
-returns c = letters_none c.args.s.now c.byte_of-a.ensures c.byte_of-b.ensures c.two_letters-two.ensures c.if-two-ne0.false c.one_letter-one.ensures c.if-one-ne0.false
+pub returns-in-None-one_letter : goal.returns-in-None-one_letter
+returns-in-None-one_letter c = letters_none c.args.s.now c.byte_of-a.ensures c.byte_of.ensures c.two_letters.ensures c.in-None.is c.one_letter.ensures c.in-None-one_letter.is

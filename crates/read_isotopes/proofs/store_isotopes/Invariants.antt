@@ -4,8 +4,8 @@ use lib.ListN.{length}
 use Prim.Native.Nat.{◌-◌}
 use Rattle.read_isotopes.proofs.store_isotopes.Given as goal
 
-abbrev pub invariant-loop-none : goal.invariant-loop-none
-invariant-loop-none l = Filing l.s l.initial.out l.to l.at l.n l.out l.next
+abbrev pub invariant-loop-x : goal.invariant-loop-x
+invariant-loop-x l = Filing l.s l.initial.out l.to l.at l.n l.out l.next
 
-abbrev pub decreases-loop-none : goal.decreases-loop-none
-decreases-loop-none l = length l.s - l.at
+abbrev pub decreases-loop-x : goal.decreases-loop-x
+decreases-loop-x l = length l.s - l.at

@@ -3,4 +3,4 @@ use Rattle.read_line.proofs.Answered.{keeps_is}
 use Rattle.read_line.proofs.keeps_all.Goals as goal
 
 pub returns : goal.returns
-returns c = keeps_is _ _ c.read_at.ensures c.total-t.ensures c.first_refusal-found.ensures
+returns c = keeps_is _ _ c.read_at.ensures c.total-t.ensures c.first_refusal.ensures c.is_none.ensures

@@ -4,21 +4,17 @@ use Rattle.read_row.specs.Readings.{head_bytes}
 use Rattle.read_row.proofs.end_row.Goals as goal
 
 pub returns-then-out-size : goal.returns-then-out-size
-returns-then-out-size c =
-    let head = head_bytes c.args.mz c.args.intensity in
-    ended_short c.args.out.now head c.args.at c.args.line c.if-line-eq0.true c.plus-size.ensures c.if-out-size.true c.clear.ensures c.refuse.ensures
+returns-then-out-size c = ended_short c.args.out.now (head_bytes c.args.mz c.args.intensity) c.args.at c.in-Ok.is c.plus-size.ensures c.if-out-size.true c.clear.ensures c.refuse.ensures
 
-pub returns-then-line-eq0 : goal.returns-then-line-eq0
-returns-then-line-eq0 c =
-    let head = head_bytes c.args.mz c.args.intensity in
-    ended_done c.args.out.now head c.args.at c.args.line c.if-line-eq0.true c.plus-size.ensures c.if-out-size.false c.put_head.ensures
+pub returns-else-out-size : goal.returns-else-out-size
+returns-else-out-size c = ended_done c.args.out.now (head_bytes c.args.mz c.args.intensity) c.args.at c.in-Ok.is c.plus-size.ensures c.if-out-size.false c.put_head.ensures
 
-pub returns-then-line-eq8 : goal.returns-then-line-eq8
-returns-then-line-eq8 c =
-    let head = head_bytes c.args.mz c.args.intensity in
-    ended_eight c.args.out.now head c.args.at c.args.line c.if-line-eq0.false c.if-line-eq8.true c.clear-2.ensures c.plus.ensures c.refuse-then-line-eq8.ensures
+pub returns-in-OutputTooShort : goal.returns-in-OutputTooShort
+returns-in-OutputTooShort c =
+    ended_eight c.args.out.now (head_bytes c.args.mz c.args.intensity) c.args.at c.in-Err.is c.clear-in-Err.ensures c.refuse-in-OutputTooShort.ensures
+    c.in-OutputTooShort.is c.plus.ensures
 
-pub returns : goal.returns
-returns c =
-    let head = head_bytes c.args.mz c.args.intensity in
-    ended_refused c.args.out.now head c.args.at c.args.line c.if-line-eq0.false c.if-line-eq8.false c.clear-2.ensures c.plus-2.ensures c.refuse-2.ensures
+pub returns-in_default : goal.returns-in_default
+returns-in_default c =
+    ended_refused c.args.out.now (head_bytes c.args.mz c.args.intensity) c.args.at c.in-Err.is c.clear-in-Err.ensures c.refuse-in_default.ensures
+    c.in_default.not-OutputTooShort c.plus-in_default.ensures

@@ -4,14 +4,14 @@ use Rattle.respell_annotation.proofs.spell_annotation.Goals as goal
 
 pub returns-then-is_kept : goal.returns-then-is_kept
 returns-then-is_kept c =
-    put_kept _ _ c.rest-s1.ensures c.rest.ensures c.rest-2.ensures c.minus_or_zero-len.ensures
+    put_kept _ _ c.rest-s1.ensures c.rest.ensures c.rest-2.ensures c.saturating_sub-len.ensures
     c.rest-3.ensures c.is_free-free.ensures c.first_of.ensures
     c.is_kept.ensures c.if-is_kept.true
     c.first_of-then-is_kept.ensures c.put_run-end.ensures
 
-pub returns : goal.returns
-returns c =
+pub returns-else-is_kept : goal.returns-else-is_kept
+returns-else-is_kept c =
     put_anew _ _ c.rest-s1.ensures c.rest.ensures c.rest-2.ensures
-    c.minus_or_zero-len.ensures c.rest-3.ensures c.is_free-free.ensures c.first_of.ensures
+    c.saturating_sub-len.ensures c.rest-3.ensures c.is_free-free.ensures c.first_of.ensures
     c.is_kept.ensures c.if-is_kept.false
     c.spell_parts-end.ensures

@@ -13,8 +13,8 @@ returns-then-x-eq0 c =
     ion_alone _ _ (sym c.spells_yb.ensures ∙ c.if-spells_yb.false) c.if-x-eq0.true c.first_of-then-x-eq0.ensures
     c.put_run-then-x-eq0.ensures
 
-pub returns : goal.returns
-returns c =
-    ion_formula _ _ (sym c.spells_yb.ensures ∙ c.if-spells_yb.false) c.if-x-eq0.false c.first_of-2.ensures
-    c.put_run-a.ensures c.rest-2.ensures
+pub returns-else-x-eq0 : goal.returns-else-x-eq0
+returns-else-x-eq0 c =
+    ion_formula _ _ (sym c.spells_yb.ensures ∙ c.if-spells_yb.false) c.if-x-eq0.false c.first_of-else-x-eq0.ensures
+    c.put_run-a.ensures c.rest-else-x-eq0.ensures
     c.put_preferred-b.ensures c.put8.ensures

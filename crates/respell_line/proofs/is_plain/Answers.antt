@@ -1,18 +1,13 @@
 -- `respell_line::is_plain` meets its contract. Assumes nothing.
-use Rattle.respell_line.proofs.SpellsLine.{with_free, with_losses, with_isotopes, with_items, by_units}
+use native.Mathlib.Omega.{arith}
+use Rattle.std.proofs.lemmas.Grind.{common_steps}
+use Rattle.respell_line.specs.Plain.{is_plain}
+use Rattle.respell_line.proofs.SpellsLine.{by_units}
 use Rattle.respell_line.proofs.is_plain.Goals as goal
 
-pub returns-then-free : goal.returns-then-free
-returns-then-free c = with_free _ _ c.if-free.true
+pub returns-then-n-eq0-3 : goal.returns-then-n-eq0-3
+returns-then-n-eq0-3 c = let h = c.if-n-eq0-3.true in by_units _ _ h.0 h.1 h.2 h.3
 
-pub returns-then-n-ne0 : goal.returns-then-n-ne0
-returns-then-n-ne0 c = with_losses _ _ c.if-free.false c.if-n-ne0.true
-
-pub returns-then-n-ne0-2 : goal.returns-then-n-ne0-2
-returns-then-n-ne0-2 c = with_isotopes _ _ c.if-free.false c.if-n-ne0.false c.if-n-ne0-2.true
-
-pub returns-then-n-ne0-3 : goal.returns-then-n-ne0-3
-returns-then-n-ne0-3 c = with_items _ _ c.if-free.false c.if-n-ne0.false c.if-n-ne0-2.false c.if-n-ne0-3.true
-
-pub returns : goal.returns
-returns c = by_units _ _ c.if-free.false c.if-n-ne0.false c.if-n-ne0-2.false c.if-n-ne0-3.false
+pub returns-else-n-eq0-3 : goal.returns-else-n-eq0-3
+unfolding is_plain
+returns-else-n-eq0-3 c = grind (arith, common_steps)

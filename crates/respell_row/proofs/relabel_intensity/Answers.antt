@@ -2,12 +2,12 @@
 use Rattle.respell_row.proofs.Steps.{intensity_bad, intensity_good}
 use Rattle.answers.proofs.Behind.{refused_is}
 use lib.ListN.{length}
-use borrow.Author.Tests.{not-true, not-false}
+use Rattle.faults.specs.declared.Why.TheVariants.{BadIntensity}
 use mathlib.Core.Path.{◌∙◌}
 use Rattle.respell_row.proofs.relabel_intensity.Goals as goal
 
-pub returns-then-not-intensity : goal.returns-then-not-intensity
-returns-then-not-intensity c = refused_is (length c.args.out.now) 13 _ c.refuse.ensures c.clear.ensures ∙ intensity_bad c.args.machine.now c.args.row.now (length c.args.out.now) c.args.at c.rest.ensures c.read_column-intensity.ensures (not-true _ c.if-not-intensity.true)
+pub returns-in_default : goal.returns-in_default
+returns-in_default c = refused_is (length c.args.out.now) BadIntensity _ c.refuse.ensures c.clear.ensures ∙ intensity_bad c.args.machine.now c.args.row.now (length c.args.out.now) c.args.at c.rest.ensures c.read_column.ensures c.in_default.is
 
 pub returns : goal.returns
-returns c = c.relabel_columns.ensures ∙ intensity_good c.args.machine.now c.args.row.now (length c.args.out.now) c.args.at c.rest.ensures c.read_column-intensity.ensures (not-false _ c.if-not-intensity.false) c.advance-end.ensures c.advance-to.ensures
+returns c = c.relabel_columns.ensures ∙ intensity_good c.args.machine.now c.args.row.now (length c.args.out.now) c.args.at c.rest.ensures c.read_column.ensures c.in-Some.is c.advance-end.ensures c.advance-to.ensures

@@ -13,5 +13,5 @@ pub returns : goal.returns
 returns c =
     let line = c.args.line.now in
     let lines = c.args.lines in
-    subst (JudgedBy (lines_in lines) line) (sym (c.scan_by.ensures ∙ ap (λ (m : List ℕ). scanned_by m line) c.machine-made.ensures))
+    subst (JudgedBy (lines_in lines) line) (sym (c.scan_by.ensures ∙ ap (λ (m : List ℕ). scanned_by m line) c.machine.ensures))
     (by_machine (lines_in lines) line (λ i h. (c.shared_slice_known-1.given i).fits) (omega arith))

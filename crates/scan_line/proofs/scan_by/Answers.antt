@@ -9,4 +9,4 @@ unfolding scanned_by
 returns c =
     let m = c.args.machine.now in
     let line = c.args.line.now in
-    c.verdict.ensures ∙ ap (verdict_by m) (c.over-whole.ensures ∙ ap (λ (s : Progress). taken_by m s line) c.begin-begun.ensures)
+    c.verdict.ensures ∙ ap (verdict_by m) (c.over.ensures ∙ ap (λ (s : Progress). taken_by m s line) c.begin.ensures)

@@ -1,6 +1,7 @@
--- `slices::oct_at` meets its contract. Assumes nothing.
-use Rattle.slices.proofs.Numbers.{oct_made}
+-- `slices::u64_at` meets its contract. Assumes nothing.
+use mathlib.Core.Path.{◌∙◌}
+use Rattle.slices.proofs.Numbers.{oct_of}
 use Rattle.slices.proofs.u64_at.Goals as goal
 
 pub returns : goal.returns
-returns c = oct_made c.args.s.now c.rest.result.now c.u32_at-low.ensures c.u32_at-high.ensures c.rest.ensures
+returns c = c.from_le_bytes.ensures ∙ oct_of _ _ c.first_bytes.ensures

@@ -4,17 +4,14 @@ use native.Mathlib.Omega.{arith}
 use mathlib.Core.Path.{sym, ◌∙◌}
 use Rattle.sort_changes.proofs.gather_all.Goals as goal
 
-pub none-empty-requires : goal.none-empty-requires
-none-empty-requires c = tt
-
 pub loop-keys-init : goal.loop-keys-init
-loop-keys-init c = begin c.none-empty.ensures
+loop-keys-init c = begin c.none.ensures
 
 pub loop-keys-smaller : goal.loop-keys-smaller
-loop-keys-smaller c = omega (arith, moves c.loop-keys.invariant c.rest.ensures (sym c.begins_change.ensures ∙ c.loop-keys-test.true) c.gather_one-more.ensures)
+loop-keys-smaller c = omega (arith, moves c.loop-keys.invariant c.rest.ensures (sym c.begins_change.ensures ∙ c.loop-keys-test.true) c.gather_one-g.ensures)
 
 pub loop-keys-preserved : goal.loop-keys-preserved
-loop-keys-preserved c = turn c.loop-keys.invariant c.rest.ensures (sym c.begins_change.ensures ∙ c.loop-keys-test.true) c.gather_one-more.ensures
+loop-keys-preserved c = turn c.loop-keys.invariant c.rest.ensures (sym c.begins_change.ensures ∙ c.loop-keys-test.true) c.gather_one-g.ensures
 
 pub shape_of-keys : goal.shape_of-keys
 shape_of-keys c = same_long c.loop-keys.invariant

@@ -1,26 +1,18 @@
--- `sort_changes::put_slots` meets its contract: in its loop the slots left to store make the whole, eight at most. Assumes nothing.
-use native.Mathlib.Omega.{arith}
-use borrow.Author.Rules.{rules}
-use Rattle.sort_changes.proofs.Steps.{slots_begin, slots_turn, slots_all, slots_full}
+-- `sort_changes::put_slots` meets its contract: in its loop the slots left to store make the whole. Assumes nothing.
+use mathlib.Core.Path.{ap}
+use lib.ListN.{drop_of_length-le}
+use Rattle.std.proofs.lemmas.List.{drop_more}
+use Rattle.lang.specs.Parts.{flat}
+use Rattle.store_sections.proofs.StoreLoop.{more, ends}
+use Rattle.sort_changes.specs.Events.{slot_events}
 use Rattle.sort_changes.proofs.put_slots.Goals as goal
 
-pub loop-i-init : goal.loop-i-init
-loop-i-init c = slots_begin (omega arith) (search rules)
-
-pub shape_of-out-then-i-ge-MAX_LOSSES : goal.shape_of-out-then-i-ge-MAX_LOSSES
-shape_of-out-then-i-ge-MAX_LOSSES c = c.loop-i.invariant.going.same
-
-pub returns-then-i-ge-MAX_LOSSES : goal.returns-then-i-ge-MAX_LOSSES
-returns-then-i-ge-MAX_LOSSES c = slots_full c.loop-i.invariant c.if-i-ge-MAX_LOSSES.true
-
-pub put_slot-next-requires : goal.put_slot-next-requires
-put_slot-next-requires c = tt
-
-pub loop-i-preserved : goal.loop-i-preserved
-loop-i-preserved c = slots_turn _ c.loop-i.invariant c.loop-i-test.true c.if-i-ge-MAX_LOSSES.false c.put_slot-next.ensures
-
-pub shape_of-out : goal.shape_of-out
-shape_of-out c = c.loop-i.invariant.going.same
+pub loop-x-preserved : goal.loop-x-preserved
+loop-x-preserved c =
+    let a = c.args in
+    more c.loop-x.invariant c.put_slot-to.ensures (ap (flat (slot_events a.j a.s.now)) (drop_more a.slots.now c.loop-x.x-index _ c.loop-x-test.true))
 
 pub returns : goal.returns
-returns c = slots_all c.loop-i.invariant c.loop-i-test.false
+returns c =
+    let a = c.args in
+    ends c.loop-x.invariant (ap (flat (slot_events a.j a.s.now)) (drop_of_length-le a.slots.now c.loop-x-test.false))

@@ -1,10 +1,8 @@
--- `sort_changes::put_slots` meets its contract: in its loop the slots left to store make the whole, eight at most. Assumes nothing.
-use Prim.Native.Nat.{◌-◌}
-use Rattle.sort_changes.proofs.Steps.{Storing}
+-- `sort_changes::put_slots` meets its contract: in its loop the slots left to store make the whole. Assumes nothing.
+use lib.ListN.{drop}
+use Rattle.store_sections.proofs.StoreLoop.{StoredSoFar}
+use Rattle.sort_changes.specs.Events.{slots_events}
 use Rattle.sort_changes.proofs.put_slots.Given as goal
 
-abbrev pub invariant-loop-i : goal.invariant-loop-i
-invariant-loop-i l = Storing l.j l.s l.slots l.initial.out l.initial.to l.out l.to l.i
-
-abbrev pub decreases-loop-i : goal.decreases-loop-i
-decreases-loop-i l = l.slots.n - l.i
+abbrev pub invariant-loop-x : goal.invariant-loop-x
+invariant-loop-x l = StoredSoFar l.initial.out l.initial.to (slots_events l.j l.s l.slots) l.out l.to (slots_events l.j l.s (drop l.x-index l.slots))

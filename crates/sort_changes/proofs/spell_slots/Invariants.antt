@@ -1,10 +1,8 @@
--- `sort_changes::spell_slots` meets its contract. Assumes nothing.
-use Prim.Native.Nat.{◌-◌}
-use Rattle.sort_changes.proofs.Spells.{Spelling}
+-- `sort_changes::spell_slots` meets its contract: in its loop the slots left to spell make the whole. Assumes nothing.
+use lib.ListN.{drop}
+use Rattle.put_bytes.proofs.PutLoop.{PutSoFar}
+use Rattle.sort_changes.specs.Spelled.{slots_spelled}
 use Rattle.sort_changes.proofs.spell_slots.Given as goal
 
-abbrev pub invariant-loop-i : goal.invariant-loop-i
-invariant-loop-i l = Spelling l.keys l.slots l.initial.out l.initial.end l.out l.end l.i
-
-abbrev pub decreases-loop-i : goal.decreases-loop-i
-decreases-loop-i l = l.slots.n - l.i
+abbrev pub invariant-loop-x : goal.invariant-loop-x
+invariant-loop-x l = PutSoFar l.initial.out l.initial.end (slots_spelled l.keys l.slots) l.out l.end (slots_spelled l.keys (drop l.x-index l.slots))

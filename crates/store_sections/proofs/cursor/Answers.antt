@@ -4,4 +4,4 @@ use Rattle.store_sections.proofs.Others.{at_none}
 use Rattle.store_sections.proofs.cursor.Goals as goal
 
 pub returns-in_default : goal.returns-in_default
-returns-in_default c = at_none c.args.j c.args.c (omega (arith, c.in_default.in_default-own.rest))
+returns-in_default c = at_none c.args.j c.args.c (omega arith)

@@ -7,6 +7,5 @@ use Rattle.try_terms.proofs.say_formula.Goals as goal
 
 pub returns : goal.returns
 returns c =
-    let fault = put_then c.put_field-r.ensures (put_then c.put_field-t.ensures c.put_preferred.ensures) in
-    put_as (put_then c.put_field-p.ensures (put_then c.put_field-q.ensures fault))
+    put_as (put_then c.put_field-p.ensures (put_then c.put_field-q.ensures (put_then c.say_refusal-r.ensures c.put_preferred.ensures)))
     (ap (λ (f : FormulaRead). units_text f c.args.text.now) c.formula-f.ensures)

@@ -1,26 +1,17 @@
 -- `write_row::finish_row` meets its contract. Assumes nothing.
-use mathlib.Core.Path.{ap, ◌∙◌}
-use Prim.Native.Nat.{ℕ}
-use borrow.Author.Tests.{eq-eqb, ne_eqb}
-use Rattle.answers.specs.Delivered.{refused_of}
-use Rattle.answers.specs.Behind.{capped}
-use Rattle.write_row.specs.Writings.{finished_over}
-use Rattle.answers.proofs.Behind.{refused_is}
-use lib.ListN.{length}
+use mathlib.Core.Path.{sym, ◌∙◌}
+use Rattle.write_row.proofs.Steps.{finished_empty, finished_line, finished_eight, finished_refused}
 use Rattle.write_row.proofs.finish_row.Goals as goal
 
-pub returns-then-line-eq0-2 : goal.returns-then-line-eq0-2
-unfolding finished_over
-returns-then-line-eq0-2 c = rw (eq-eqb c.args.line.number 0 c.if-line-eq0.true, eq-eqb c.args.line.len 0 c.if-line-eq0-2.true) c.end_bare.ensures
+pub returns-in-Ok-eq0 : goal.returns-in-Ok-eq0
+returns-in-Ok-eq0 c = finished_empty c.args.out.now c.args.to c.in-Ok-eq0.is (sym c.in-Ok-eq0.field-0-is ∙ c.in-Ok-eq0.field-0-test) c.end_bare.ensures
 
-pub returns-then-line-eq0 : goal.returns-then-line-eq0
-unfolding finished_over
-returns-then-line-eq0 c = rw (eq-eqb c.args.line.number 0 c.if-line-eq0.true, ne_eqb c.args.line.len 0 c.if-line-eq0-2.false) c.end_labelled.ensures
+pub returns-in-Ok : goal.returns-in-Ok
+returns-in-Ok c = let t = rw c.in-Ok.is at c.in-Ok.len-test in finished_line c.args.out.now c.args.to c.in-Ok.is t.1 c.end_labelled.ensures
 
-pub returns-then-line-eq8 : goal.returns-then-line-eq8
-unfolding finished_over
-returns-then-line-eq8 c = rw (ne_eqb c.args.line.number 0 c.if-line-eq0.false, eq-eqb c.args.line.number 8 c.if-line-eq8.true) (refused_is (length c.args.out.now) 8 _ (c.refuse.ensures ∙ ap (refused_of 8) (c.plus-then-line-eq8.ensures ∙ ap (λ (n : ℕ). capped n c.args.line.place) c.plus.ensures)) c.clear.ensures)
+pub returns-in-OutputTooShort : goal.returns-in-OutputTooShort
+returns-in-OutputTooShort c =
+    finished_eight c.args.out.now c.args.to c.in-Err.is c.clear.ensures c.in-OutputTooShort.is c.plus.ensures c.plus-in-OutputTooShort.ensures c.refuse.ensures
 
-pub returns : goal.returns
-unfolding finished_over
-returns c = rw (ne_eqb c.args.line.number 0 c.if-line-eq0.false, ne_eqb c.args.line.number 8 c.if-line-eq8.false) (refused_is (length c.args.out.now) _ _ c.refuse-2.ensures c.clear.ensures)
+pub returns-in_default : goal.returns-in_default
+returns-in_default c = finished_refused c.args.out.now c.args.to c.in-Err.is c.clear.ensures c.in_default.not-OutputTooShort

@@ -7,7 +7,7 @@ use Rattle.write_table.proofs.finish.Goals as goal
 pub returns-then-not-held : goal.returns-then-not-held
 returns-then-not-held c =
     let a = c.args in
-    found_not a.wanted (edition_of a.edition) a.line.now (length a.out.now) a.held c.if-not-held.true c.unheld_number-number.ensures
+    found_not a.wanted (edition_of a.edition) a.line.now (length a.out.now) a.held c.if-not-held.true c.why_unheld-why.ensures
     c.clear.ensures c.refuse.ensures
 
 pub returns : goal.returns

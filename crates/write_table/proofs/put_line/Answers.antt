@@ -6,7 +6,7 @@ use Rattle.write_table.proofs.put_line.Goals as goal
 pub returns-in-First : goal.returns-in-First
 returns-in-First c =
     let a = c.args in
-    line_first a.line.now (length a.out.now) c.in-First.is c.clear.ensures c.first_number.ensures c.refuse.ensures
+    line_first a.line.now (length a.out.now) c.in-First.is c.clear.ensures c.why_first.ensures c.refuse.ensures
 
 pub returns-in-Second : goal.returns-in-Second
 returns-in-Second c =

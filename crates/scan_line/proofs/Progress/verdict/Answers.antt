@@ -12,5 +12,5 @@ returns-then-q-ge-STATES c = sym (verdict_stray _ _ c.if-machine-lt-SIZE.false c
 pub returns-then-ends : goal.returns-then-ends
 returns-then-ends c = sym (verdict_fine _ _ c.if-machine-lt-SIZE.false c.if-q-ge-STATES.false (sym c.ends.ensures ∙ c.if-ends.true))
 
-pub returns : goal.returns
-returns c = sym (verdict_short _ _ c.if-machine-lt-SIZE.false c.if-q-ge-STATES.false (sym c.ends.ensures ∙ c.if-ends.false))
+pub returns-else-ends : goal.returns-else-ends
+returns-else-ends c = sym (verdict_short _ _ c.if-machine-lt-SIZE.false c.if-q-ge-STATES.false (sym c.ends.ensures ∙ c.if-ends.false))

@@ -1,0 +1,13 @@
+-- `run_writes::WriterAnswers::answer` meets its contract. Assumes nothing.
+use lib.ListN.{length}
+use Rattle.io_lines.specs.Streams.{line_in}
+use Rattle.run_writes.specs.Answered.{most_of}
+use Rattle.run_writes.proofs.Answering.{answered_by}
+use Rattle.run_writes.proofs.WriterAnswers.answer.Goals as goal
+
+pub returns : goal.returns
+returns c =
+    let a = c.args in
+    let w = a.self.now in
+    answered_by w.task w.form w.machine.now w.sized (line_in a.buf.now a.s) (length w.table) (most_of w.task)
+    c.room-t.ensures c.line-asked.ensures c.answer_most-a.ensures c.put_told-end.ensures c.answered.ensures

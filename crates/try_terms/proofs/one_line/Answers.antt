@@ -1,6 +1,0 @@
--- `try_terms::one_line` meets its contract. Assumes nothing.
-use Rattle.try_terms.proofs.Answering.{answered_by}
-use Rattle.try_terms.proofs.one_line.Goals as goal
-
-pub returns : goal.returns
-returns c = answered_by c.room-t.ensures c.part-line.ensures c.answer-end.ensures c.put8.ensures c.answered.ensures
