@@ -411,10 +411,11 @@ pub fn read_element(s: &[u8]) -> Element
 {
     let len = symbol_len(s);
     if len < 1 {
-        return Element { number: 0, len: 0 };
-    }
-    Element {
-        number: atomic(s[0], second_letter(s)),
-        len,
+        Element { number: 0, len: 0 }
+    } else {
+        Element {
+            number: atomic(s[0], second_letter(s)),
+            len,
+        }
     }
 }

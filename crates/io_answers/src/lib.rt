@@ -32,7 +32,7 @@ pub fn size_in(s: &[u8], all: usize) -> usize
     all.min(n.value as usize)
 }
 
-// ---- what is answered
+// ---- what is answered, put at a cursor, whose bytes the contracts say one by one: `Display` would write to a formatter
 
 // The digit of a byte's low half.
 #[tactic(auto, unfolding(crate::specs::Tells::hex_digit))]

@@ -33,7 +33,7 @@ pub fn edition_number(e: Edition) -> usize
     }
 }
 
-// The edition that a header names; a header that names none is taken for one of the first.
+// The edition that a header names; a header that names none is taken for one of the first, which no `TryFrom` would say.
 pub fn edition_named(number: usize) -> Edition
     ensures { result ≡ named_edition number }
 {

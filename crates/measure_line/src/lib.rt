@@ -2,10 +2,10 @@
 // Document 01, "Numbers of refusal", and document 02, M-105: 4 and 5, the lowest place winning; then 11; 6; 7.
 #![tactic(auto)]
 
-ghost use Rattle.std.specs.Prelude.{◌≡◌, ◌||◌};
+ghost use Rattle.std.specs.Prelude.{◌≡◌};
 ghost use Rattle.layout.specs.Editions.{edition_of};
 ghost use Rattle.faults.specs.Refusals.{number_of};
-ghost use Rattle.measure_line.specs.Totals.{nothing, noted, summed, parts_at, added_by, add_next, totals_by};
+ghost use Rattle.measure_line.specs.Totals.{nothing, noted, parts_at, added_by, add_next, totals_by};
 ghost use Rattle.measure_line.specs.Refusals.{first_of};
 
 use counts::{Counts, plus};
@@ -52,26 +52,6 @@ fn note(f: Option<Refusal>, why: Why, place: usize, kept: bool) -> Option<Refusa
     faults::note(f, why, place, !kept)
 }
 
-// A sum of billionths, or the largest number where it would not fit.
-fn sum_of(sum: u64, share: u64) -> u64
-    ensures { result ≡ summed sum share }
-{
-    if u64::MAX - sum < share {
-        return u64::MAX;
-    }
-    sum + share
-}
-
-// Whether one of two is so.
-fn either(a: bool, b: bool) -> bool
-    ensures { result ≡ (a || b) }
-{
-    if a {
-        return true;
-    }
-    b
-}
-
 // The annotation that begins at a place, read as the first of its line: no limit was broken before it.
 pub fn read_at(line: &[u8], from: usize) -> Parts
     ensures { result ≡ parts_at line.now from }
@@ -92,10 +72,11 @@ fn add(edition: Edition, t: Totals, line: &[u8], from: usize, p: Parts) -> Total
     let m = measure(edition, s, p);
     let own = m.counts;
     let fault = m.fault;
-    let sum = sum_of(t.sum, m.share);
+    // The largest number where the sum would not fit.
+    let sum = t.sum.saturating_add(m.share);
     Totals {
         counts: plus(so_far, own),
-        free: either(t.free, m.free),
+        free: t.free || m.free,
         sum,
         limit: fault,
         form: note(form, Why::SequenceForm, place, m.formed),
@@ -144,6 +125,7 @@ pub fn total(edition: Edition, line: &[u8], first: Parts) -> Totals
         return none;
     }
     let mut t = add_first(edition, line, first);
+    // No index is counted: a comma decides.
     while begins_with(rest(line, t.at), b',') {
         let more = add_next(edition, t, line);
         t = more;

@@ -158,16 +158,18 @@ fn has_sequence(x: IonRead) -> bool
 }
 
 // The sequence of the ion that a part begins with. It is read here, once: measuring and storing both need to know of it.
+#[tactic(auto, unfolding(crate::specs::Sequences::sequence_of_ion))]
 fn sequence_of(s: &[u8], x: IonRead) -> SequenceRead
     ensures { result ≡ sequence_of_ion s.now x }
 {
-    if !has_sequence(x) {
-        return SequenceRead {
+    if has_sequence(x) {
+        read_sequence(part(rest(s, x.start), 1, x.text))
+    } else {
+        SequenceRead {
             formed: true,
             residues: 0,
-        };
+        }
     }
-    read_sequence(part(rest(s, x.start), 1, x.text))
 }
 
 // Prefix and ion.
@@ -195,10 +197,7 @@ fn read_front(s: &[u8], end: usize, f: Option<Refusal>) -> Front
 fn begins_middle(s: &[u8]) -> bool
     ensures { result ≡ begins_middle s.now }
 {
-    if begins_sign(s) {
-        return true;
-    }
-    begins_with(s, b'[')
+    begins_sign(s) || begins_with(s, b'[')
 }
 
 // Losses, isotopes, adduct.
@@ -267,14 +266,11 @@ fn keeps_ion_rule(x: IonRead, items: usize) -> bool
 }
 
 // `-` doesn't stand before a zero deviation.
+#[tactic(auto, unfolding(crate::specs::House::deviation_rule_of))]
 fn keeps_deviation_rule(d: DecimalPart) -> bool
     ensures { result ≡ deviation_rule_of d }
 {
-    if !d.minus {
-        return true;
-    }
-    let size = d.size;
-    1 <= size.value()
+    !d.minus || 1 <= d.size.value()
 }
 
 // How many residues the position of an ion asks for; of an internal ion those from start to end.
@@ -289,13 +285,11 @@ fn covered(x: IonRead) -> usize
 }
 
 // A sequence has no fewer residues than the position asks for.
+#[tactic(auto, unfolding(crate::specs::House::long_enough_of))]
 fn is_long_enough(x: IonRead, residues: usize) -> bool
     ensures { result ≡ long_enough_of x residues }
 {
-    if !has_sequence(x) {
-        return true;
-    }
-    covered(x) <= residues
+    !has_sequence(x) || covered(x) <= residues
 }
 
 // What tables of edition 2 ask of a sequence, those of edition 1 do not.
@@ -309,6 +303,7 @@ fn if_asked(edition: Edition, kept: bool) -> bool
 }
 
 // The rules for one annotation, whose ion's sequence has so many residues.
+#[tactic(auto, unfolding(crate::specs::House::rules_of))]
 fn keeps_rules(
     edition: Edition,
     x: IonRead,
@@ -319,28 +314,24 @@ fn keeps_rules(
 ) -> bool
     ensures { result ≡ rules_of (edition_of edition) x residues items d share }
 {
-    if !keeps_ion_rule(x, items) {
-        return false;
-    }
-    if !keeps_deviation_rule(d) {
-        return false;
-    }
-    if ONE < share {
-        return false;
-    }
-    if_asked(edition, is_long_enough(x, residues))
+    keeps_ion_rule(x, items)
+        && keeps_deviation_rule(d)
+        && share <= ONE
+        && if_asked(edition, is_long_enough(x, residues))
 }
 
 // A confidence in billionths; 0 where there is none.
+#[tactic(auto, using(crate::proofs::Rules::share_zero), unfolding(crate::specs::House::share_of))]
 fn share_of(c: DecimalPart) -> u64
     ensures { result ≡ share_of c }
 {
     let size = c.size;
     // Without a confidence there is nothing to scale.
     if size.value() == 0 {
-        return 0;
+        0
+    } else {
+        billionths(size)
     }
-    billionths(size)
 }
 
 // Annotation number i of a line of `end` bytes.
@@ -380,10 +371,7 @@ fn own_counts(x: IonRead) -> Counts
 pub fn is_free(bare: bool, s: &[u8]) -> bool
     ensures { result ≡ is_free bare s.now }
 {
-    if bare {
-        return true;
-    }
-    spells_yb(s)
+    bare || spells_yb(s)
 }
 
 // What was read of the annotation that a part begins with, measured by the rules of an edition.

@@ -104,6 +104,7 @@ pub fn read_changes(bound: usize, s: &[u8], end: usize, f: Option<Refusal>) -> R
     let mut units: usize = 0;
     let mut text: usize = 0;
     let mut fault = f;
+    // No index is counted: what begins next decides.
     while begins_change(rest(s, at)) {
         let x = read_change(bound, n, rest(s, at), end, fault);
         let g = x.fault;

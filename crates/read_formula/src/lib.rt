@@ -50,36 +50,25 @@ pub struct FormulaRead {
 // ---- units
 
 // Whether a part begins with a unit: `[M` and `[name]` are none.
+#[tactic(auto, unfolding(crate::specs::Units::begins_unit))]
 pub fn begins_unit(s: &[u8]) -> bool
     ensures { result ≡ begins_unit s.now }
 {
-    if begins_in(s, b'A', b'Z') {
-        return true;
-    }
-    if !begins_with(s, b'[') {
-        return false;
-    }
-    begins_in(rest(s, 1), b'0', b'9')
+    begins_in(s, b'A', b'Z') || begins_with(s, b'[') && begins_in(rest(s, 1), b'0', b'9')
 }
 
 // A count whose 1 may be left out.
 pub fn or_one(n: Number) -> u32
     ensures { result ≡ or_one n }
 {
-    if n.len == 0 {
-        return 1;
-    }
-    n.value
+    if n.len == 0 { 1 } else { n.value }
 }
 
 // The end of a unit with the bracket behind it, no further than the part goes, so that any part can be measured.
 fn with_bracket(end: usize, all: usize) -> usize
     ensures { result ≡ min (end + 1) all }
 {
-    if end < all {
-        return end + 1;
-    }
-    all
+    end.saturating_add(1).min(all)
 }
 
 // A symbol and its count.
@@ -116,13 +105,15 @@ fn labelled_span(s: &[u8]) -> UnitSpan
 }
 
 // What is measured of the unit that a part begins with. No symbol is looked up, as only who keeps the unit asks for its element.
+#[tactic(auto, unfolding(crate::specs::Units::span_of))]
 pub fn unit_span(s: &[u8]) -> UnitSpan
     ensures { result ≡ span_of s.now }
 {
     if begins_with(s, b'[') {
-        return labelled_span(s);
+        labelled_span(s)
+    } else {
+        plain_span(s)
     }
-    plain_span(s)
 }
 
 // The unit that a part begins with.
@@ -176,7 +167,7 @@ pub fn formula(s: &[u8], end: usize, f: Option<Refusal>) -> FormulaRead
     let mut at: usize = 0;
     let mut units: usize = 0;
     let mut fault = f;
-    // Places are told by what is left, as no part knows where in the line it begins.
+    // Places are told by what is left, as no part knows where in the line it begins. No index is counted: what begins next decides.
     while begins_unit(rest(s, at)) {
         let u = unit_span(rest(s, at));
         fault = numbers_fault(

@@ -41,7 +41,7 @@ impl From<IonKind> for u8 {
 }
 
 // An ion. Letter: series 1 to 13, the cleavage of an internal ion as a table holds it, or the letter of an immonium ion. Position: position,
-// start or label; last: the end of an internal ion. It has so many units, or bytes of text: the formula, or the brace or bracket before the text, begins at `start`.
+// start or label; last: the end of an internal ion. The letter stays a number, since it is stored as one and means three things by the kind. It has so many units, or bytes of text: the formula, or the brace or bracket before the text, begins at `start`.
 #[derive(Clone, Copy)]
 pub struct IonRead {
     pub kind: IonKind,

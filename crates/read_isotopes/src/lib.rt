@@ -134,6 +134,7 @@ pub fn isotopes(s: &[u8], end: usize, f: Option<Refusal>) -> IsotopesRead
     let mut at: usize = 0;
     let mut n: usize = 0;
     let mut fault = f;
+    // No index is counted, here and below: what begins next decides.
     while begins_isotope(rest(s, at)) {
         let x = isotope(n, rest(s, at), end, fault);
         fault = x.fault;

@@ -62,6 +62,7 @@ fn store_all(out: &mut [u8], c: Cursors, edition: Edition, line: &[u8], first: P
         return;
     }
     let mut t = store_next(out, c, edition, line, 0, first);
+    // No index is counted: a comma decides.
     while begins_with(rest(line, t.at), b',') {
         let here = t.cursors;
         let from = advance(t.at, 1, line.len());

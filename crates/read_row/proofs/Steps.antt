@@ -1,11 +1,9 @@
 -- What each step of reading a row gives, in the words of its model. Assumes nothing.
 use Prim.Native.Nat.{ℕ, ◌+◌, ◌≤◌, ◌<◌, min}
-use mathlib.Core.Path.{◌≡◌, refl, sym, ap, ◌∙◌}
+use mathlib.Core.Path.{◌≡◌, sym, ap, ◌∙◌}
 use mathlib.Core.Bool.{true}
-use mathlib.Core.List.{List, [], ◌∷◌}
-use native.Mathlib.Omega.{arith}
-use lib.Dec.{eqb}
-use lib.ListN.{length, get_or, drop}
+use mathlib.Core.List.{List}
+use lib.ListN.{length, drop}
 use borrow.Author.Tests.{lt-ltb, le-ltb}
 use Rattle.std.specs.Prelude.{Option, Some, None}
 use Rattle.rules.specs.Stored.{little}
@@ -15,20 +13,8 @@ use Rattle.put_bytes.specs.Puts.{Put}
 use Rattle.put_bytes.proofs.Putting.{put_then, put_as}
 use Rattle.numbers.specs.declared.Decimal.{Decimal}
 use Rattle.read_row.specs.declared.Column.{Column}
-use Rattle.read_row.specs.Columns.{ends_column, column_of}
+use Rattle.read_row.specs.Columns.{column_of}
 use Rattle.read_row.specs.Readings.{head_bytes, third_of, intensity_in, intensity_of, mz_in, read_row_of}
-
--- ---- columns
-
-pub ends_none : (s : List ℕ) → length s < 1 → true ≡ ends_column s
-unfolding ends_column
-ends_none [] h = refl
-ends_none (b ∷ s) h = absurd (omega arith)
-
-pub ends_at : (s : List ℕ) → 1 ≤ length s → eqb (get_or s 0 0) 9 ≡ ends_column s
-unfolding ends_column
-ends_at [] h = absurd (omega arith)
-ends_at (b ∷ s) h = refl
 
 -- ---- the row
 

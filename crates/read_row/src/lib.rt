@@ -31,26 +31,19 @@ pub struct Column {
 // ---- columns
 
 // Whether a part begins as decimals do: with a digit, and with no 0 before another.
+#[tactic(auto, unfolding(crate::specs::Columns::begins_decimal))]
 fn begins_decimal(s: &[u8]) -> bool
     ensures { result ≡ begins_decimal s.now }
 {
-    if begins_in(s, b'1', b'9') {
-        return true;
-    }
-    if !begins_with(s, b'0') {
-        return false;
-    }
-    !begins_in(rest(s, 1), b'0', b'9')
+    begins_in(s, b'1', b'9') || begins_with(s, b'0') && !begins_in(rest(s, 1), b'0', b'9')
 }
 
 // Whether a column that goes up to here ends here.
+#[tactic(auto, unfolding(crate::specs::Columns::ends_column))]
 fn ends_column(s: &[u8]) -> bool
     ensures { result ≡ ends_column s.now }
 {
-    if s.len() < 1 {
-        return true;
-    }
-    s[0] == b'\t'
+    matches!(s.first(), None | Some(b'\t'))
 }
 
 // Whether a decimal that was read is a column.

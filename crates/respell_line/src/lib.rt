@@ -36,6 +36,7 @@ fn spell_line(out: &mut [u8], line: &[u8], first: Parts) -> usize
     let x = spell_annotation(out, 0, line, first);
     let mut to = x.to;
     let mut at = advance(0, x.len, line.len());
+    // No index is counted: a comma decides.
     while begins_with(rest(line, at), b',') {
         let from = advance(at, 1, line.len());
         let p = read_at(line, from);

@@ -95,6 +95,7 @@ fn gather_all(s: &[u8], keys: &mut [u8]) -> Gathered
         used: 0,
         at: 0,
     };
+    // No index is counted: what begins next decides.
     while begins_change(rest(s, g.at)) {
         g = gather_one(g, s, keys);
     }

@@ -1,11 +1,9 @@
 -- The steps of storing an annotation. Assumes nothing.
 use Prim.Native.Nat.{ℕ, ◌+◌, ◌-◌, ◌≤◌}
-use mathlib.Core.Path.{◌≡◌, refl, sym, ap, ap₂, ◌∙◌}
-use mathlib.Core.Bool.{Bool, true, false}
+use mathlib.Core.Path.{◌≡◌, refl, ap, ap₂, ◌∙◌}
+use mathlib.Core.Bool.{true, false}
 use mathlib.Core.List.{List, [], ◌∷◌, ◌++◌}
-use native.Mathlib.Omega.{arith}
 use lib.ListN.{length, take, drop}
-use borrow.Author.Tests.{eq-eqb, ne_eqb}
 use Rattle.rules.specs.Bytes.{bytes}
 use Rattle.rules.specs.Texts.{starts_with}
 use Rattle.rules.specs.Editions.{Edition, ed1, ed2}
@@ -27,24 +25,9 @@ use Rattle.read_annotation.specs.declared.Front.{Front}
 use Rattle.read_annotation.specs.declared.Tail.{Tail}
 use Rattle.read_annotation.specs.declared.Parts.{Parts}
 use Rattle.store_annotation.specs.declared.Added.{Added}
-use Rattle.store_annotation.specs.Records.{signed_of, front_bytes, tail_bytes, count_bytes, record_in}
+use Rattle.store_annotation.specs.Records.{front_bytes, tail_bytes, count_bytes, record_in}
 use Rattle.read_annotation.specs.Measured.{behind_ion, annotation_size}
 use Rattle.store_annotation.specs.Events.{ion_events, adduct_count, adduct_events, StoresAdduct, behind_filed_isotopes, annotation_events, StoresAnnotation}
-
--- ---- a number with its sign
-
-module _ {minus : Bool} {v : ℕ} where
-  pub signed_plus : minus ≡ false → v ≡ signed_of minus v
-  unfolding signed_of
-  signed_plus e = rw e
-
-  pub signed_zero : minus ≡ true → v ≡ 0 → 0 ≡ signed_of minus v
-  unfolding signed_of
-  signed_zero e z = rw (e, eq-eqb v 0 z) (sym z)
-
-  pub signed_minus : minus ≡ true → (v ≡ 0 → ⊥) → v ≤ 18446744073709551615 → 18446744073709551615 - v + 1 ≡ signed_of minus v
-  unfolding signed_of
-  signed_minus e z h = rw (e, ne_eqb v 0 z) (omega arith)
 
 -- ---- the record
 

@@ -39,16 +39,11 @@ pub struct Stored {
 }
 
 // A number with its sign in two's complement.
+#[tactic(auto, unfolding(crate::specs::Records::signed_of))]
 fn signed(minus: bool, value: u64) -> u64
     ensures { result ≡ signed_of minus value }
 {
-    if !minus {
-        return value;
-    }
-    if value == 0 {
-        return 0;
-    }
-    u64::MAX - value + 1
+    if minus { value.wrapping_neg() } else { value }
 }
 
 // Bytes 0 to 9 of the record: kind, `&`, analyte present, series or letter, analyte, position, end.

@@ -8,5 +8,5 @@ returns-then-len-lt1 c = element_none c.args.s.now c.symbol_len-len.ensures c.if
 pub bounds-s-0 : goal.bounds-s-0
 bounds-s-0 c = element_some c.args.s.now c.symbol_len-len.ensures c.if-len-lt1.false
 
-pub returns : goal.returns
-returns c = element_is c.args.s.now c.symbol_len-len.ensures c.if-len-lt1.false c.second_letter.ensures c.atomic.ensures
+pub returns-else-len-lt1 : goal.returns-else-len-lt1
+returns-else-len-lt1 c = element_is c.args.s.now c.symbol_len-len.ensures c.if-len-lt1.false c.second_letter.ensures c.atomic.ensures

@@ -1,9 +1,0 @@
--- `read_formula::or_one` meets its contract: by whether there is a digit. Assumes nothing.
-use borrow.Author.Tests.{eq-eqb, ne_eqb}
-use Rattle.read_formula.proofs.or_one.Goals as goal
-
-pub returns-then-n-eq0 : goal.returns-then-n-eq0
-returns-then-n-eq0 c = rw (eq-eqb _ 0 c.if-n-eq0.true)
-
-pub returns : goal.returns
-returns c = rw (ne_eqb _ 0 c.if-n-eq0.false)
