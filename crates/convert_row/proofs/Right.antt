@@ -25,7 +25,7 @@ use Rattle.answers.proofs.Behind.{capped_is}
 use Rattle.read_row.specs.Readings.{head_bytes, moved_of}
 use Rattle.read_row.proofs.LinePlaces.{form_place, form_fills}
 use Rattle.read_row.proofs.Right.{moved_right}
-use Rattle.std.specs.Prelude.{Option, Some, None}
+use Rattle.std.specs.Prelude.{Result, Ok, Err}
 use Rattle.write_row.specs.declared.Head.{Head}
 use Rattle.write_row.specs.Writings.{good_head, head_in, columns_text}
 use Rattle.write_row.proofs.Heads.{Bytes, HeadRead, head_good}
@@ -93,6 +93,6 @@ pub convert_row_right : (l : LineEdition) (machine s : List ℕ) (room : ℕ) �
 unfolding convert_row_of
 convert_row_right l machine s room small y lent = by (good_head s) refl
   where
-    by : (t : Bool) → good_head s ≡ t → ConvertsRow s room (converted_in machine s room (cond {A = Option Head} t (Some (head_in s)) None))
+    by : (t : Bool) → good_head s ≡ t → ConvertsRow s room (converted_in machine s room (cond {A = Result Head Head} t (Ok (head_in s)) (Err (head_in s))))
     by true e = table_right s room small (head_in s) (head_good s y e) (convert_right l machine (drop row_head_size s) (room - row_head_size) (omega arith) lent)
     by false e = no_row (λ r g. subst T (sym (head_there g) ∙ e) tt)

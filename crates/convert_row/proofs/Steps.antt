@@ -4,7 +4,7 @@ use mathlib.Core.Path.{◌≡◌, refl, sym, ap, ◌∙◌, subst}
 use mathlib.Core.List.{List}
 use lib.ListN.{length, drop, replicate}
 use borrow.Author.Tests.{eq-eqb, ne_eqb}
-use Rattle.std.specs.Prelude.{Option, Some, None}
+use Rattle.std.specs.Prelude.{Result, Ok, Err}
 use Rattle.rules.specs.Answers as rules
 use Rattle.rules.specs.Answers.{refuses}
 use Rattle.rules.specs.Rows.{row_head_size}
@@ -26,18 +26,18 @@ pub third_put : (mz intensity : Decimal) {d e : List ℕ} {to at : ℕ} → Put 
 unfolding third_place capped
 third_put mz intensity p q = q ∙ ap (λ (n : ℕ). capped n 1) p.next
 
-module _ (machine s d : List ℕ) {o : Option Head} (h : o ≡ head_of s) where
+module _ (machine s d : List ℕ) {o : Result Head Head} (h : o ≡ head_of s) where
   head_is : converted_in machine s (length d) o ≡ convert_row_of machine s (length d)
   unfolding convert_row_of
   head_is = ap (converted_in machine s (length d)) h
 
   -- no head
-  pub converted_bad : o ≡ None → refuses (length d) 9 0 ≡ convert_row_of machine s (length d)
+  pub converted_bad : {x : Head} → o ≡ Err x → refuses (length d) 9 0 ≡ convert_row_of machine s (length d)
   converted_bad g = ap (converted_in machine s (length d)) (sym g) ∙ head_is
 
   -- a head, and what stands behind it was converted
-  module _ {x : Head} (g : o ≡ Some x) {t e : List ℕ} {r : Answer} (q : t ≡ drop row_head_size s) (w : Behind row_head_size d e (converted_of machine t (length d - row_head_size)) r) where
-    found_is : converted_in machine s (length d) (Some x) ≡ convert_row_of machine s (length d)
+  module _ {x : Head} (g : o ≡ Ok x) {t e : List ℕ} {r : Answer} (q : t ≡ drop row_head_size s) (w : Behind row_head_size d e (converted_of machine t (length d - row_head_size)) r) where
+    found_is : converted_in machine s (length d) (Ok x) ≡ convert_row_of machine s (length d)
     found_is = ap (converted_in machine s (length d)) (sym g) ∙ head_is
 
     abbrev b : rules.Answer

@@ -52,7 +52,7 @@ fn is_no_table(table: Result<usize, Refusal>) -> bool
 pub fn convert_row_by(machine: &[u8], stored: &[u8], out: &mut [u8]) -> Result<usize, Refusal>
     ensures { answered result out.new ≡ convert_row_of machine.now stored.now (length out.old) }
 {
-    let Some(head) = read_head(stored) else {
+    let Ok(head) = read_head(stored) else {
         clear(out);
         return refuse(Why::NoTable, 0);
     };

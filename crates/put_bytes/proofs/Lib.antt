@@ -1,3 +1,4 @@
 pub mod Putting
 pub mod PutLoop
 pub mod One
+pub mod Clearing

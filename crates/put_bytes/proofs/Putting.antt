@@ -1,5 +1,5 @@
 -- Laws of what is put at a cursor, for whoever puts one thing after the other. Assumes nothing.
-use Prim.Native.Nat.{ℕ, zero, suc, ◌+◌, ◌-◌, ◌≤◌, min}
+use Prim.Native.Nat.{ℕ, zero, suc, ◌+◌, ◌-◌, ◌*◌, ◌≤◌, min}
 use mathlib.Core.Path.{◌≡◌, refl, sym, ap, ap₂, ◌∙◌, subst}
 use mathlib.Core.List.{List, [], ◌∷◌, ◌++◌, append-nil, append_assoc}
 use native.Mathlib.Omega.{arith}
@@ -7,6 +7,8 @@ use native.Mathlib.Nat.{add-zero, zero-add, sub-zero}
 use native.Mathlib.Decide.{dec_le}
 use lib.ListN.{length, take, drop, set, replicate, length-append, length-replicate}
 use lib.Seq.{sets, sets-eq, set_out, length-sets, drop-length, drop-drop}
+use Rattle.lang.specs.Parts.{flat}
+use Rattle.rules.specs.Stored.{little}
 use Rattle.put_bytes.specs.Puts.{max_place, Put}
 
 -- ---- stores
@@ -38,6 +40,13 @@ drop_zeros (suc n) (suc m) = let e : suc n - suc m ≡ n - m = omega arith in rw
 
 pub put_none : {d : List ℕ} {at : ℕ} → length d ≤ max_place → at ≤ max_place → Put d at [] d at
 put_none {d} {at} h g = record { small = h; next = omega arith; made = refl }
+
+-- a byte inside, and one past the end
+pub put_in : {d : List ℕ} {at : ℕ} (b : ℕ) → length d ≤ max_place → suc at ≤ max_place → Put d at (b ∷ []) (set d at b) (at + 1)
+put_in {d} {at} b h g = record { small = h; next = omega arith; made = refl }
+
+pub put_out : {d : List ℕ} {at r : ℕ} (b : ℕ) → length d ≤ max_place → length d ≤ at → r ≡ min (at + 1) max_place → Put d at (b ∷ []) d r
+put_out {d} {at} b h g e = record { small = h; next = e; made = sym (set_out d at b g) }
 
 -- the output keeps its length
 pub put_length : {d e : List ℕ} {at r : ℕ} {l : List ℕ} → Put d at l e r → length e ≡ length d
@@ -90,3 +99,8 @@ put_part {d} {e} {l} {at} {n} {k} h g q z w =
 -- a cleared output, filled
 pub filled : {n r : ℕ} {l e : List ℕ} → Put (replicate n 0) 0 l e r → length l ≡ n → e ≡ l
 filled {n} {r} {l} {e} p h = put_over p (h ∙ sym (length-replicate n 0))
+
+-- words are of eight bytes
+pub words_length : (s : List ℕ) → length (flat (little 8) s) ≡ length s * 8
+words_length [] = refl
+words_length (v ∷ s) = omega (arith, length-append (little 8 v) (flat (little 8) s), words_length s)

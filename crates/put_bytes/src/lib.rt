@@ -37,6 +37,16 @@ fn fill_le(part: &mut [u8], v: u64)
     }
 }
 
+// All bytes of `s`, for which there is just room. No `copy_from_slice`: it calls `memmove`, which the archive for C would need from outside.
+fn fill(part: &mut [u8], s: &[u8])
+    requires { length part.old ≡ length s.now }
+    ensures { part.new ≡ s.now }
+{
+    for (i, &b) in s.iter().enumerate() {
+        part[i] = b;
+    }
+}
+
 // The low `n` bytes of `v`, the lowest first. Where all fit, which is nearly always, they fill a part that is as long: no byte asks
 // for room of its own, and for a width that is known their stores become one.
 pub fn put_le(out: &mut [u8], at: usize, v: u64, n: usize) -> usize
@@ -69,7 +79,7 @@ pub fn put_run(out: &mut [u8], at: usize, s: &[u8]) -> usize
 {
     if has_room(out, at, s.len()) {
         let end = at + s.len();
-        out[at..end].copy_from_slice(s);
+        fill(&mut out[at..end], s);
         return end;
     }
     put_run_far(out, at, s)

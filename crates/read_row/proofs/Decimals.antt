@@ -29,7 +29,7 @@ use Rattle.rules.proofs.Fractions.{whole_from, last_from, last_digits_lem, last_
 use Rattle.numbers.specs.declared.Decimal.{Decimal}
 use Rattle.numbers.specs.declared.DecimalRead.{DecimalRead}
 use Rattle.numbers.specs.declared.FirstByte.TheVariants.{Digit}
-use Rattle.std.specs.Prelude.{Option, Some, None, is_some}
+use Rattle.std.specs.Prelude.{Result, Option, Some, None, Ok, Err, is_some, is_ok}
 use Rattle.numbers.specs.Leading.{leading}
 use Rattle.numbers.specs.Making.{ruled, made_of, made_decimal}
 use Rattle.numbers.specs.Points.{point, fraction, pointed, decimal_from, decimal_of}
@@ -92,25 +92,25 @@ module _ (d : rules.Decimal) (f : T (fits d)) (k : List ℕ) (n : first_in digit
   read : decimal_of Digit (w ++ k) ≡ record { made = Some (kept d); len = length w }
   read = decimal_read Digit d k n p ∙ ap (λ (m : Option Decimal). record { made = m; len = length w }) (fits_made d f)
 
-  pub column_read : column_of (w ++ k) ≡ Some (record { decimal = kept d; len = length w; next = min (length w + 1) (length (w ++ k)) })
+  pub column_read : column_of (w ++ k) ≡ Ok (record { decimal = kept d; len = length w; next = min (length w + 1) (length (w ++ k)) })
   unfolding good_column column_in is_column
   column_read = rw (read, begins_text d k n, drop-append_seam w k, z)
 
 -- where the column ends
 pub good_read : {s column more : List ℕ} {place : ℕ} {d : rules.Decimal} → Cut s column more place → GoodColumn column d
-    → column_of s ≡ Some (record { decimal = kept d; len = length column; next = place })
+    → column_of s ≡ Ok (record { decimal = kept d; len = length column; next = place })
 unfolding ends_column
 good_read {d = d} (at_tab column more l e) g =
     let w = decimal_text d in
     let q : length w + 1 ≤ length (w ++ (9 ∷ more)) = omega (arith, length-append w (9 ∷ more)) in
     let m : min (length w + 1) (length (w ++ (9 ∷ more))) ≡ length column + 1 = omega (arith, ap length g.text) in
     ap column_of (sym e ∙ ap (λ (x : List ℕ). x ++ (9 ∷ more)) (sym g.text)) ∙ column_read d g.bounds (9 ∷ more) refl refl refl
-    ∙ ap₂ (λ (n x : ℕ). Some (record { decimal = kept d; len = n; next = x })) (ap length g.text) m
+    ∙ ap₂ (λ (n x : ℕ). Ok (record { decimal = kept d; len = n; next = x })) (ap length g.text) m
 good_read {s} {d = d} (no_tab l) g =
     let w = decimal_text d in
     let m : min (length w + 1) (length (w ++ [])) ≡ length s = omega (arith, length-append {A = ℕ} w [], ap length g.text) in
     ap column_of (sym (append-nil w ∙ g.text)) ∙ column_read d g.bounds [] refl refl refl
-    ∙ ap₂ (λ (n x : ℕ). Some (record { decimal = kept d; len = n; next = x })) (ap length g.text) m
+    ∙ ap₂ (λ (n x : ℕ). Ok (record { decimal = kept d; len = n; next = x })) (ap length g.text) m
 
 -- ---- and none else is
 
@@ -308,8 +308,8 @@ read_good s e =
 -- no other column is good
 pub read_bad : (s : List ℕ) → good_column s ≡ false → {column more : List ℕ} {place : ℕ} → Cut s column more place → BadColumn column
 read_bad s e c d g =
-    let none : is_some (column_of s) ≡ false = ap (λ (t : Bool). is_some (cond {A = Option Column} t (Some (column_in s)) None)) e in
-    subst T (sym (ap is_some (good_read c g)) ∙ none) tt
+    let bad : is_ok (column_of s) ≡ false = ap (λ (t : Bool). is_ok (cond {A = Result Column Column} t (Ok (column_in s)) (Err (column_in s)))) e in
+    subst T (sym (ap is_ok (good_read c g)) ∙ bad) tt
 
 -- ---- how long it may be
 

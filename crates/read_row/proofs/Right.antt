@@ -21,7 +21,7 @@ use Rattle.read_line.specs.Readings.{read_of}
 use Rattle.read_line.proofs.Right.{read_right}
 use Rattle.answers.specs.Behind.{capped}
 use Rattle.answers.proofs.Behind.{capped_is}
-use Rattle.std.specs.Prelude.{Option, Some, None}
+use Rattle.std.specs.Prelude.{Result, Ok, Err}
 use Rattle.read_row.specs.declared.Column.{Column}
 use Rattle.read_row.specs.Columns.{good_column, column_in, column_of}
 use Rattle.read_row.specs.Readings.{head_bytes, headed_of, moved_of, third_of, intensity_in, intensity_of, mz_in, read_row_of}
@@ -88,7 +88,7 @@ module _ (l : LineEdition) (machine row : List ℕ) (room : ℕ) (small : room �
   intensity_right mz at h = by (good_column (drop at row)) refl
     where
       by : (t : Bool) → good_column (drop at row) ≡ t
-          → ReadsIntensity l (ruled mz) (drop at row) at room (intensity_in machine row at mz room (cond {A = Option Column} t (Some (column_in (drop at row))) None))
+          → ReadsIntensity l (ruled mz) (drop at row) at room (intensity_in machine row at mz room (cond {A = Result Column Column} t (Ok (column_in (drop at row))) (Err (column_in (drop at row)))))
       by true e =
           let g = read_good (drop at row) e in
           let n = (column_in (drop at row)).next in
@@ -101,7 +101,7 @@ module _ (l : LineEdition) (machine row : List ℕ) (room : ℕ) (small : room �
   pub mz_right : ReadsRow l row room (mz_in machine row room (column_of row))
   mz_right = by (good_column row) refl
     where
-      by : (t : Bool) → good_column row ≡ t → ReadsRow l row room (mz_in machine row room (cond {A = Option Column} t (Some (column_in row)) None))
+      by : (t : Bool) → good_column row ≡ t → ReadsRow l row room (mz_in machine row room (cond {A = Result Column Column} t (Ok (column_in row)) (Err (column_in row))))
       by true e =
           let g = read_good row e in
           let n = (column_in row).next in

@@ -1,5 +1,5 @@
 -- The column that bytes begin with, read as a decimal. Assumes nothing.
-use Rattle.std.specs.Prelude.{ℕ, ◌+◌, min, Bool, true, false, cond, not, List, [], ◌∷◌, eqb, length, drop, is_some, Option, Some, None}
+use Rattle.std.specs.Prelude.{ℕ, ◌+◌, min, Bool, true, false, cond, not, List, [], ◌∷◌, eqb, length, drop, is_some, Result, Ok, Err}
 use Rattle.rules.specs.Bytes.{bytes, ◌to◌, digit}
 use Rattle.rules.specs.Texts.{first_in, starts_with}
 use Rattle.numbers.specs.declared.DecimalRead.{DecimalRead}
@@ -34,6 +34,6 @@ column_in s =
       next = min ((decimal_of Digit s).len + 1) (length s);
     }
 
--- the column that the bytes begin with
-abbrev pub column_of : List ℕ → Option Column
-column_of s = cond (good_column s) (Some (column_in s)) None
+-- the column that the bytes begin with, or what was read of a bad one
+abbrev pub column_of : List ℕ → Result Column Column
+column_of s = cond (good_column s) (Ok (column_in s)) (Err (column_in s))

@@ -1,5 +1,5 @@
 -- The answer to a row, by what its columns are read as. Assumes nothing.
-use Rattle.std.specs.Prelude.{ℕ, ◌+◌, ◌-◌, min, cond, List, ◌++◌, eqb, ltb, length, drop, Ok, Err, Option, Some, None}
+use Rattle.std.specs.Prelude.{ℕ, ◌+◌, ◌-◌, min, cond, List, ◌++◌, eqb, ltb, length, drop, Result, Ok, Err}
 use Rattle.std.proofs.lemmas.List.Edits.{sets}
 use Rattle.rules.specs.Stored.{stores}
 use Rattle.rules.specs.Answers as rules
@@ -51,17 +51,17 @@ third_of machine mz intensity third at room =
     moved_of (head_bytes mz intensity) at room (read_of (scanned_by machine third) third (room - row_head_size))
 
 -- of a row with m/z, where the intensity begins at a place and was read
-abbrev pub intensity_in : List ℕ → List ℕ → ℕ → Decimal → ℕ → Option Column → rules.Answer
-intensity_in machine row at mz room (Some c) = let to = min (at + c.next) (length row) in third_of machine mz c.decimal (drop to row) to room
-intensity_in machine row at mz room None = refuses room 13 at
+abbrev pub intensity_in : List ℕ → List ℕ → ℕ → Decimal → ℕ → Result Column Column → rules.Answer
+intensity_in machine row at mz room (Ok c) = let to = min (at + c.next) (length row) in third_of machine mz c.decimal (drop to row) to room
+intensity_in machine row at mz room (Err c) = refuses room 13 at
 
 unfoldable pub intensity_of : List ℕ → List ℕ → ℕ → Decimal → ℕ → rules.Answer
 intensity_of machine row at mz room = intensity_in machine row at mz room (column_of (drop at row))
 
 -- of a row whose m/z was read
-abbrev pub mz_in : List ℕ → List ℕ → ℕ → Option Column → rules.Answer
-mz_in machine row room (Some c) = intensity_of machine row c.next c.decimal room
-mz_in machine row room None = refuses room 12 0
+abbrev pub mz_in : List ℕ → List ℕ → ℕ → Result Column Column → rules.Answer
+mz_in machine row room (Ok c) = intensity_of machine row c.next c.decimal room
+mz_in machine row room (Err c) = refuses room 12 0
 
 unfoldable pub read_row_of : List ℕ → List ℕ → ℕ → rules.Answer
 read_row_of machine row room = cond (ltb max_row (length row)) (refuses room 1 max_row) (mz_in machine row room (column_of row))

@@ -54,20 +54,24 @@ fn is_column(s: &[u8], d: DecimalRead) -> bool
     begins_decimal(s) && d.made.is_some() && ends_column(rest(s, d.len))
 }
 
-// The column that a part begins with; none where it begins with no decimal within its bounds, or with more behind it.
+// The column that a part begins with. Where it begins with no decimal within its bounds, or with more behind it, the column is bad, and Err
+// tells what was read of it, as Ok does of a good one: the decimal, 0 where that is past its bounds, how many bytes it has, and where the
+// next column would begin.
 #[tactic(auto, unfolding(crate::specs::Columns::good_column, crate::specs::Columns::column_in))]
-pub fn read_column(s: &[u8]) -> Option<Column>
+pub fn read_column(s: &[u8]) -> Result<Column, Column>
     ensures { result ≡ column_of s.now }
 {
     let d = read_decimal(s, FirstByte::Digit);
-    if !is_column(s, d) {
-        return None;
-    }
-    Some(Column {
+    let column = Column {
         decimal: d.made.unwrap_or(Decimal::zero()),
         len: d.len,
         next: advance(d.len, 1, s.len()),
-    })
+    };
+    if is_column(s, d) {
+        Ok(column)
+    } else {
+        Err(column)
+    }
 }
 
 // ---- reading
@@ -146,7 +150,7 @@ fn read_intensity(
 ) -> Result<usize, Refusal>
     ensures { answered result out.new ≡ intensity_of machine.now row.now at mz (length out.old) }
 {
-    let Some(intensity) = read_column(rest(row, at)) else {
+    let Ok(intensity) = read_column(rest(row, at)) else {
         clear(out);
         return refuse(Why::BadIntensity, at);
     };
@@ -162,7 +166,7 @@ pub fn read_row_by(machine: &[u8], row: &[u8], out: &mut [u8]) -> Result<usize, 
         clear(out);
         return refuse(Why::LineTooLong, MAX_ROW);
     }
-    let Some(mz) = read_column(row) else {
+    let Ok(mz) = read_column(row) else {
         clear(out);
         return refuse(Why::BadMz, 0);
     };

@@ -9,7 +9,7 @@ use lib.ListN.{length, take, drop, replicate, length-take, take-append-drop}
 use lib.Seq.{take-append_seam}
 use borrow.Author.Tests.{ltb-false, lt-ltb, le-ltb, le-leb, lt-leb, ne_eqb}
 use Rattle.rules.specs.Limits.{max_line}
-use Rattle.std.specs.Prelude.{Ok, Err, Option, Some, None}
+use Rattle.std.specs.Prelude.{Result, Ok, Err}
 use Rattle.rules.specs.Answers as rules
 use Rattle.rules.specs.Answers.{refuses}
 use Rattle.rules.specs.RowAnswers.{max_row}
@@ -156,11 +156,11 @@ module _ (machine row : List ℕ) (room : ℕ) where
 
   -- ---- the columns
 
-  pub intensity_bad : (at : ℕ) {s : List ℕ} {o : Option Column} → s ≡ drop at row → o ≡ column_of s → o ≡ None → refuses room 13 at ≡ intensity_of machine row at room
+  pub intensity_bad : (at : ℕ) {s : List ℕ} {o : Result Column Column} {x : Column} → s ≡ drop at row → o ≡ column_of s → o ≡ Err x → refuses room 13 at ≡ intensity_of machine row at room
   unfolding intensity_of
   intensity_bad at q e g = ap (intensity_in machine row at room) (sym g ∙ e ∙ ap column_of q)
 
-  pub intensity_good : (at : ℕ) {end to : ℕ} {s : List ℕ} {o : Option Column} {x : Column} → s ≡ drop at row → o ≡ column_of s → o ≡ Some x
+  pub intensity_good : (at : ℕ) {end to : ℕ} {s : List ℕ} {o : Result Column Column} {x : Column} → s ≡ drop at row → o ≡ column_of s → o ≡ Ok x
       → end ≡ min (at + x.len) (length row) → to ≡ min (at + x.next) (length row)
       → columns_of machine row end to room ≡ intensity_of machine row at room
   unfolding intensity_of
@@ -170,13 +170,13 @@ module _ (machine row : List ℕ) (room : ℕ) where
   unfolding relabelled_row_of
   row_long h = rw (lt-ltb max_row (length row) h)
 
-  row_in : {o : Option Column} → length row ≤ max_row → o ≡ column_of row → mz_in machine row room o ≡ relabelled_row_of machine row room
+  row_in : {o : Result Column Column} → length row ≤ max_row → o ≡ column_of row → mz_in machine row room o ≡ relabelled_row_of machine row room
   unfolding relabelled_row_of
   row_in h e = ap (mz_in machine row room) e ∙ rw (le-ltb max_row (length row) h)
 
-  pub row_bad : {o : Option Column} → length row ≤ max_row → o ≡ column_of row → o ≡ None → refuses room 12 0 ≡ relabelled_row_of machine row room
+  pub row_bad : {o : Result Column Column} {x : Column} → length row ≤ max_row → o ≡ column_of row → o ≡ Err x → refuses room 12 0 ≡ relabelled_row_of machine row room
   row_bad h e g = ap (mz_in machine row room) (sym g) ∙ row_in h e
 
-  pub row_good : {o : Option Column} {x : Column} → length row ≤ max_row → o ≡ column_of row → o ≡ Some x
+  pub row_good : {o : Result Column Column} {x : Column} → length row ≤ max_row → o ≡ column_of row → o ≡ Ok x
       → intensity_of machine row x.next room ≡ relabelled_row_of machine row room
   row_good h e g = ap (mz_in machine row room) (sym g) ∙ row_in h e

@@ -1,5 +1,5 @@
 -- The answer to a row that is relabelled, by what its columns are read as and its line is relabelled to. Assumes nothing.
-use Rattle.std.specs.Prelude.{ℕ, ◌+◌, ◌-◌, min, cond, List, ◌++◌, eqb, ltb, leb, length, take, drop, replicate, Ok, Err, Option, Some, None}
+use Rattle.std.specs.Prelude.{ℕ, ◌+◌, ◌-◌, min, cond, List, ◌++◌, eqb, ltb, leb, length, take, drop, replicate, Result, Ok, Err}
 use Rattle.rules.specs.Limits.{max_line}
 use Rattle.rules.specs.Answers as rules
 use Rattle.rules.specs.Answers.{refuses}
@@ -55,17 +55,17 @@ unfoldable pub columns_of : List ℕ → List ℕ → ℕ → ℕ → ℕ → ru
 columns_of machine row end at room = cond (leb (length row) at) (bare_of (take end row) (length (take end row)) room) (third_of machine row at room)
 
 -- of a row with m/z, where the intensity begins at a place and was read
-abbrev pub intensity_in : List ℕ → List ℕ → ℕ → ℕ → Option Column → rules.Answer
-intensity_in machine row at room (Some c) = columns_of machine row (min (at + c.len) (length row)) (min (at + c.next) (length row)) room
-intensity_in machine row at room None = refuses room 13 at
+abbrev pub intensity_in : List ℕ → List ℕ → ℕ → ℕ → Result Column Column → rules.Answer
+intensity_in machine row at room (Ok c) = columns_of machine row (min (at + c.len) (length row)) (min (at + c.next) (length row)) room
+intensity_in machine row at room (Err c) = refuses room 13 at
 
 unfoldable pub intensity_of : List ℕ → List ℕ → ℕ → ℕ → rules.Answer
 intensity_of machine row at room = intensity_in machine row at room (column_of (drop at row))
 
 -- of a row whose m/z was read
-abbrev pub mz_in : List ℕ → List ℕ → ℕ → Option Column → rules.Answer
-mz_in machine row room (Some c) = intensity_of machine row c.next room
-mz_in machine row room None = refuses room 12 0
+abbrev pub mz_in : List ℕ → List ℕ → ℕ → Result Column Column → rules.Answer
+mz_in machine row room (Ok c) = intensity_of machine row c.next room
+mz_in machine row room (Err c) = refuses room 12 0
 
 unfoldable pub relabelled_row_of : List ℕ → List ℕ → ℕ → rules.Answer
 relabelled_row_of machine row room = cond (ltb max_row (length row)) (refuses room 1 max_row) (mz_in machine row room (column_of row))

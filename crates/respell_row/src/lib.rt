@@ -111,7 +111,7 @@ fn relabel_intensity(
 ) -> Result<usize, Refusal>
     ensures { answered result out.new ≡ intensity_of machine.now row.now at (length out.old) }
 {
-    let Some(intensity) = read_column(rest(row, at)) else {
+    let Ok(intensity) = read_column(rest(row, at)) else {
         clear(out);
         return refuse(Why::BadIntensity, at);
     };
@@ -128,7 +128,7 @@ pub fn relabel_row_by(machine: &[u8], row: &[u8], out: &mut [u8]) -> Result<usiz
         clear(out);
         return refuse(Why::LineTooLong, MAX_ROW);
     }
-    let Some(mz) = read_column(row) else {
+    let Ok(mz) = read_column(row) else {
         clear(out);
         return refuse(Why::BadMz, 0);
     };

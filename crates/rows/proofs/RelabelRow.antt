@@ -39,7 +39,7 @@ use Rattle.lines.specs.Relabels.{Relabels}
 use Rattle.lines.proofs.Small.{table_small}
 use Rattle.lines.proofs.Enough.{read_enough}
 use Rattle.lines.proofs.Right.{reads_table, bytes_read, relabel_right}
-use Rattle.std.specs.Prelude.{Option, Some, None}
+use Rattle.std.specs.Prelude.{Result, Ok, Err}
 use Rattle.read_row.specs.declared.Column.{Column}
 use Rattle.read_row.specs.Columns.{good_column, column_in, column_of}
 use Rattle.read_row.proofs.Cuts.{cut_some, no_cut}
@@ -330,7 +330,7 @@ module _ (l : LineEdition) (machine row : List ℕ) (room : ℕ) (small : room �
   unfolding intensity_of
   intensity_right e = by (good_column (drop n row)) refl
     where
-      by : (t : Bool) → good_column (drop n row) ≡ t → RelabelsRow l row room (intensity_in machine row n room (cond {A = Option Column} t (Some (column_in (drop n row))) None))
+      by : (t : Bool) → good_column (drop n row) ≡ t → RelabelsRow l row room (intensity_in machine row n room (cond {A = Result Column Column} t (Ok (column_in (drop n row))) (Err (column_in (drop n row)))))
       by true q =
           let g = read_good row e in
           let h = read_good (drop n row) q in
@@ -348,7 +348,7 @@ module _ (l : LineEdition) (machine row : List ℕ) (room : ℕ) (small : room �
   mz_right : RelabelsRow l row room (mz_in machine row room (column_of row))
   mz_right = by (good_column row) refl
     where
-      by : (t : Bool) → good_column row ≡ t → RelabelsRow l row room (mz_in machine row room (cond {A = Option Column} t (Some (column_in row)) None))
+      by : (t : Bool) → good_column row ≡ t → RelabelsRow l row room (mz_in machine row room (cond {A = Result Column Column} t (Ok (column_in row)) (Err (column_in row))))
       by true e = intensity_right e
       by false e =
           let c = (cut_some row).is in refused (ReadsRow.bad short c (read_bad row e c)) (λ z. absurd (omega arith))

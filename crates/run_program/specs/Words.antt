@@ -1,5 +1,5 @@
 -- The words that a program takes. Assumes nothing.
-use Rattle.std.specs.Prelude.{ℕ, ◌≡◌, Bool, true, List}
+use Rattle.std.specs.Prelude.{ℕ, ◌≤◌, ◌≡◌, Bool, true, List, length, take}
 use Rattle.rules.specs.Bytes.{bytes}
 
 -- the argument that asks what a program does
@@ -9,6 +9,10 @@ help_word = bytes "--help"
 -- the argument that asks for lines of the second edition
 abbrev pub second_word : List ℕ
 second_word = bytes "--second"
+
+-- the first n bytes of a buffer can be lent, and are n
+abbrev pub IsPrefixLen : ℕ → List ℕ → Type 0
+IsPrefixLen n xs = (n ≤ length xs) × (n ≡ length (take n xs))
 
 -- r tells whether two words are the same
 pub record Tells (r : Bool) (a b : List ℕ) : Type 0 where

@@ -1,14 +1,15 @@
 // How each program begins and ends, and how it goes through its lines: what it says of its arguments, and of what the system refused. What
-// the system hands over and takes cannot be stated: `was_asked`, `asked_lines`, `has_argument`, `only_word`, `show`, `explain`, `refuse`,
-// `answer_all`, `finish`, `fail` and `put_word` are proved safe and ending, and the others state their answers. Programs that differ in
-// a name, a help text and switches alone stay programs, since each is what a user runs.
+// the system hands over and takes cannot be stated: `was_asked`, `asked_lines`, `has_argument`, `show`, `explain`, `refuse`, `finish`, `fail`
+// and `put_word` are proved safe and ending, `only_word` states that it counts bytes of its buffer, `answer_all` that what is asked of all
+// lines stays, and the others state their answers. Programs that differ in a name, a help text and switches alone stay programs, since each
+// is what a user runs.
 #![tactic(auto)]
 
-ghost use Rattle.std.specs.Prelude.{ℕ, ◌≤◌, ◌≡◌, ◌++◌, take, length};
+ghost use Rattle.std.specs.Prelude.{◌≡◌, ◌++◌, IfSome, take, length};
 ghost use Rattle.put_bytes.specs.Puts.{Put};
-ghost use Rattle.run_program.specs.Words.{Tells, help_word, second_word};
+ghost use Rattle.run_program.specs.Words.{IsPrefixLen, Tells, help_word, second_word};
 
-use io_lines::{Failure, Stream, System, flush, next_line};
+use io_lines::{Failure, Stream, System, flush};
 use put_bytes::put_run;
 use scan_line::Lines;
 use slices::{first_of, minus_or_zero, rest};
@@ -41,12 +42,15 @@ pub fn was_asked(rt: &HostRuntime, name: &[u8], help: &[u8], numbered: bool) -> 
         return None;
     }
     let mut word = [0u8; WORD];
-    let asked = only_word(rt, &mut word);
-    if asked.is_some_and(is_second) {
+    let asked: &[u8] = match only_word(rt, &mut word) {
+        Some(n) => &word[..n],
+        None => &[],
+    };
+    if is_second(asked) {
         return None;
     }
     let mut system = System::begin(*rt);
-    if asked.is_some_and(is_help) {
+    if is_help(asked) {
         return Some(show(&mut system, name, help, numbered));
     }
     refuse(&system, name);
@@ -56,10 +60,9 @@ pub fn was_asked(rt: &HostRuntime, name: &[u8], help: &[u8], numbered: bool) -> 
 // The edition of the lines that the program reads or writes: the second where the one argument is `--second`, and else the first.
 pub fn asked_lines(rt: &HostRuntime) -> Lines {
     let mut word = [0u8; WORD];
-    if only_word(rt, &mut word).is_some_and(is_second) {
-        Lines::Second
-    } else {
-        Lines::First
+    match only_word(rt, &mut word) {
+        Some(n) if is_second(&word[..n]) => Lines::Second,
+        _ => Lines::First,
     }
 }
 
@@ -69,13 +72,16 @@ fn has_argument(rt: &HostRuntime, i: usize) -> bool {
     !matches!(rt.arg(i, &mut word), Err(FillError::NotPresent))
 }
 
-// The program's argument where it has one alone, at the start of a buffer; none where the argument is longer than the buffer.
-fn only_word<'a>(rt: &HostRuntime, word: &'a mut [u8]) -> Option<&'a [u8]> {
+// How many bytes the program's argument has where it has one alone, which then stands at the start of a buffer; none where the argument is longer
+// than the buffer.
+fn only_word(rt: &HostRuntime, word: &mut [u8]) -> Option<usize>
+    ensures { IfSome result (λ n. IsPrefixLen n word.new) }
+{
     if has_argument(rt, 2) {
         return None;
     }
     match rt.arg(1, word) {
-        Ok(n) => Some(&word[..n]),
+        Ok(n) => Some(n),
         Err(_) => None,
     }
 }
@@ -142,35 +148,39 @@ fn refuse(system: &System, name: &[u8]) {
     system.tell(first_of(&text, n));
 }
 
-// What a program does with its lines, or with the parts of lines that it takes.
-pub trait Answers {
-    // How many bytes the output has at least.
-    ghost least: { ℕ };
+// What a program does with its lines, or with the parts of lines that it takes; its output has OUT bytes.
+pub trait Answers<const OUT: usize> {
+    // What is asked of all lines alike. No line changes it, so that each is answered as it would be alone.
+    ghost Asked: { Type 0 };
 
-    // What comes next: a line, where a program does not say otherwise.
-    fn next(&mut self, system: &mut System, buf: &mut [u8], out: &[u8], s: Stream) -> Stream {
-        next_line(system, buf, out, s)
-    }
+    ghost asked: { Self → Asked };
+
+    // What comes next: a line, or a part of one.
+    fn next(&mut self, system: &mut System, buf: &mut [u8], out: &[u8], s: Stream) -> Stream
+        ensures { asked self.new ≡ asked self.old };
 
     // What was found is answered, behind the answers that wait.
-    fn answer(&mut self, system: &mut System, buf: &[u8], out: &mut [u8], s: Stream) -> Stream
-        requires { least ≤ length out.old };
+    fn answer(&mut self, system: &mut System, buf: &[u8], out: &mut [u8; OUT], s: Stream) -> Stream
+        ensures { asked self.new ≡ asked self.old };
 
     // What is left to answer at the end: nothing, where a program does not say otherwise.
-    fn end(&mut self, _system: &mut System, _out: &mut [u8], s: Stream) -> Stream {
+    fn end(&mut self, _system: &mut System, _out: &mut [u8; OUT], s: Stream) -> Stream
+        ensures { asked self.new ≡ asked self.old }
+    {
         s
     }
 }
 
-// Line after line is answered, until none comes. A proved loop has to end, so it counts up to a number that no run reaches.
-pub fn answer_all<A: Answers>(
+// Line after line is answered, until none comes; what is asked of them stays. A proved loop has to end, so it counts up to a number that no run
+// reaches.
+pub fn answer_all<const OUT: usize, A: Answers<OUT>>(
     system: &mut System,
     name: &[u8],
     buf: &mut [u8],
-    out: &mut [u8],
+    out: &mut [u8; OUT],
     answers: &mut A,
 ) -> ExitCode
-    requires { A.least ≤ length out.old }
+    ensures { A.asked answers.new ≡ A.asked answers.old }
 {
     let mut s = answers.next(system, buf, out, Stream::begin());
     for _ in 0..u64::MAX {

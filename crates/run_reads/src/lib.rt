@@ -5,15 +5,17 @@
 // tested and no closures: `ReadInto`, which says what is answered, speaks of both.
 #![tactic(auto)]
 
-ghost use Rattle.std.specs.Prelude.{◌≡◌, true, length, take, drop};
+ghost use Rattle.std.specs.Prelude.{ℕ, ◌≡◌, Bool, true, List, length, take, drop};
 ghost use Rattle.answers.specs.Delivered.{answered};
 ghost use Rattle.io_lines.specs.Streams.{line_in};
+ghost use Rattle.io_lines.specs.Found.{Next};
+ghost use Rattle.run_program.specs.declared.Input.{Input};
 ghost use Rattle.run_reads.specs.Answered.{Answered};
 ghost use Rattle.run_reads.specs.Reads.{read_as, ReadInto};
 
 use faults::Refusal;
 use io_answers::{behind_size, put_answer, size_in};
-use io_lines::{Stream, System, room};
+use io_lines::{Stream, System, next_line, room};
 use layout::ROW_HEAD_SIZE;
 use limits::MAX_TABLE;
 use read_line::read_by;
@@ -62,12 +64,34 @@ struct Reader<'a> {
     table: [u8; MAX_STORED_ROW],
 }
 
-impl Answers for Reader<'_> {
-    ghost least = { 0 };
+impl Answers<BUFFER> for Reader<'_> {
+    ghost use Rattle.std.specs.Prelude.{ℕ, Bool, List};
+    ghost use Rattle.run_program.specs.declared.Input.{Input};
+
+    ghost Asked = { Input × List ℕ × Bool };
+
+    ghost asked = { λ r. (r.input, r.machine.now, r.sized) };
+
+    // In line, so that no stream is copied for each line.
+    #[inline(always)]
+    fn next(&mut self, system: &mut System, buf: &mut [u8], out: &[u8], s: Stream) -> Stream
+        ensures found { Next buf.old s buf.new result }
+        ensures kept { self.new ≡ self.old }
+    {
+        next_line(system, buf, out, s)
+    }
 
     // The line that was found is answered, behind the answers that wait.
-    fn answer(&mut self, system: &mut System, buf: &[u8], out: &mut [u8], s: Stream) -> Stream
-        ensures { Answered self.old.input self.old.machine.now (line_in buf.now s) self.old.sized s self.old.table self.new.table out.old out.new result }
+    #[inline(always)]
+    fn answer(
+        &mut self,
+        system: &mut System,
+        buf: &[u8],
+        out: &mut [u8; BUFFER],
+        s: Stream,
+    ) -> Stream
+        ensures kept { ◌≡◌ {A = Input × List ℕ × Bool} (self.new.input, self.new.machine.now, self.new.sized) (self.old.input, self.old.machine.now, self.old.sized) }
+        ensures answered { Answered self.old.input self.old.machine.now (line_in buf.now s) self.old.sized s self.old.table self.new.table out.old out.new result }
     {
         let t = room(system, out, s, ANSWER);
         let line = s.line(buf);

@@ -7,9 +7,12 @@
 
 ghost use Rattle.std.specs.Prelude.{◌+◌, ◌≤◌, ◌≡◌, length};
 ghost use Rattle.rules.specs.RowAnswers.{max_row};
+ghost use Rattle.scan_line.specs.declared.Lines.{Lines};
 ghost use Rattle.scan_line.specs.Lines.{lines_in};
+ghost use Rattle.run_program.specs.declared.Input.{Input};
 ghost use Rattle.scan_line.specs.Steps.{machine_bytes};
 ghost use Rattle.io_lines.specs.Streams.{line_in};
+ghost use Rattle.io_lines.specs.Found.{Next};
 ghost use Rattle.run_relabel.specs.Answered.{Answered};
 ghost use Rattle.answers.specs.Delivered.{answered};
 ghost use Rattle.run_relabel.specs.Spelled.{relabel_as, Spelled};
@@ -52,20 +55,34 @@ struct Relabeller<'a> {
     ghost made: { machine.now ≡ machine_bytes (lines_in lines) },
 }
 
-impl Answers for Relabeller<'_> {
-    ghost least = { max_row + 1 };
+impl Answers<BUFFER> for Relabeller<'_> {
+    ghost use Rattle.scan_line.specs.declared.Lines.{Lines};
+    ghost use Rattle.run_program.specs.declared.Input.{Input};
+
+    ghost Asked = { Lines × Input };
+
+    ghost asked = { λ r. (r.lines, r.input) };
 
     // In line, so that no stream is copied for each line.
     #[inline(always)]
-    fn next(&mut self, system: &mut System, buf: &mut [u8], out: &[u8], s: Stream) -> Stream {
+    fn next(&mut self, system: &mut System, buf: &mut [u8], out: &[u8], s: Stream) -> Stream
+        ensures found { Next buf.old s buf.new result }
+        ensures kept { self.new ≡ self.old }
+    {
         next_line(system, buf, out, s)
     }
 
     // The line that was found is answered, behind the answers that wait; a line feed ends its own.
     #[inline(always)]
-    fn answer(&mut self, system: &mut System, buf: &[u8], out: &mut [u8], s: Stream) -> Stream
-        requires { max_row + 1 ≤ length out.old }
-        ensures { Answered (lines_in self.old.lines) self.old.input (line_in buf.now s) s out.old out.new result }
+    fn answer(
+        &mut self,
+        system: &mut System,
+        buf: &[u8],
+        out: &mut [u8; BUFFER],
+        s: Stream,
+    ) -> Stream
+        ensures kept { ◌≡◌ {A = Lines × Input} (self.new.lines, self.new.input) (self.old.lines, self.old.input) }
+        ensures answered { Answered (lines_in self.old.lines) self.old.input (line_in buf.now s) s out.old out.new result }
     {
         let t = room(system, out, s, MAX_ROW + 1);
         let a = self.spell(s.line(buf), out, t.waiting);

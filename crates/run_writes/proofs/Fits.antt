@@ -7,7 +7,7 @@ use native.Mathlib.Omega.{arith}
 use lib.Dec.{eqb, ltb}
 use lib.ListN.{length, take, length-replicate}
 use borrow.Author.Tests.{ltb-false}
-use Rattle.std.specs.Prelude.{Option, Some, None}
+use Rattle.std.specs.Prelude.{Option, Some, None, Result, Ok, Err}
 use Rattle.std.specs.Option.{option_map_or}
 use Rattle.rules.specs.Limits.{max_line}
 use Rattle.rules.specs.Rows.{tab}
@@ -102,9 +102,9 @@ row_fits : (machine stored : List ℕ) (room : ℕ) → Fits room (write_row_of 
 unfolding write_row_of
 row_fits machine stored room = by (head_of stored)
   where
-    by : (o : Option Head) → Fits room (headed_of machine stored room o)
-    by (Some h) = behind_fits _ _ room _
-    by None = refused room 9 0
+    by : (o : Result Head Head) → Fits room (headed_of machine stored room o)
+    by (Ok h) = behind_fits _ _ room _
+    by (Err h) = refused room 9 0
 
 as_fits : (task : Task) (machine table : List ℕ) (room : ℕ) → Fits room (answer_as task machine table room)
 unfolding answer_as

@@ -6,18 +6,21 @@
 // values that are tested and no closures: `answer_to` and `told_as`, which say what is answered, speak of them.
 #![tactic(auto)]
 
-ghost use Rattle.std.specs.Prelude.{◌≡◌, ◌≤◌, true, length};
+ghost use Rattle.std.specs.Prelude.{ℕ, ◌≡◌, ◌≤◌, Bool, true, List, length};
 ghost use Rattle.put_bytes.specs.Puts.{Put};
 ghost use Rattle.answers.specs.Delivered.{answered};
 ghost use Rattle.io_answers.specs.Asked.{room_in};
 ghost use Rattle.io_lines.specs.Streams.{line_in};
+ghost use Rattle.io_lines.specs.Found.{Next};
+ghost use Rattle.run_writes.specs.declared.Task.{Task};
+ghost use Rattle.run_writes.specs.declared.Form.{Form};
 ghost use Rattle.run_writes.specs.Answered.{most_of, answer_as, hex_of, answer_to, Written, told_as, Answered};
 
 use answers::refuse;
 use faults::{Refusal, Why};
 use io_answers::{behind_size, put_answer, put_briefly, size_in};
 use io_hex::{is_hex, put_unhexed};
-use io_lines::{Stream, System, room};
+use io_lines::{Stream, System, next_line, room};
 use layout::ROW_HEAD_SIZE;
 use limits::{MAX_ANY_TABLE, MAX_ROW};
 use put_bytes::clear;
@@ -91,12 +94,35 @@ struct Writer<'a> {
     line: [u8; MAX_ANY_TABLE],
 }
 
-impl Answers for Writer<'_> {
-    ghost least = { 0 };
+impl Answers<WAITING> for Writer<'_> {
+    ghost use Rattle.std.specs.Prelude.{ℕ, Bool, List};
+    ghost use Rattle.run_writes.specs.declared.Task.{Task};
+    ghost use Rattle.run_writes.specs.declared.Form.{Form};
+
+    ghost Asked = { Task × Form × List ℕ × Bool };
+
+    ghost asked = { λ w. (w.task, w.form, w.machine.now, w.sized) };
+
+    // In line, so that no stream is copied for each line.
+    #[inline(always)]
+    fn next(&mut self, system: &mut System, buf: &mut [u8], out: &[u8], s: Stream) -> Stream
+        ensures found { Next buf.old s buf.new result }
+        ensures kept { self.new ≡ self.old }
+    {
+        next_line(system, buf, out, s)
+    }
 
     // The table that was found is answered, behind the answers that wait.
-    fn answer(&mut self, system: &mut System, buf: &[u8], out: &mut [u8], s: Stream) -> Stream
-        ensures { Answered self.old.form (answer_to self.old.task self.old.machine.now self.old.sized (line_in buf.now s) (length self.old.table) (most_of self.old.task)) s out.old out.new result }
+    #[inline(always)]
+    fn answer(
+        &mut self,
+        system: &mut System,
+        buf: &[u8],
+        out: &mut [u8; WAITING],
+        s: Stream,
+    ) -> Stream
+        ensures kept { ◌≡◌ {A = Task × Form × List ℕ × Bool} (self.new.task, self.new.form, self.new.machine.now, self.new.sized) (self.old.task, self.old.form, self.old.machine.now, self.old.sized) }
+        ensures answered { Answered self.old.form (answer_to self.old.task self.old.machine.now self.old.sized (line_in buf.now s) (length self.old.table) (most_of self.old.task)) s out.old out.new result }
     {
         let t = room(system, out, s, ANSWER);
         let asked = s.line(buf);

@@ -6,6 +6,7 @@
 ghost use Rattle.std.specs.Prelude.{◌≡◌, List, ℕ, length};
 ghost use Rattle.put_bytes.specs.Puts.{Put};
 ghost use Rattle.io_lines.specs.Streams.{line_in};
+ghost use Rattle.io_lines.specs.Found.{NextPart};
 ghost use Rattle.shapes.specs.Shown.{place_text, verdict_text, is_begun, Shown, Parted, Last};
 
 use io_lines::{Stream, System, next_part, room};
@@ -58,18 +59,33 @@ struct Shapes<'a> {
     scan: Progress,
 }
 
-impl Answers for Shapes<'_> {
-    ghost least = { 0 };
+impl Answers<BUFFER> for Shapes<'_> {
+    ghost use Rattle.std.specs.Prelude.{ℕ, List};
+
+    ghost Asked = { List ℕ };
+
+    ghost asked = { λ p. p.machine.now };
 
     // Lines are taken part by part.
     #[inline(always)]
-    fn next(&mut self, system: &mut System, buf: &mut [u8], out: &[u8], s: Stream) -> Stream {
+    fn next(&mut self, system: &mut System, buf: &mut [u8], out: &[u8], s: Stream) -> Stream
+        ensures found { NextPart buf.old s buf.new result }
+        ensures kept { self.new ≡ self.old }
+    {
         next_part(system, buf, out, s)
     }
 
     // The part that was found, which may be the last of its line.
-    fn answer(&mut self, system: &mut System, buf: &[u8], out: &mut [u8], s: Stream) -> Stream
-        ensures { Parted self.old.machine.now (line_in buf.now s) s self.old.scan out.old out.new self.new.scan result }
+    #[inline(always)]
+    fn answer(
+        &mut self,
+        system: &mut System,
+        buf: &[u8],
+        out: &mut [u8; BUFFER],
+        s: Stream,
+    ) -> Stream
+        ensures kept { self.new.machine.now ≡ self.old.machine.now }
+        ensures parted { Parted self.old.machine.now (line_in buf.now s) s self.old.scan out.old out.new self.new.scan result }
     {
         let scan = self.scan.over(self.machine, s.line(buf));
         if !s.is_fed() {
@@ -81,8 +97,9 @@ impl Answers for Shapes<'_> {
     }
 
     // A last line without line feed.
-    fn end(&mut self, system: &mut System, out: &mut [u8], s: Stream) -> Stream
-        ensures { Last self.old.machine.now s self.old.scan out.old out.new result }
+    fn end(&mut self, system: &mut System, out: &mut [u8; BUFFER], s: Stream) -> Stream
+        ensures kept { self.new ≡ self.old }
+        ensures last { Last self.old.machine.now s self.old.scan out.old out.new result }
     {
         if is_begun(self.scan) {
             answer(system, self.machine, out, s, self.scan)
@@ -100,6 +117,7 @@ fn is_begun(p: Progress) -> bool
 }
 
 // The answer for a line, behind those that wait.
+#[inline(always)]
 fn answer(system: &mut System, machine: &[u8], out: &mut [u8], s: Stream, p: Progress) -> Stream
     ensures { Shown machine.now p s out.old out.new result }
 {

@@ -86,7 +86,10 @@ fn first_bytes<const N: usize>(s: &[u8]) -> [u8; N]
         return *bytes;
     }
     let mut bytes = [0; N];
-    bytes[..s.len()].copy_from_slice(s);
+    // No `copy_from_slice`: it calls `memmove`, which the archive for C would need from outside.
+    for i in 0..N {
+        bytes[i] = byte_of(s, i);
+    }
     bytes
 }
 

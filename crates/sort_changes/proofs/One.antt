@@ -1,6 +1,7 @@
 -- Two answers that meet a contract of this crate are equal. Assumes nothing.
 use Prim.Native.Nat.{ℕ}
-use mathlib.Core.Path.{◌≡◌, sym, ap₂, ◌∙◌}
+use mathlib.Core.Path.{◌≡◌, refl, sym, ap, ap₂, ◌∙◌}
+use mathlib.Core.Bool.{true≢false}
 use mathlib.Core.List.{List}
 use lib.ListN.{length, drop}
 use Rattle.put_bytes.proofs.One.{put_one}
@@ -11,7 +12,10 @@ use Rattle.store_sections.proofs.One.{ran_one}
 use Rattle.sort_slots.specs.Slots.{with_slot}
 use Rattle.sort_changes.specs.declared.Gathered.{Gathered}
 use Rattle.sort_changes.specs.declared.Arranged.{Arranged}
+use Rattle.sort_changes.specs.declared.Begins.{Begins}
+use Rattle.sort_changes.specs.declared.Begins.TheVariants.{None, One, Several}
 use Rattle.sort_changes.specs.Gathered.{Got, slot_from, change_here, Is, GathersOne, Gathers}
+use Rattle.sort_changes.specs.Ways.{BeginsSo}
 use Rattle.sort_changes.specs.Events.{StoresChanges}
 use Rattle.sort_changes.specs.Spelled.{SpellsMany, SpellsChanges}
 
@@ -35,6 +39,19 @@ grows_one {g} {s} x y =
 
 pub gathers_one : (s d : List ℕ) {keys more : List ℕ} {g h : Gathered} → Gathers s d keys g → Gathers s d more h → (keys ≡ more) × (g ≡ h)
 gathers_one s d x y = is_one x y
+
+-- ---- how many there are
+
+pub begins_so_one : (s : List ℕ) (r q : Begins) → BeginsSo s r → BeginsSo s q → r ≡ q
+begins_so_one s None None a b = refl
+begins_so_one s None (One y) a b = absurd (true≢false (sym b.here ∙ a))
+begins_so_one s None Several a b = absurd (true≢false (sym b.here ∙ a))
+begins_so_one s (One x) None a b = absurd (true≢false (sym a.here ∙ b))
+begins_so_one s (One x) (One y) a b = ap One (a.is ∙ sym b.is)
+begins_so_one s (One x) Several a b = absurd (true≢false (sym b.next ∙ a.last))
+begins_so_one s Several None a b = absurd (true≢false (sym a.here ∙ b))
+begins_so_one s Several (One y) a b = absurd (true≢false (sym a.next ∙ b.last))
+begins_so_one s Several Several a b = refl
 
 -- ---- stored, and spelled anew
 

@@ -7,13 +7,13 @@ use native.Mathlib.Omega.{arith}
 use native.Mathlib.Decide.{dec_lt}
 use native.Mathlib.Numerals.{add-one}
 use borrow.Author.Tests.{le-leb, lt-leb, lt-ltb, le-ltb}
-use borrow.Rule.Slice.PartMut.{mid_of, put_mid}
+use borrow.Rule.Slice.PartMut.{mid_of, put_mid, same_len_mid}
 use lib.Dec.{ltb}
-use lib.ListN.{length, take, drop, set, length-append, length-set, length-drop}
-use lib.Seq.{take-suc-set, take-set-le, take-take, take_at, drop_at, length-take-le}
+use lib.ListN.{length, take, drop, set, replicate, length-append, length-set, length-drop}
+use lib.Seq.{take-suc-set, take-set-le, take-take, take_at, drop_at, drop-drop, drop-set-lt, length-take-le}
 use Rattle.std.proofs.Common.{Option, Some, None}
-use Rattle.std.proofs.lemmas.List.{drop-append-le}
-use Rattle.std.proofs.lemmas.Slice.{between_is, take-put_mid}
+use Rattle.std.proofs.lemmas.List.{drop-append-le, drop-replicate}
+use Rattle.std.proofs.lemmas.Slice.{between_is, take-put_mid, drop-put_mid}
 use Rattle.std.proofs.lemmas.List.Sums.{prefix_len-le-length}
 use Rattle.std.specs.List.{position_or_len}
 use Rattle.std.specs.Option.{unwrap_or}
@@ -23,6 +23,7 @@ use Rattle.lang.proofs.Sort.{insert_perm}
 use Rattle.rules.proofs.Totals.{perm_length}
 use Rattle.sort_slots.specs.declared.Slot.{Slot}
 use Rattle.sort_slots.specs.Slots.{slot_le, with_slot}
+use Rattle.sort_slots.specs.Blanks.{blank, FirstHeld}
 
 -- ---- the two cases
 
@@ -103,6 +104,22 @@ module _ {A : Type 0} (at : List A) (n to : ℕ) (x : A) (room : n < length at) 
       let y : ys ≡ x ∷ drop to held = e ∙ moved (mid_of to (n + 1 - to) (set at n x)) behind in
       take-put_mid to (n + 1 - to) (set at n x) ys (n + 1) (omega (arith, ap length y, rest_long)) (omega (arith, length-set at n x))
       ∙ ap₂ (λ (a b : List A). a ++ b) (take-set-le to at n x inside ∙ sym (take-take to n at inside)) y
+
+-- what stands behind them stays blank
+pub still_blank : {at : List Slot} (ys : List Slot) {n to : ℕ} (x : Slot) → FirstHeld n at → n < max_losses → to ≤ n + 1
+    → length ys ≡ length (mid_of to (n + 1 - to) (set at n x)) → FirstHeld (n + 1) (put_mid to (n + 1 - to) (set at n x) ys)
+still_blank {at} ys {n} {to} x h few inside e =
+    let stored = set at n x in
+    let all : length stored ≡ max_losses = length-set at n x ∙ h.all in
+    let long : length ys ≡ n + 1 - to = e ∙ length-take-le (n + 1 - to) (drop to stored) (omega (arith, length-drop to stored)) in
+    let one_less : max_losses - n - 1 ≡ max_losses - (n + 1) = omega arith in
+    record {
+      few = omega arith;
+      all = same_len_mid to (n + 1 - to) stored ys e ∙ all;
+      behind =
+          drop-put_mid to (n + 1 - to) stored ys (n + 1) (omega arith) (omega arith) long ∙ drop-set-lt (n + 1) at n x (omega arith)
+          ∙ sym (drop-drop 1 n at) ∙ ap (drop 1) h.behind ∙ drop-replicate 1 (max_losses - n) blank ∙ ap (λ (k : ℕ). replicate k blank) one_less;
+    }
 
 -- where there is room
 pub one_more : (keys : List ℕ) (x : Slot) (at : List Slot) {l ys : List Slot} {n to : ℕ} {r : Option ℕ} → take n at ≡ l → n < length at → n < max_losses

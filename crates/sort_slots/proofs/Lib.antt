@@ -1,5 +1,6 @@
 pub mod Compare
 pub mod Inserted
+pub mod Carried
 pub mod Feeds
 pub mod AllInserted
 pub mod Kept

@@ -1,3 +1,4 @@
 pub mod Slots
+pub mod Blanks
 pub mod Steps
 pub mod Stands

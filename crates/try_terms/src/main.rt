@@ -7,15 +7,17 @@
 // stated by `next_line`, and `Terms::answer` states what is said to the line that was found; what is written cannot be stated.
 #![tactic(auto)]
 
+ghost use Rattle.std.specs.Prelude.{◌≡◌};
 ghost use Rattle.put_bytes.specs.Puts.{Put};
 ghost use Rattle.io_lines.specs.Streams.{line_in};
+ghost use Rattle.io_lines.specs.Found.{Next};
 ghost use Rattle.try_terms.specs.Answered.{Answered};
 ghost use Rattle.try_terms.specs.Lines.{number_said, decimal_said, symbol_said, refusal_text, formula_said, answer_to};
 
 use elements::read_element;
 use faults::Refusal;
 use io_answers::put_field;
-use io_lines::{Stream, System, room};
+use io_lines::{Stream, System, next_line, room};
 use numbers::{FirstByte, put_decimal, put_number, read_decimal, read_number};
 use put_bytes::{put_run, put8};
 use put_formula::{put_preferred, put_symbol};
@@ -64,12 +66,31 @@ the text were read; a limit's number is 4 (a number past its bound), 5 (too many
 #[derive(Drop)]
 struct Terms;
 
-impl Answers for Terms {
-    ghost least = { 0 };
+impl Answers<ANSWERS> for Terms {
+    ghost Asked = { Unit {0} };
+
+    ghost asked = { λ _. tt {0} };
+
+    // In line, so that no stream is copied for each line.
+    #[inline(always)]
+    fn next(&mut self, system: &mut System, buf: &mut [u8], out: &[u8], s: Stream) -> Stream
+        ensures found { Next buf.old s buf.new result }
+        ensures kept { self.new ≡ self.old }
+    {
+        next_line(system, buf, out, s)
+    }
 
     // The line that was found is answered, behind the answers that wait; a line feed ends its own.
-    fn answer(&mut self, system: &mut System, buf: &[u8], out: &mut [u8], s: Stream) -> Stream
-        ensures { Answered (line_in buf.now s) s out.old out.new result }
+    #[inline(always)]
+    fn answer(
+        &mut self,
+        system: &mut System,
+        buf: &[u8],
+        out: &mut [u8; ANSWERS],
+        s: Stream,
+    ) -> Stream
+        ensures kept { self.new ≡ self.old }
+        ensures answered { Answered (line_in buf.now s) s out.old out.new result }
     {
         let t = room(system, out, s, ANSWER);
         let end = answer(s.line(buf), out, t.waiting);

@@ -16,7 +16,7 @@ use Rattle.rules.specs.Rows.{row_head_size, row_head}
 use Rattle.slices.specs.Numbers.{u16_at, u32_at, u64_at}
 use Rattle.slices.proofs.StoredNumbers.{oct_stored}
 use Rattle.numbers.specs.declared.Decimal.{Decimal}
-use Rattle.std.specs.Prelude.{Option, Some, None, is_some, unwrap_or}
+use Rattle.std.specs.Prelude.{Result, Some, Ok, Err, is_some, is_ok}
 use Rattle.std.proofs.lemmas.Bool.{false≢true}
 use Rattle.numbers.specs.Making.{ruled, made_of}
 use Rattle.numbers.proofs.Bounds.{fits_within}
@@ -123,13 +123,18 @@ head_good s y e =
           ∙ ap (λ (l : List ℕ). little 8 (u64_at s) ++ l) t ∙ oct_back s y (omega arith);
     }
 
+-- the head, as it was read, or what was read of a bad one
+abbrev told : Result Head Head → Head
+told (Ok h) = h
+told (Err h) = h
+
 -- the head that was found
-pub head_is : (s : List ℕ) {h : Head} → head_of s ≡ Some h → (good_head s ≡ true) × (head_in s ≡ h)
+pub head_is : (s : List ℕ) {h : Head} → head_of s ≡ Ok h → (good_head s ≡ true) × (head_in s ≡ h)
 head_is s {h} e = by (good_head s) e
   where
-    by : (t : Bool) → cond {A = Option Head} t (Some (head_in s)) None ≡ Some h → (t ≡ true) × (head_in s ≡ h)
-    by true q = (refl, ap (λ (o : Option Head). unwrap_or o h) q)
-    by false q = absurd (false≢true (ap is_some q))
+    by : (t : Bool) → cond {A = Result Head Head} t (Ok (head_in s)) (Err (head_in s)) ≡ Ok h → (t ≡ true) × (head_in s ≡ h)
+    by true q = (refl, ap told q)
+    by false q = absurd (false≢true (ap is_ok q))
 
 -- both numbers of a head that was found are within their bounds
 pub head_fits : (s : List ℕ) → good_head s ≡ true → T (fits (ruled (head_in s).mz)) × T (fits (ruled (head_in s).intensity))
@@ -157,7 +162,7 @@ module _ (mz intensity : rules.Decimal) (f : T (fits mz)) (g : T (fits intensity
   made_head : (d : rules.Decimal) → T (fits d) → (v p : ℕ) → v ≡ d.value → p ≡ d.places → made_of v p ≡ Some (kept d)
   made_head d t v p e q = ap₂ made_of e q ∙ fits_made d t
 
-  pub head_found : head_of held ≡ Some (record { mz = kept mz; intensity = kept intensity })
+  pub head_found : head_of held ≡ Ok (record { mz = kept mz; intensity = kept intensity })
   unfolding good_head head_in is_head u16_at
   head_found =
       let a = value_small mz f in
@@ -177,5 +182,4 @@ pub head_one : (mz intensity : rules.Decimal) → T (fits mz) → T (fits intens
     → stores (row_head mz intensity) ++ k ≡ stores (row_head mz2 intensity2) ++ l → (mz ≡ mz2) × (intensity ≡ intensity2)
 head_one mz intensity f g k mz2 intensity2 x y l e =
     let q = sym (head_found mz intensity f g k) ∙ ap head_of e ∙ head_found mz2 intensity2 x y l in
-    let none : Head = record { mz = kept mz; intensity = kept intensity } in
-    (ap (λ (o : Option Head). ruled (unwrap_or o none).mz) q, ap (λ (o : Option Head). ruled (unwrap_or o none).intensity) q)
+    (ap (λ (o : Result Head Head). ruled (told o).mz) q, ap (λ (o : Result Head Head). ruled (told o).intensity) q)

@@ -22,7 +22,7 @@ use Rattle.put_bytes.specs.Puts.{max_place}
 use Rattle.write_table.proofs.Right.{Lent, write_right}
 use Rattle.numbers.specs.declared.Decimal.{Decimal}
 use Rattle.numbers.specs.Making.{ruled}
-use Rattle.std.specs.Prelude.{Option, Some, None}
+use Rattle.std.specs.Prelude.{Result, Ok, Err}
 use Rattle.write_row.specs.declared.Head.{Head}
 use Rattle.answers.specs.Behind.{capped}
 use Rattle.write_row.specs.Writings.{good_head, head_in, headed_of, columns_text, bare_of, labelled_of, behind_of, write_row_of}
@@ -144,7 +144,7 @@ pub write_row_right : (l : LineEdition) (machine s : List ℕ) (room : ℕ) → 
 unfolding write_row_of
 write_row_right l machine s room small y lent = by (good_head s) refl
   where
-    by : (t : Bool) → good_head s ≡ t → WritesRow l s room (headed_of machine s room (cond {A = Option Head} t (Some (head_in s)) None))
+    by : (t : Bool) → good_head s ≡ t → WritesRow l s room (headed_of machine s room (cond {A = Result Head Head} t (Ok (head_in s)) (Err (head_in s))))
     by true e =
         let x = head_good s y e in
         let n = length (columns_text (head_in s).mz (head_in s).intensity) in

@@ -5,7 +5,7 @@ use mathlib.Core.List.{List, [], ◌∷◌}
 use native.Mathlib.Omega.{arith}
 use lib.ListN.{length, replicate}
 use borrow.Author.Tests.{lt-ltb, le-ltb, eq-eqb, ne_eqb}
-use Rattle.std.specs.Prelude.{Ok, Err, Option, None}
+use Rattle.std.specs.Prelude.{Result, Ok, Err}
 use Rattle.rules.specs.Answers as rules
 use Rattle.rules.specs.Answers.{refuses}
 use Rattle.put_bytes.specs.Puts.{Put, cleared}
@@ -65,6 +65,6 @@ module _ (d : List ℕ) (to : ℕ) {r : Answer} where
     finished_refused n =
         rw (i, ne_eqb (number_of x.why) 8 (λ w. n (why_one x.why OutputTooShort w))) (ap (answered (Err x)) q)
 
-pub written_bad : (machine s : List ℕ) (room : ℕ) {o : Option Head} → o ≡ head_of s → o ≡ None → refuses room 9 0 ≡ write_row_of machine s room
+pub written_bad : (machine s : List ℕ) (room : ℕ) {o : Result Head Head} {x : Head} → o ≡ head_of s → o ≡ Err x → refuses room 9 0 ≡ write_row_of machine s room
 unfolding write_row_of
 written_bad machine s room e g = ap (headed_of machine s room) (sym g ∙ e)

@@ -4,7 +4,7 @@ use mathlib.Core.Path.{◌≡◌, sym, ap, ap₂, ◌∙◌, subst}
 use mathlib.Core.List.{List}
 use native.Mathlib.Omega.{arith}
 use lib.ListN.{length, drop}
-use Rattle.std.specs.Prelude.{Option, Some}
+use Rattle.std.specs.Prelude.{Result, Ok}
 use Rattle.rules.specs.Answers as rules
 use Rattle.rules.specs.Rows.{row_head_size}
 use Rattle.put_bytes.specs.Puts.{Put}
@@ -19,7 +19,7 @@ use Rattle.write_row.proofs.Right.{columns_short}
 use Rattle.answers.proofs.Behind.{capped_is}
 use Rattle.write_row.proofs.Over.{finished_is}
 
-pub row_written : (machine s d : List ℕ) {t d1 e : List ℕ} {o : Option Head} {x : Head} {to at : ℕ} {r : Answer} → o ≡ head_of s → o ≡ Some x
+pub row_written : (machine s d : List ℕ) {t d1 e : List ℕ} {o : Result Head Head} {x : Head} {to at : ℕ} {r : Answer} → o ≡ head_of s → o ≡ Ok x
     → Put d 0 (columns_text x.mz x.intensity) d1 to → t ≡ drop row_head_size s → at ≡ capped to 1
     → Behind at d1 e (written_of machine t (length d1 - at)) r → finished_over e to r ≡ write_row_of machine s (length d)
 unfolding write_row_of

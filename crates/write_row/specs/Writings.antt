@@ -1,5 +1,5 @@
 -- The answer to bytes that may be a stored row. Assumes nothing.
-use Rattle.std.specs.Prelude.{ℕ, ◌-◌, Bool, false, cond, List, ◌++◌, eqb, ltb, length, get_or, drop, replicate, Option, is_some, Ok, Err, Some, None}
+use Rattle.std.specs.Prelude.{ℕ, ◌-◌, Bool, false, cond, List, ◌++◌, eqb, ltb, length, get_or, drop, replicate, Option, is_some, Result, Ok, Err}
 use Rattle.std.proofs.lemmas.List.Edits.{sets}
 use Rattle.rules.specs.Decimals.{decimal_text}
 use Rattle.rules.specs.Answers as rules
@@ -33,9 +33,9 @@ good_head s = is_head s (mz_in s) (intensity_in s)
 unfoldable pub head_in : List ℕ → Head
 head_in s = record { mz = made_decimal (mz_in s); intensity = made_decimal (intensity_in s) }
 
--- the head that the bytes begin with
-abbrev pub head_of : List ℕ → Option Head
-head_of s = cond (good_head s) (Some (head_in s)) None
+-- the head that the bytes begin with, or what was read of a bad one
+abbrev pub head_of : List ℕ → Result Head Head
+head_of s = cond (good_head s) (Ok (head_in s)) (Err (head_in s))
 
 -- the first two columns
 unfoldable pub columns_text : Decimal → Decimal → List ℕ
@@ -79,12 +79,12 @@ behind_of columns to room b =
     (cond (eqb b.number 8) (refuses room 8 (capped (capped to 1) b.place)) (refuses room b.number b.place))
 
 -- of a row whose head was read
-abbrev pub headed_of : List ℕ → List ℕ → ℕ → Option Head → rules.Answer
-headed_of machine s room (Some h) =
+abbrev pub headed_of : List ℕ → List ℕ → ℕ → Result Head Head → rules.Answer
+headed_of machine s room (Ok h) =
     let columns = columns_text h.mz h.intensity in
     let to = capped 0 (length columns) in
     behind_of columns to room (written_of machine (drop row_head_size s) (room - capped to 1))
-headed_of machine s room None = refuses room 9 0
+headed_of machine s room (Err h) = refuses room 9 0
 
 unfoldable pub write_row_of : List ℕ → List ℕ → ℕ → rules.Answer
 write_row_of machine s room = headed_of machine s room (head_of s)

@@ -43,9 +43,10 @@ fn is_head(stored: &[u8], mz: Option<Decimal>, intensity: Option<Decimal>) -> bo
         && u16_at(rest(stored, ZERO_AT)) == 0
 }
 
-// The head of what may be a stored row; none where that is no head.
+// The head of what may be a stored row. Where that is no head, Err tells what was read of it, as Ok does of a head: both numbers, 0 for one that
+// is past its bounds.
 #[tactic(auto, unfolding(crate::specs::Writings::good_head, crate::specs::Writings::head_in))]
-pub fn read_head(stored: &[u8]) -> Option<Head>
+pub fn read_head(stored: &[u8]) -> Result<Head, Head>
     ensures { result ≡ head_of stored.now }
 {
     let mz = Decimal::new(u64_at(stored), byte_of(stored, MZ_PLACES_AT));
@@ -53,13 +54,15 @@ pub fn read_head(stored: &[u8]) -> Option<Head>
         u64_at(rest(stored, INTENSITY_AT)),
         byte_of(stored, INTENSITY_PLACES_AT),
     );
-    if !is_head(stored, mz, intensity) {
-        return None;
-    }
-    Some(Head {
+    let head = Head {
         mz: mz.unwrap_or(Decimal::zero()),
         intensity: intensity.unwrap_or(Decimal::zero()),
-    })
+    };
+    if is_head(stored, mz, intensity) {
+        Ok(head)
+    } else {
+        Err(head)
+    }
 }
 
 // m/z, a tab, intensity; the place behind them.
@@ -125,7 +128,7 @@ fn finish_row(line: Result<usize, Refusal>, to: usize, out: &mut [u8]) -> Result
 pub fn write_row_by(machine: &[u8], stored: &[u8], out: &mut [u8]) -> Result<usize, Refusal>
     ensures { answered result out.new ≡ write_row_of machine.now stored.now (length out.old) }
 {
-    let Some(head) = read_head(stored) else {
+    let Ok(head) = read_head(stored) else {
         clear(out);
         return refuse(Why::NoTable, 0);
     };

@@ -12,4 +12,4 @@ pub returns-then-has_room : goal.returns-then-has_room
 returns-then-has_room c =
     let a = c.args in
     let h = leb-true (a.at + length a.s.now) (length a.out.now) (sym c.has_room.ensures ∙ c.if-has_room.true) in
-    put_part (omega arith) h (add-sub_cancel_left a.at (length a.s.now)) refl c.copy_from_slice.ensures.after
+    put_part (omega arith) h (add-sub_cancel_left a.at (length a.s.now)) refl c.fill.ensures

@@ -10,4 +10,4 @@ pub returns-in_default : goal.returns-in_default
 returns-in_default c = refused_is (length c.args.out.now) BadIntensity _ c.refuse.ensures c.clear.ensures ∙ intensity_bad c.args.machine.now c.args.row.now (length c.args.out.now) c.args.at c.args.mz c.rest.ensures c.read_column.ensures c.in_default.is
 
 pub returns : goal.returns
-returns c = c.read_third.ensures ∙ intensity_good c.args.machine.now c.args.row.now (length c.args.out.now) c.args.at c.args.mz c.rest.ensures c.read_column.ensures c.in-Some.is c.advance-to.ensures c.rest-2.ensures
+returns c = c.read_third.ensures ∙ intensity_good c.args.machine.now c.args.row.now (length c.args.out.now) c.args.at c.args.mz c.rest.ensures c.read_column.ensures c.in-Ok.is c.advance-to.ensures c.rest-2.ensures

@@ -13,4 +13,4 @@ pub returns-in_default : goal.returns-in_default
 returns-in_default c = refused_is (length c.args.out.now) BadMz _ c.refuse-in_default.ensures c.clear-in_default.ensures ∙ row_bad c.args.machine.now c.args.row.now (length c.args.out.now) c.if-row-gt-MAX_ROW.false c.read_column.ensures c.in_default.is
 
 pub returns : goal.returns
-returns c = c.read_intensity.ensures ∙ row_good c.args.machine.now c.args.row.now (length c.args.out.now) c.if-row-gt-MAX_ROW.false c.read_column.ensures c.in-Some.is
+returns c = c.read_intensity.ensures ∙ row_good c.args.machine.now c.args.row.now (length c.args.out.now) c.if-row-gt-MAX_ROW.false c.read_column.ensures c.in-Ok.is

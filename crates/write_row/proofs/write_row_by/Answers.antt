@@ -11,4 +11,4 @@ pub returns-in_default : goal.returns-in_default
 returns-in_default c = refused_is (length c.args.out.now) NoTable _ c.refuse.ensures c.clear.ensures ∙ written_bad c.args.machine.now c.args.stored.now (length c.args.out.now) c.read_head.ensures c.in_default.is
 
 pub returns : goal.returns
-returns c = c.finish_row.ensures ∙ row_written c.args.machine.now c.args.stored.now c.args.out.now c.read_head.ensures c.in-Some.is c.put_columns-to.ensures c.rest.ensures c.plus.ensures c.write_behind-line.ensures
+returns c = c.finish_row.ensures ∙ row_written c.args.machine.now c.args.stored.now c.args.out.now c.read_head.ensures c.in-Ok.is c.put_columns-to.ensures c.rest.ensures c.plus.ensures c.write_behind-line.ensures

@@ -1,12 +1,12 @@
--- `run_writes::WriterAnswers::answer` meets its contract. Assumes nothing.
+-- `run_writes::WriterAnswersWAITING::answer` meets its contract. Assumes nothing.
 use lib.ListN.{length}
 use Rattle.io_lines.specs.Streams.{line_in}
 use Rattle.run_writes.specs.Answered.{most_of}
 use Rattle.run_writes.proofs.Answering.{answered_by}
-use Rattle.run_writes.proofs.WriterAnswers.answer.Goals as goal
+use Rattle.run_writes.proofs.WriterAnswersWAITING.answer.Goals as goal
 
-pub returns : goal.returns
-returns c =
+pub returns-clause-answered : goal.returns-clause-answered
+returns-clause-answered c =
     let a = c.args in
     let w = a.self.now in
     answered_by w.task w.form w.machine.now w.sized (line_in a.buf.now a.s) (length w.table) (most_of w.task)
