@@ -1,15 +1,15 @@
 // How each program begins and ends, and how it goes through its lines: what it says of its arguments, and of what the system refused. What
-// the system hands over and takes cannot be stated: `was_asked`, `asked_lines`, `has_argument`, `show`, `explain`, `refuse`, `finish`, `fail`
-// and `put_word` are proved safe and ending, `only_word` states that it counts bytes of its buffer, `answer_all` that what is asked of all
-// lines stays, and the others state their answers. Programs that differ in a name, a help text and switches alone stay programs, since each
-// is what a user runs.
+// the system hands over and takes cannot be stated: `was_asked`, `asked_lines`, `has_argument`, `show`, `explain`, `refuse`, `answer_all`,
+// the methods of `Answers`, `finish`, `fail` and `put_word` are proved safe and ending, `only_word` states that it counts bytes of its buffer,
+// `answer_all_alike` that what is asked of all lines stays, and the others state their answers. Programs that differ in a name, a help text and
+// switches alone stay programs, since each is what a user runs.
 #![tactic(auto)]
 
-ghost use Rattle.std.specs.Prelude.{◌≡◌, ◌++◌, IfSome, take, length};
+ghost use Rattle.std.specs.Prelude.{ℕ, ◌≤◌, ◌≡◌, ◌++◌, IfSome, take, length};
 ghost use Rattle.put_bytes.specs.Puts.{Put};
 ghost use Rattle.run_program.specs.Words.{IsPrefixLen, Tells, help_word, second_word};
 
-use io_lines::{Failure, Stream, System, flush};
+use io_lines::{Failure, Stream, System, flush, next_line};
 use put_bytes::put_run;
 use scan_line::Lines;
 use slices::{first_of, minus_or_zero, rest};
@@ -149,7 +149,7 @@ fn refuse(system: &System, name: &[u8]) {
 }
 
 // What a program does with its lines, or with the parts of lines that it takes; its output has OUT bytes.
-pub trait Answers<const OUT: usize> {
+pub trait AnswersAlike<const OUT: usize> {
     // What is asked of all lines alike. No line changes it, so that each is answered as it would be alone.
     ghost Asked: { Type 0 };
 
@@ -173,7 +173,7 @@ pub trait Answers<const OUT: usize> {
 
 // Line after line is answered, until none comes; what is asked of them stays. A proved loop has to end, so it counts up to a number that no run
 // reaches.
-pub fn answer_all<const OUT: usize, A: Answers<OUT>>(
+pub fn answer_all_alike<const OUT: usize, A: AnswersAlike<OUT>>(
     system: &mut System,
     name: &[u8],
     buf: &mut [u8],
@@ -189,6 +189,49 @@ pub fn answer_all<const OUT: usize, A: Answers<OUT>>(
             return finish(system, name, out, end);
         }
         let said = answers.answer(system, buf, out, s);
+        s = answers.next(system, buf, out, said);
+    }
+    ExitCode::SUCCESS
+}
+
+// What a program does with its lines, or with the parts of lines that it takes; its output is a slice of any length that suffices (`least`).
+// Nothing is asked of what stays from one line to the next: where that matters, take `AnswersAlike`.
+pub trait Answers {
+    // How many bytes the output has at least.
+    ghost least: { ℕ };
+
+    // What comes next: a line, where a program does not say otherwise.
+    fn next(&mut self, system: &mut System, buf: &mut [u8], out: &[u8], s: Stream) -> Stream {
+        next_line(system, buf, out, s)
+    }
+
+    // What was found is answered, behind the answers that wait.
+    fn answer(&mut self, system: &mut System, buf: &[u8], out: &mut [u8], s: Stream) -> Stream
+        requires { least ≤ length out.old };
+
+    // What is left to answer at the end: nothing, where a program does not say otherwise.
+    fn end(&mut self, _system: &mut System, _out: &mut [u8], s: Stream) -> Stream {
+        s
+    }
+}
+
+// Line after line is answered, until none comes. Not by `answer_all_alike`: its output has one length, which is in its type.
+pub fn answer_all<A: Answers>(
+    system: &mut System,
+    name: &[u8],
+    buf: &mut [u8],
+    out: &mut [u8],
+    answers: &mut A,
+) -> ExitCode
+    requires { A.least ≤ length out.old }
+{
+    let mut s = answers.next(system, buf, out, Stream::begin());
+    for _ in 0..u64::MAX {
+        if s.found.is_none() {
+            let end = answers.end(system, out, s);
+            return finish(system, name, out, end);
+        }
+        let said = answers.answer(system, buf, out, s); // the output has the bytes that `least` asks for
         s = answers.next(system, buf, out, said);
     }
     ExitCode::SUCCESS

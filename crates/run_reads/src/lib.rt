@@ -20,7 +20,7 @@ use layout::ROW_HEAD_SIZE;
 use limits::MAX_TABLE;
 use read_line::read_by;
 use read_row::read_row_by;
-use run_program::{Answers, Input, answer_all};
+use run_program::{AnswersAlike, Input, answer_all_alike};
 use scan_line::Lines;
 use std::process::ExitCode;
 
@@ -52,7 +52,7 @@ pub fn answer_lines(
         table: [0u8; MAX_STORED_ROW],
     };
     let mut system = System::begin(*rt);
-    answer_all(&mut system, name, &mut buf, &mut out, &mut reader)
+    answer_all_alike(&mut system, name, &mut buf, &mut out, &mut reader)
 }
 
 // What lines are read as, by which machine, whether they are sized, and what they are read into.
@@ -64,7 +64,7 @@ struct Reader<'a> {
     table: [u8; MAX_STORED_ROW],
 }
 
-impl Answers<BUFFER> for Reader<'_> {
+impl AnswersAlike<BUFFER> for Reader<'_> {
     ghost use Rattle.std.specs.Prelude.{ℕ, Bool, List};
     ghost use Rattle.run_program.specs.declared.Input.{Input};
 

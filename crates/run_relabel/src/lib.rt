@@ -25,7 +25,7 @@ use limits::{MAX_ANNOTATIONS, MAX_ROW};
 use lines::relabel_by;
 use put_bytes::put8;
 use respell_row::relabel_row_by;
-use run_program::{Answers, Input, answer_all};
+use run_program::{AnswersAlike, Input, answer_all_alike};
 use scan_line::Lines;
 use slices::advance;
 use std::process::ExitCode;
@@ -43,7 +43,7 @@ pub fn relabel_lines(rt: &HostRuntime, name: &[u8], lines: Lines, input: Input) 
         machine: &scan_line::machine(lines),
     };
     let mut system = System::begin(*rt);
-    answer_all(&mut system, name, &mut buf, &mut out, &mut relabeller)
+    answer_all_alike(&mut system, name, &mut buf, &mut out, &mut relabeller)
 }
 
 // What is relabelled, by which edition of lines, and that edition's machine.
@@ -55,7 +55,7 @@ struct Relabeller<'a> {
     ghost made: { machine.now ≡ machine_bytes (lines_in lines) },
 }
 
-impl Answers<BUFFER> for Relabeller<'_> {
+impl AnswersAlike<BUFFER> for Relabeller<'_> {
     ghost use Rattle.scan_line.specs.declared.Lines.{Lines};
     ghost use Rattle.run_program.specs.declared.Input.{Input};
 

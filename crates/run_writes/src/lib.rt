@@ -24,7 +24,7 @@ use io_lines::{Stream, System, next_line, room};
 use layout::ROW_HEAD_SIZE;
 use limits::{MAX_ANY_TABLE, MAX_ROW};
 use put_bytes::clear;
-use run_program::{Answers, answer_all};
+use run_program::{AnswersAlike, answer_all_alike};
 use scan_line::Lines;
 use slices::first_of;
 use std::process::ExitCode;
@@ -80,7 +80,7 @@ pub fn answer_tables(
         line: [0u8; MAX_ANY_TABLE],
     };
     let mut system = System::begin(*rt);
-    answer_all(&mut system, name, &mut buf, &mut out, &mut writer)
+    answer_all_alike(&mut system, name, &mut buf, &mut out, &mut writer)
 }
 
 // What is done with tables, how it is shown, by which machine, whether tables are sized, and the bytes for one and for its answer.
@@ -94,7 +94,7 @@ struct Writer<'a> {
     line: [u8; MAX_ANY_TABLE],
 }
 
-impl Answers<WAITING> for Writer<'_> {
+impl AnswersAlike<WAITING> for Writer<'_> {
     ghost use Rattle.std.specs.Prelude.{ℕ, Bool, List};
     ghost use Rattle.run_writes.specs.declared.Task.{Task};
     ghost use Rattle.run_writes.specs.declared.Form.{Form};

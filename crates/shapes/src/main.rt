@@ -12,7 +12,7 @@ ghost use Rattle.shapes.specs.Shown.{place_text, verdict_text, is_begun, Shown, 
 use io_lines::{Stream, System, next_part, room};
 use numbers::put_number;
 use put_bytes::{put_run, put8};
-use run_program::{Answers, answer_all, asked_lines, was_asked};
+use run_program::{AnswersAlike, answer_all_alike, asked_lines, was_asked};
 use scan_line::{Progress, Verdict};
 use std::process::ExitCode;
 
@@ -49,7 +49,7 @@ With --second, lines are those of the second edition, in which an internal ion m
         scan: Progress::begin(),
     };
     let mut system = System::begin(rt);
-    answer_all(&mut system, b"shapes", &mut buf, &mut out, &mut shapes)
+    answer_all_alike(&mut system, b"shapes", &mut buf, &mut out, &mut shapes)
 }
 
 // The machine, and the scan of the line that goes on.
@@ -59,7 +59,7 @@ struct Shapes<'a> {
     scan: Progress,
 }
 
-impl Answers<BUFFER> for Shapes<'_> {
+impl AnswersAlike<BUFFER> for Shapes<'_> {
     ghost use Rattle.std.specs.Prelude.{ℕ, List};
 
     ghost Asked = { List ℕ };

@@ -72,10 +72,23 @@ rest_told s m t n = le_told _ ∙ first s t (m ∷ []) (n ∷ []) true (nat_cmp 
 
 -- ---- two slots
 
-pub compared : (keys : List ℕ) (x y : Slot) {a b : List ℕ} {same r : Bool} → a ≡ slot_text keys x → b ≡ slot_text keys y
+pub slots_told : (keys : List ℕ) (x y : Slot) {a b : List ℕ} {same r : Bool} → a ≡ slot_text keys x → b ≡ slot_text keys y
     → same ≡ is_le (ordering_then (nat_cmp (sign_number x.sign) (sign_number y.sign)) (nat_cmp x.count y.count)) → TextsBefore a b same r → r ≡ slot_le keys x y
 unfolding slot_le
-compared keys x y e f g t =
+slots_told keys x y e f g t =
     let u = sign_number x.sign ∷ x.count ∷ [] in
     let v = sign_number y.sign ∷ y.count ∷ [] in
     t.is u v (g ∙ rest_told (sign_number x.sign) x.count (sign_number y.sign) y.count) ∙ ap₂ (λ (s w : List ℕ). lex_le (ranks_of s u) (ranks_of w v)) e f
+
+-- the three orderings, one behind the other
+then_told : (q s c : Ordering) → is_le (ordering_then (ordering_then q s) c) ≡ told (is_le (ordering_then s c)) q
+then_told Less s c = refl
+then_told Equal s c = refl
+then_told Greater s c = refl
+
+pub compared : (keys : List ℕ) (x y : Slot) {a b : List ℕ} → a ≡ slot_text keys x → b ≡ slot_text keys y
+    → is_le (ordering_then (ordering_then (slice_cmp nat_cmp (map rank a) (map rank b)) (nat_cmp (sign_number x.sign) (sign_number y.sign))) (nat_cmp x.count y.count)) ≡ slot_le keys x y
+compared keys x y {a} {b} e f =
+    let q = slice_cmp nat_cmp (map rank a) (map rank b) in
+    let s = nat_cmp (sign_number x.sign) (sign_number y.sign) in
+    then_told q s (nat_cmp x.count y.count) ∙ slots_told keys x y e f refl (texts_told a b refl refl)

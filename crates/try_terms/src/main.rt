@@ -22,7 +22,7 @@ use numbers::{FirstByte, put_decimal, put_number, read_decimal, read_number};
 use put_bytes::{put_run, put8};
 use put_formula::{put_preferred, put_symbol};
 use read_formula::formula;
-use run_program::{Answers, answer_all, was_asked};
+use run_program::{AnswersAlike, answer_all_alike, was_asked};
 use slices::rest;
 use std::process::ExitCode;
 
@@ -59,14 +59,14 @@ the text were read; a limit's number is 4 (a number past its bound), 5 (too many
     let mut buf = [0u8; BUFFER];
     let mut out = [0u8; ANSWERS];
     let mut system = System::begin(rt);
-    answer_all(&mut system, b"try_terms", &mut buf, &mut out, &mut Terms)
+    answer_all_alike(&mut system, b"try_terms", &mut buf, &mut out, &mut Terms)
 }
 
 // What answers lines of this program: it keeps nothing from one to the next.
 #[derive(Drop)]
 struct Terms;
 
-impl Answers<ANSWERS> for Terms {
+impl AnswersAlike<ANSWERS> for Terms {
     ghost Asked = { Unit {0} };
 
     ghost asked = { λ _. tt {0} };

@@ -1,9 +1,9 @@
--- `run_relabel::RelabellerAnswersBUFFER::answer` meets its contract. Assumes nothing.
+-- `run_relabel::RelabellerAnswersAlikeBUFFER::answer` meets its contract. Assumes nothing.
 use borrow.Author.Rules.{rules}
 use native.Mathlib.Omega.{arith}
 use Rattle.run_relabel.proofs.Answering.{answered_by}
 use Rattle.run_relabel.proofs.Short.{number_short}
-use Rattle.run_relabel.proofs.RelabellerAnswersBUFFER.answer.Goals as goal
+use Rattle.run_relabel.proofs.RelabellerAnswersAlikeBUFFER.answer.Goals as goal
 
 pub returns-clause-answered : goal.returns-clause-answered
 returns-clause-answered c =

@@ -1,7 +1,7 @@
--- `shapes::ShapesAnswersBUFFER::answer` meets its contract. Assumes nothing.
+-- `shapes::ShapesAnswersAlikeBUFFER::answer` meets its contract. Assumes nothing.
 use mathlib.Core.Path.{sym, ◌∙◌}
 use Rattle.shapes.proofs.Showing.{part_ends, part_goes_on}
-use Rattle.shapes.proofs.ShapesAnswersBUFFER.answer.Goals as goal
+use Rattle.shapes.proofs.ShapesAnswersAlikeBUFFER.answer.Goals as goal
 
 pub returns-then-not-is_fed-clause-parted : goal.returns-then-not-is_fed-clause-parted
 returns-then-not-is_fed-clause-parted c = part_goes_on (sym c.is_fed.ensures ∙ c.if-not-is_fed.true) c.line.ensures c.over-scan.ensures

@@ -1,9 +1,9 @@
--- `run_writes::WriterAnswersWAITING::answer` meets its contract. Assumes nothing.
+-- `run_writes::WriterAnswersAlikeWAITING::answer` meets its contract. Assumes nothing.
 use lib.ListN.{length}
 use Rattle.io_lines.specs.Streams.{line_in}
 use Rattle.run_writes.specs.Answered.{most_of}
 use Rattle.run_writes.proofs.Answering.{answered_by}
-use Rattle.run_writes.proofs.WriterAnswersWAITING.answer.Goals as goal
+use Rattle.run_writes.proofs.WriterAnswersAlikeWAITING.answer.Goals as goal
 
 pub returns-clause-answered : goal.returns-clause-answered
 returns-clause-answered c =
